@@ -1,0 +1,2 @@
+-- Document 01, "Formulas", as definitions.
+pub mod Tree

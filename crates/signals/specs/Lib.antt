@@ -1,0 +1,6 @@
+-- Document 01 as definitions, in its order, and the statements of the theorems about them.
+pub mod Moment
+pub mod Signal
+pub mod Words
+pub mod Answers
+pub mod Implication

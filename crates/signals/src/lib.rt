@@ -1,0 +1,59 @@
+// Dates, lengths, the one operation that adds them, and the answers that the crates above share.
+ghost use mathlib.Core.Path.{_≡_};
+ghost use Rattle.signals.specs.Answers.{sumOf};
+
+// The largest date and the largest length.
+pub const M: u32 = 1073741823;
+
+// A date counts ticks from the start.
+pub struct Date(pub u32);
+
+// A length counts ticks between two dates.
+pub struct Length(pub u32);
+
+// What a date plus a length is: a date, an exact sum past M, or refused with a fault number.
+pub enum Sum {
+    On(Date),
+    PastM(u32),
+    Refused(u32),
+}
+
+// What a call that writes answers: how many words (for sheets, bytes) it wrote, or the fault number that refuses it.
+pub enum Written {
+    Count(usize),
+    Refused(u32),
+}
+
+// What a claim answers: it holds, fails at an instant, fails after an instant (in the gap), or is refused.
+pub enum Verdict {
+    Holds,
+    FailsAt(u32),
+    FailsAfter(u32),
+    Refused(u32),
+}
+
+// What a question about a signal answers: yes (up), no (down), or refused.
+pub enum Told {
+    Yes,
+    No,
+    Refused(u32),
+}
+
+// Date plus length: faults 9, then 8.
+pub fn date_plus_length(date: Date, length: Length) -> Sum
+    ensures { λ r. ⌜ r ≡ sumOf (date .0) (length .0) ⌝ }
+{
+    let from = date.0;
+    let ticks = length.0;
+    if M < from {
+        return Sum::Refused(9);
+    }
+    if M < ticks {
+        return Sum::Refused(8);
+    }
+    let sum = from + ticks;
+    if M < sum {
+        return Sum::PastM(sum);
+    }
+    Sum::On(Date(sum))
+}
