@@ -1,0 +1,3 @@
+-- The calls on lists, as document 01 defines them, and the definitions that only mirror the code.
+pub mod Calls
+pub mod Building

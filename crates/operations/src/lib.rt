@@ -1,0 +1,100 @@
+// Every operation of document 01 on lists.
+ghost use mathlib.Core.Path.{_≡_};
+ghost use mathlib.Core.List.{List};
+ghost use Prim.Native.Nat.{ℕ, _<_, _≤_};
+ghost use lib.ListN.{length, set};
+ghost use Rattle.signals.specs.Signal.{num};
+ghost use Rattle.signals.specs.Words.{word};
+ghost use Rattle.signals.specs.Answers.{writtenOf, outputOf};
+ghost use Rattle.operations.specs.Calls.{answerFault};
+ghost use Rattle.operations.specs.Building.{idle, emitted, emittedIn, begun, slotWith, Building};
+
+use signals::{Date, Written, M};
+
+// The answer being built in a slot: the value after its last word, its words counted, and whether one is dated after M.
+struct Made {
+    value: bool,
+    count: usize,
+    late: bool,
+}
+
+// Both values equal the value before.
+fn idle_word(before: bool, at: bool, after: bool) -> bool
+    ensures { λ r. ⌜ r ≡ idle before at after ⌝ }
+{
+    if before {
+        if at { after } else { false }
+    } else {
+        if at { false } else { !after }
+    }
+}
+
+// The word of a date and its two values.
+fn word_of(date: u32, at: bool, after: bool) -> u32
+    requires { ⌜ date ≤ 1073741823 ⌝ }
+    ensures { λ r. ⌜ r ≡ word date at after ⌝ }
+{
+    let w = 4 * date;
+    if at {
+        if after { w + 3 } else { w + 2 }
+    } else {
+        if after { w + 1 } else { w }
+    }
+}
+
+// A word of the given date and values, unless it changes nothing: counted always, stored while it is among the first
+// 256 and not dated after M.
+fn emit(slot: &mut [u32], made: Made, date: Date, at: bool, after: bool) -> Made
+    requires { ⌜ (256 ≤ length (now slot)) × (made .count < 4096) ⌝ }
+    ensures { λ r. ⌜ (r ≡ emitted made (date .0) at after) × (now (slot .exit) ≡ emittedIn (now (slot .entry)) made (date .0) at after) ⌝ }
+{
+    if idle_word(made.value, at, after) {
+        return made;
+    }
+    let count = made.count;
+    let on = date.0;
+    if made.late {
+        return Made {
+            value: after,
+            count: count + 1,
+            late: true,
+        };
+    }
+    if M < on {
+        return Made {
+            value: after,
+            count: count + 1,
+            late: true,
+        };
+    }
+    if count < 256 {
+        slot[count] = word_of(on, at, after);
+        return Made {
+            value: after,
+            count: count + 1,
+            late: false,
+        };
+    }
+    Made {
+        value: after,
+        count: count + 1,
+        late: false,
+    }
+}
+
+// The first word of an answer.
+fn begin(slot: &mut [u32], value: bool) -> Made
+    requires { ⌜ 256 ≤ length (now slot) ⌝ }
+    ensures { λ r. ⌜ (r ≡ begun value) × (now (slot .exit) ≡ set (now (slot .entry)) 0 (num value)) ⌝ }
+{
+    if value {
+        slot[0] = 1;
+    } else {
+        slot[0] = 0;
+    }
+    Made {
+        value,
+        count: 1,
+        late: false,
+    }
+}
