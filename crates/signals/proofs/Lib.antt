@@ -1,0 +1,2 @@
+-- Lemmas and the proofs of the statements of specs/.
+pub mod WordFacts
