@@ -1,2 +1,3 @@
 -- Lemmas and the proofs of the statements of specs/.
 pub mod WordFacts
+pub mod Scan
