@@ -5,3 +5,5 @@ pub mod Words
 pub mod Answers
 pub mod Implication
 pub mod Settled
+pub mod Normal
+pub mod Passing
