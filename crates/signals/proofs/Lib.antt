@@ -2,3 +2,4 @@
 pub mod WordFacts
 pub mod Scan
 pub mod Operand
+pub mod Normal
