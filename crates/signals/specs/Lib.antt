@@ -4,3 +4,4 @@ pub mod Signal
 pub mod Words
 pub mod Answers
 pub mod Implication
+pub mod Quantified
