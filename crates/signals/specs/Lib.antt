@@ -5,3 +5,4 @@ pub mod Words
 pub mod Answers
 pub mod Implication
 pub mod Quantified
+pub mod Wording
