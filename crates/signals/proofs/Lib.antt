@@ -2,3 +2,4 @@
 pub mod Truth
 pub mod Agreement
 pub mod Wording
+pub mod Tables

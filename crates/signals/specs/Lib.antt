@@ -6,3 +6,4 @@ pub mod Answers
 pub mod Implication
 pub mod Quantified
 pub mod Wording
+pub mod Tables
