@@ -1,0 +1,9 @@
+-- Proofs of the statements of specs/, and the lemmas that they and the proofs of functions share.
+pub mod Truth
+pub mod Agreement
+pub mod Wording
+pub mod Tables
+pub mod WordFacts
+pub mod Scan
+pub mod Operand
+pub mod Normal
