@@ -3,3 +3,4 @@ pub mod Truth
 pub mod Agreement
 pub mod Wording
 pub mod Tables
+pub mod LatchSteps

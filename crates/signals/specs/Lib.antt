@@ -7,3 +7,4 @@ pub mod Implication
 pub mod Quantified
 pub mod Wording
 pub mod Tables
+pub mod LatchSteps
