@@ -4,3 +4,4 @@ pub mod Agreement
 pub mod Wording
 pub mod Tables
 pub mod LatchSteps
+pub mod LatchStill
