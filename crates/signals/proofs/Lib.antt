@@ -5,3 +5,7 @@ pub mod Wording
 pub mod Tables
 pub mod LatchSteps
 pub mod LatchStill
+pub mod WordFacts
+pub mod Scan
+pub mod Operand
+pub mod Normal

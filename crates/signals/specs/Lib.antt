@@ -8,3 +8,6 @@ pub mod Quantified
 pub mod Wording
 pub mod Tables
 pub mod LatchSteps
+pub mod Settled
+pub mod Normal
+pub mod Passing
