@@ -7,6 +7,7 @@ pub mod Implication
 pub mod Quantified
 pub mod Wording
 pub mod Tables
+pub mod LatchSteps
 pub mod Settled
 pub mod Normal
 pub mod Passing
