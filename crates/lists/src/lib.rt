@@ -1,9 +1,10 @@
 // Lists: the leaf that reads their words, and the calls that judge and question them.
 ghost use mathlib.Core.Path.{_≡_};
-ghost use Prim.Native.Nat.{_<_, _≤_};
+ghost use Prim.Native.Nat.{_<_, _≤_, _-_};
 ghost use lib.ListN.{length, getD, drop};
 ghost use Rattle.signals.specs.Words.{headValue, changesNothing, wordsFault, listFault};
-ghost use Rattle.lists.specs.Reading.{held, nextDate, stepPast};
+ghost use Rattle.signals.specs.Passing.{heldValue};
+ghost use Rattle.lists.specs.Reading.{nextDate, stepPast};
 use signals::Date;
 
 // The date where no word is left: above every sum of a date and a length.
@@ -17,14 +18,17 @@ pub struct Step {
     pub passed: usize,
 }
 
+fn one_less(n: usize) -> usize
+    ensures { λ r. ⌜ r ≡ n - 1 ⌝ }
+{
+    if n == 0 { 0 } else { n - 1 }
+}
+
 // The value after the words passed.
 pub fn held_value(words: &[u32], passed: usize) -> bool
-    ensures { λ r. ⌜ r ≡ held (now (words .entry)) passed ⌝ }
+    ensures { λ r. ⌜ r ≡ heldValue (now (words .entry)) passed ⌝ }
 {
-    if passed == 0 {
-        return false;
-    }
-    let last = passed - 1;
+    let last = one_less(passed);
     if last < words.len() {
         words[last] % 2 == 1
     } else {

@@ -8,8 +8,9 @@ ghost use Rattle.signals.specs.Words.{word};
 ghost use Rattle.signals.specs.Answers.{writtenOf, outputOf};
 ghost use Rattle.operations.specs.Calls.{answerFault};
 ghost use Rattle.operations.specs.Building.{idle, emitted, emittedIn, begun, slotWith, Building};
-
-use signals::{Date, Written, M};
+use signals::Date;
+use signals::M;
+use signals::Written;
 
 // The answer being built in a slot: the value after its last word, its words counted, and whether one is dated after M.
 struct Made {
