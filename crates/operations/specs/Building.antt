@@ -52,3 +52,9 @@ pub record Building (exact old slot : List ℕ) (made : Made) : Type 0 where
   pub late : made .late ≡ changesAfterM (take (made .count) exact)
   pub slot-is : slot ≡ slotWith (take (made .count) exact) old
   pub room : 256 ≤ length old
+
+-- the whole answer is in the slot
+pub record Built (exact old slot : List ℕ) (made : Made) : Type 0 where
+  pub count-is : made .count ≡ length exact
+  pub late-is : made .late ≡ changesAfterM exact
+  pub slot-is : slot ≡ slotWith exact old

@@ -46,7 +46,7 @@ fn word_of(date: u32, at: bool, after: bool) -> u32
 // A word of the given date and values, unless it changes nothing: counted always, stored while it is among the first
 // 256 and not dated after M.
 fn emit(slot: &mut [u32], made: Made, date: Date, at: bool, after: bool) -> Made
-    requires { ⌜ (256 ≤ length (now slot)) × (made .count < 4096) ⌝ }
+    requires { ⌜ (256 ≤ length (now slot)) × (made .count < 4294967296) ⌝ }
     ensures { λ r. ⌜ (r ≡ emitted made (date .0) at after) × (now (slot .exit) ≡ emittedIn (now (slot .entry)) made (date .0) at after) ⌝ }
 {
     if idle_word(made.value, at, after) {
