@@ -1,2 +1,4 @@
 pub mod Emitting
 pub mod BuildingLaws
+pub mod Scanning
+pub mod Copying

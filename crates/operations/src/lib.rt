@@ -1,13 +1,13 @@
 // Every operation of document 01 on lists.
 ghost use mathlib.Core.Path.{_≡_};
-ghost use mathlib.Core.List.{List};
+ghost use mathlib.Core.List.{List, _++_};
 ghost use Prim.Native.Nat.{ℕ, _<_, _≤_};
-ghost use lib.ListN.{length, set};
+ghost use lib.ListN.{length, set, take, drop};
 ghost use Rattle.signals.specs.Signal.{num};
 ghost use Rattle.signals.specs.Words.{word};
 ghost use Rattle.signals.specs.Answers.{writtenOf, outputOf};
 ghost use Rattle.operations.specs.Calls.{answerFault};
-ghost use Rattle.operations.specs.Building.{idle, emitted, emittedIn, begun, slotWith, Building};
+ghost use Rattle.operations.specs.Building.{idle, emitted, emittedIn, begun, Built};
 use signals::Date;
 use signals::M;
 use signals::Written;
@@ -98,4 +98,35 @@ fn begin(slot: &mut [u32], value: bool) -> Made
         count: 1,
         late: false,
     }
+}
+
+// The first count words of a slot, copied to the output.
+fn copy_words(slot: &[u32], count: usize, out: &mut [u32])
+    requires { ⌜ (count ≤ length (now slot)) × (count ≤ length (now out)) ⌝ }
+    ensures { λ r. ⌜ now (out .exit) ≡ take count (now (slot .entry)) ++ drop count (now (out .entry)) ⌝ }
+{
+    let mut i: usize = 0;
+    while i < count {
+        out[i] = slot[i];
+        i += 1;
+    }
+}
+
+// The answer in a slot, judged (5, 6, 7) and handed over.
+fn deliver(slot: &[u32], made: Made, out: &mut [u32]) -> Written
+    requires { ⌜ 256 ≤ length (now slot) ⌝ }
+    ensures { λ r. ⌜ ((exact old : List ℕ) → Built exact old (now (slot .entry)) made → (r ≡ writtenOf (answerFault exact (length (now (out .entry)))) exact) × (now (out .exit) ≡ outputOf (answerFault exact (length (now (out .entry)))) exact (now (out .entry)))) ⌝ }
+{
+    let count = made.count;
+    if 256 < count {
+        return Written::Refused(5);
+    }
+    if made.late {
+        return Written::Refused(6);
+    }
+    if out.len() < count {
+        return Written::Refused(7);
+    }
+    copy_words(slot, count, out);
+    Written::Count(count)
 }
