@@ -21,7 +21,7 @@ same-length : tie.Need-same-length
 same-length c = search needs
 
 returns-4 : tie.Need-returns-4
-returns-4 c = λ exact old b. delivered exact old _ _ b _ (c .before .before .before .before .before .before .if1 .left) (c .before .before .before .before .before .if2 .left) (c .before .before .before .before .if3 .left) _ (c .before .copy-words .ensures)
+returns-4 c = λ exact old b. delivered exact old _ _ b _ (c .before .before .before .before .before .before .if1 .left) (c .before .before .before .before .before .if2 .left) (c .before .before .before .before .if3 .left) _ (c .before .before .copy-words .ensures)
 
 pub deliver-spec : {M : Type 1} → statement M
 deliver-spec =
