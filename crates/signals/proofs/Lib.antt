@@ -7,3 +7,7 @@ pub mod WordFacts
 pub mod Scan
 pub mod Operand
 pub mod Normal
+pub mod Settling
+pub mod WordFaults
+pub mod HeadFaults
+pub mod ListFaults

@@ -10,3 +10,5 @@ pub mod Tables
 pub mod Settled
 pub mod Normal
 pub mod Passing
+pub mod Settling
+pub mod ListFaults
