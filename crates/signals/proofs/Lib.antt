@@ -11,3 +11,5 @@ pub mod Settling
 pub mod WordFaults
 pub mod HeadFaults
 pub mod ListFaults
+pub mod TidyFaults
+pub mod Tidying

@@ -1,15 +1,12 @@
 -- Faults 1 to 4 are given exactly when their sentences hold.
-use Prim.Native.Nat.{ℕ, zero, suc, _+_, _*_, _-_, _≤_, _<_}
+use Prim.Native.Nat.{ℕ, zero, suc, _≤_}
 use native.Mathlib.Omega.{arith}
-use mathlib.Core.Path.{_≡_, refl, sym, _∙_, ap}
-use mathlib.Core.Logic.{_⊎_, inl, inr, ⊎-elim, _↔_}
+use mathlib.Core.Path.{_≡_, refl, _∙_}
+use mathlib.Core.Logic.{inl}
 use mathlib.Core.List.{List, [], _∷_}
-use mathlib.Core.Bool.{Bool, true, false, cond, Bool·beq, _&&_, true≢false}
-use lib.Dec.{leb, ltb, eqb}
-use lib.ListN.{length, getD}
-use borrow.Author.Tests.{lt-ltb, le-ltb, le-leb, lt-leb, leb-true, leb-false, ltb-true, ltb-false}
-use Rattle.signals.specs.Words.{dateOf, valueAt, valueAfter, headValue, changesNothing, wordsFault, datesFault, listFault, tidyFault}
-use Rattle.signals.specs.ListFaults.{Breaks1, Breaks2, Breaks3, Breaks4, dateBefore, valueBefore, SoundBefore, AllSound, ListFaultsExact, TidyFaultsExact}
+use borrow.Author.Tests.{lt-ltb}
+use Rattle.signals.specs.Words.{headValue, wordsFault, listFault}
+use Rattle.signals.specs.ListFaults.{Breaks1, Breaks2, Breaks3, Breaks4, SoundBefore, AllSound, ListFaultsExact}
 use Rattle.signals.proofs.WordFaults.{Says, says-words, gives-0, gives-3, gives-4, low-of, of-low, idle-of, of-idle, fine-of, of-fine}
 use Rattle.signals.proofs.HeadFaults.{not-long, long-test, headFault, past-head, Head, long, high, past, head-ways}
 

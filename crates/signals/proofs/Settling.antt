@@ -1,19 +1,18 @@
 -- The operations of signals that settle settle.
-use Prim.Native.Nat.{ℕ, zero, suc, _+_, _*_, _-_, _%_, _≤_, _<_, max}
+use Prim.Native.Nat.{ℕ, _+_, _-_, _%_, _≤_, _<_, max}
 use native.Mathlib.Omega.{arith}
 use native.Mathlib.Decide.{ℕ-discrete, decLe, decLt}
 use mathlib.Core.Path.{_≡_, refl, sym, _∙_, ap}
-use mathlib.Core.Logic.{_⊎_, inl, inr, ⊎-elim}
-use mathlib.Core.Bool.{Bool, true, false, not, _&&_, _||_}
-use lib.Dec.{eqb}
-use borrow.Author.Tests.{eq-eqb, ne-eqb}
+use mathlib.Core.Logic.{inl, inr}
+use mathlib.Core.Bool.{not}
+use borrow.Author.Tests.{eq-eqb}
 use Rattle.signals.specs.Moment.{gap, isGap, justBefore, opens}
 use Rattle.signals.specs.Signal.{Signal, Table, constant, NOT, connective, AND, OR, rising, falling, SR, RS, TON, TOF}
-use Rattle.signals.specs.Quantified.{Up, Down, UpSR, UpRS, UpTON, UpTOF}
+use Rattle.signals.specs.Quantified.{Down, UpSR}
 use Rattle.signals.specs.Settled.{SettledFrom}
 use Rattle.signals.specs.Settling.{Settling}
-use Rattle.signals.proofs.Truth.{bool-ext, up-or-down, not-both, down-of}
-use Rattle.signals.proofs.Agreement.{le-opens, rising-up, falling-up, SR-up, SR-of, OneRS, RS-up1, RS-of1, TON-up, TON-of, TOF-up, TOF-of}
+use Rattle.signals.proofs.Truth.{bool-ext, not-both, down-of}
+use Rattle.signals.proofs.Agreement.{rising-up, falling-up, SR-up, SR-of, OneRS, RS-up1, RS-of1, TON-up, TON-of, TOF-up, TOF-of}
 
 pub settled-later : (f : Signal) (n m : ℕ) → SettledFrom f n → n ≤ m → SettledFrom f m
 settled-later f n m h le t g = h t (omega arith) ∙ sym (h (gap m) (omega arith))

@@ -1,15 +1,14 @@
 -- Rules 3 and 4 over the words after the first, and how they say the same of the whole list.
-use Prim.Native.Nat.{ℕ, zero, suc, _+_, _*_, _-_, _≤_, _<_}
+use Prim.Native.Nat.{ℕ, zero, suc, _≤_, _<_}
 use native.Mathlib.Omega.{arith}
-use mathlib.Core.Path.{_≡_, refl, sym, _∙_, ap}
-use mathlib.Core.Logic.{_⊎_, inl, inr, ⊎-elim, _↔_}
+use mathlib.Core.Path.{_≡_, refl, sym, _∙_}
 use mathlib.Core.List.{List, [], _∷_}
-use mathlib.Core.Bool.{Bool, true, false, cond, Bool·beq, _&&_, true≢false}
-use lib.Dec.{leb, ltb, eqb}
+use mathlib.Core.Bool.{Bool, true, false, Bool·beq, _&&_, true≢false}
+use lib.Dec.{leb}
 use lib.ListN.{length, getD}
-use borrow.Author.Tests.{lt-ltb, le-ltb, le-leb, lt-leb, leb-true, leb-false, ltb-true, ltb-false}
-use Rattle.signals.specs.Words.{dateOf, valueAt, valueAfter, headValue, changesNothing, wordsFault, datesFault, listFault, tidyFault}
-use Rattle.signals.specs.ListFaults.{Breaks1, Breaks2, Breaks3, Breaks4, dateBefore, valueBefore, SoundBefore}
+use borrow.Author.Tests.{le-leb, leb-true, leb-false}
+use Rattle.signals.specs.Words.{dateOf, valueAt, valueAfter, headValue, changesNothing, wordsFault}
+use Rattle.signals.specs.ListFaults.{Breaks3, Breaks4, dateBefore, valueBefore, SoundBefore}
 use Rattle.signals.proofs.Normal.{same-values}
 
 -- the date and the value before word i of the words ws, with k and v before them

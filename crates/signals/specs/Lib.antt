@@ -12,3 +12,4 @@ pub mod Normal
 pub mod Passing
 pub mod Settling
 pub mod ListFaults
+pub mod Tidying
