@@ -1,20 +1,19 @@
 -- An operand ahead of a date: the value held, the words left, and what passing the next date tells.
-use Prim.Native.Nat.{ℕ, zero, suc, _+_, _*_, _-_, _≤_, _<_}
+use Prim.Native.Nat.{ℕ, _+_, _-_, _≤_, _<_}
 use mathlib.Core.Bool.{Bool, true, false, cond, _&&_, false≢true}
-use mathlib.Core.List.{List, [], _∷_, _++_}
-use mathlib.Core.Path.{_≡_, refl, sym, _∙_, ap}
+use mathlib.Core.List.{List, [], _∷_}
+use mathlib.Core.Path.{_≡_, refl, _∙_}
 use native.Mathlib.Omega.{arith}
 use native.Mathlib.Numerals.{add-one}
 use lib.Dec.{leb, ltb, eqb}
-use borrow.Author.Tests.{lt-ltb, le-ltb, eq-eqb, ne-eqb, ltb-true, ltb-false, eqb-true, eqb-false, leb-true, leb-false}
+use borrow.Author.Tests.{lt-ltb, le-ltb, eq-eqb, ne-eqb, ltb-true, ltb-false, eqb-true, eqb-false, leb-false}
 use lib.ListN.{length, getD, drop, drop-of-length-le}
 use lib.Seq.{drop-cons}
 use Rattle.signals.specs.Moment.{gap, instant}
-use Rattle.signals.specs.Signal.{Signal, num}
-use Rattle.signals.specs.Words.{dateOf, valueAt, valueAfter, headValue, wordsFault, datesFault, valueFrom, signalOf, lastFrom, changesNothing}
+use Rattle.signals.specs.Signal.{Signal}
+use Rattle.signals.specs.Words.{dateOf, valueAt, valueAfter, wordsFault, datesFault, valueFrom, signalOf, changesNothing}
 use Rattle.signals.specs.Passing.{heldValue, isNext, atDate, afterDate, passedDate}
-use Rattle.signals.specs.Settled.{SettledFrom}
-use Rattle.signals.specs.Normal.{Normal, Rising}
+use Rattle.signals.specs.Normal.{Rising}
 use Rattle.signals.proofs.Scan.{Held}
 use Rattle.signals.proofs.WordFacts.{head-value}
 
