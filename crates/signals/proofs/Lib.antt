@@ -9,3 +9,4 @@ pub mod WordFacts
 pub mod Scan
 pub mod Operand
 pub mod Normal
+pub mod Implication

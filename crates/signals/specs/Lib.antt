@@ -11,3 +11,4 @@ pub mod LatchSteps
 pub mod Settled
 pub mod Normal
 pub mod Passing
+pub mod Earliest
