@@ -12,3 +12,4 @@ pub mod Settled
 pub mod Normal
 pub mod Passing
 pub mod Earliest
+pub mod Starred
