@@ -1,22 +1,21 @@
 -- The verdict of an implication is the earliest failing moment.
-use Prim.Native.Nat.{ℕ, zero, suc, _+_, _*_, _-_, _≤_, _<_}
+use Prim.Native.Nat.{ℕ, zero, suc, _+_, _≤_, _<_}
 use native.Mathlib.Omega.{arith}
-use native.Mathlib.Numerals.{add-one}
-use mathlib.Core.Path.{_≡_, refl, sym, _∙_, ap, ap₂, subst}
-use mathlib.Core.Logic.{_⊎_, inl, inr, ⊎-elim, _↔_}
-use mathlib.Core.Bool.{Bool, true, false, not, cond, _&&_}
+use mathlib.Core.Path.{_≡_, refl, sym, _∙_, ap}
+use mathlib.Core.Logic.{_⊎_, inl, inr, ⊎-elim}
+use mathlib.Core.Bool.{Bool, true, false, not, cond}
 use lib.Dec.{leb}
-use borrow.Author.Tests.{leb-true, leb-false, le-leb, lt-leb}
-use Rattle.signals.specs.Moment.{gap, instant, isGap, tick}
+use borrow.Author.Tests.{leb-true, leb-false}
+use Rattle.signals.specs.Moment.{gap, instant}
 use Rattle.signals.specs.Signal.{Signal, refuted}
 use Rattle.signals.specs.Quantified.{Up, Down}
 use Rattle.signals.specs.Settled.{SettledFrom}
 use Rattle.signals.specs.Wording.{IsGap, IsInstant}
 use Rattle.signals.specs.Implication.{earliest, verdictOf, failsIn}
 use Rattle.signals.specs.Earliest.{Refutes, FirstRefutes, Judged, Earliest}
-use Rattle.signals.specs.declared.Verdict.{Verdict}
 use Rattle.signals.specs.declared.Verdict.the-variants.{Holds, FailsAt, FailsAfter}
-use Rattle.signals.proofs.Truth.{not-up, not-of, and-left, and-right, and-of, not-both, down-of}
+use Rattle.signals.proofs.Truth.{not-up, not-of, and-left, and-right, and-of, not-both}
+use Rattle.signals.proofs.Settling.{settled-later}
 use Rattle.signals.proofs.Wording.{either, split, isGap-gap, isGap-instant, tick-gap, tick-instant}
 
 pub refuted-up : (f g : Signal) (t : ℕ) → Up (refuted f g t) → Refutes f g t
@@ -141,10 +140,6 @@ outcome f g n sf sg = go (leb e (gap n)) refl
               (at-or-after (gap n) t),
           rw q refl,
         )
-
--- signals that settle at n have settled at every later date
-pub settled-later : (f : Signal) (n m : ℕ) → SettledFrom f n → n ≤ m → SettledFrom f m
-settled-later f n m h l t u = h t (omega arith) ∙ sym (h (gap m) (omega arith))
 
 -- two outcomes are one
 agree : (f g : Signal) (n m : ℕ) → Outcome f g n → Outcome f g m → verdictOf f g m ≡ verdictOf f g n

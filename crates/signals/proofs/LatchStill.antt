@@ -1,13 +1,12 @@
 -- Latches whose operands stand still from gap k up to instant d, and what instant d and gap d make of them: for loops over dates.
-use Prim.Native.Nat.{ℕ, zero, suc, _+_, _*_, _-_, _/_, _%_, _≤_, _<_}
+use Prim.Native.Nat.{ℕ, zero, suc, _+_, _-_, _≤_, _<_}
 use native.Mathlib.Omega.{arith}
 use mathlib.Core.Path.{_≡_, refl, sym, _∙_, ap, ap₂}
-use mathlib.Core.Logic.{_⊎_, inl, inr, ⊎-elim}
-use mathlib.Core.Bool.{Bool, true, false, not, _&&_, _||_}
+use mathlib.Core.Logic.{⊎-elim}
+use mathlib.Core.Bool.{Bool, true, false}
 use Rattle.signals.specs.Moment.{gap, instant}
-use Rattle.signals.specs.Signal.{Signal, SR, RS}
+use Rattle.signals.specs.Signal.{Signal}
 use Rattle.signals.specs.LatchSteps.{latch, atStep, gapStep, shown, carried}
-use Rattle.signals.specs.Wording.{IsGap, IsInstant}
 use Rattle.signals.proofs.Wording.{either}
 use Rattle.signals.proofs.Scan.{Held}
 use Rattle.signals.proofs.LatchSteps.{latch-at, latch-in}

@@ -10,3 +10,4 @@ pub mod Scan
 pub mod Operand
 pub mod Normal
 pub mod Implication
+pub mod Starred

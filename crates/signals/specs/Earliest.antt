@@ -7,7 +7,6 @@ use Rattle.signals.specs.Signal.{Signal}
 use Rattle.signals.specs.Quantified.{Up, Down}
 use Rattle.signals.specs.Settled.{SettledFrom}
 use Rattle.signals.specs.Implication.{verdictOf, failsIn}
-use Rattle.signals.specs.declared.Verdict.{Verdict}
 use Rattle.signals.specs.declared.Verdict.the-variants.{Holds, FailsAt, FailsAfter}
 
 -- a moment refutes f to g: f is up and g is down

@@ -1,10 +1,13 @@
 -- Document 01, "Checked by hand": the starred cases, in one joint statement.
-use Prim.Native.Nat.{ℕ, _≤_}
+use Prim.Native.Nat.{ℕ, _≤_, _<_}
 use mathlib.Core.Path.{_≡_}
-use mathlib.Core.Bool.{Bool, true, false}
+use mathlib.Core.Logic.{_↔_}
+use mathlib.Core.Bool.{true}
 use mathlib.Core.List.{List, [], _∷_}
 use Rattle.signals.specs.Signal.{Signal, constant, rising, falling, SR, RS, TON, TOF}
 use Rattle.signals.specs.Words.{listFault, signalOf, lastDate, listOf}
+use Rattle.signals.specs.Moment.{gap, instant}
+use Rattle.signals.specs.Quantified.{Up}
 use Rattle.signals.specs.Settled.{Same}
 
 -- s has the accepted list l, which denotes it at every moment, and which is its normal list up to every date from l's last on
@@ -36,6 +39,9 @@ abbrev pub one : Signal
 one = constant true
 
 pub record Starred : Type 0 where
+  pub f-reads : (t : ℕ) → Up (f t) ↔ (instant 5 ≤ t) × (t < instant 9)
+  pub e-reads : (t : ℕ) → Up (e t) ↔ t ≡ instant 5
+  pub l-reads : (t : ℕ) → Up (l t) ↔ gap 5 ≤ t
   -- TON(3,f)=[0,35,36]; TON(4,f)=[0]; TOF(2,f)=[0,23,44]; TOF(2,e)=[0,23,30]; TON(0,e)=e; TON(3,1)=[0,15]
   pub ton3f : Gives (TON 3 f) (0 ∷ 35 ∷ 36 ∷ [])
   pub ton4f : Gives (TON 4 f) (0 ∷ [])
