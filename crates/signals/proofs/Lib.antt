@@ -11,3 +11,7 @@ pub mod Operand
 pub mod Normal
 pub mod Implication
 pub mod Starred
+pub mod Settling
+pub mod WordFaults
+pub mod HeadFaults
+pub mod ListFaults

@@ -13,3 +13,5 @@ pub mod Normal
 pub mod Passing
 pub mod Earliest
 pub mod Starred
+pub mod Settling
+pub mod ListFaults
