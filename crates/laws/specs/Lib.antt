@@ -1,0 +1,4 @@
+-- Document 01, "Law table", as data, and the statements of the theorems about it.
+pub mod Scheme
+pub mod Laws
+pub mod Rewriting
