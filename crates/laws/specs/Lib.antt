@@ -2,3 +2,4 @@
 pub mod Scheme
 pub mod Laws
 pub mod Rewriting
+pub mod Soundness
