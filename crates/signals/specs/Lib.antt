@@ -4,3 +4,6 @@ pub mod Signal
 pub mod Words
 pub mod Answers
 pub mod Implication
+pub mod Quantified
+pub mod Wording
+pub mod Tables

@@ -1,0 +1,5 @@
+-- Proofs of the statements of specs/, and the lemmas that they and the proofs of functions share.
+pub mod Truth
+pub mod Agreement
+pub mod Wording
+pub mod Tables
