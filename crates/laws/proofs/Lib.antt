@@ -1,5 +1,7 @@
 -- The proofs of the statements of specs/.
-pub mod Boolean
-pub mod Edges
 pub mod Respect
+pub mod Parts
+pub mod Boolean
+pub mod SetReset
+pub mod Edges
 pub mod Table
