@@ -3,5 +3,7 @@ pub mod Respect
 pub mod Parts
 pub mod Boolean
 pub mod SetReset
+pub mod ResetSet
+pub mod Timers
 pub mod Edges
 pub mod Table
