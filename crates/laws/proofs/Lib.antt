@@ -7,3 +7,5 @@ pub mod ResetSet
 pub mod Timers
 pub mod Edges
 pub mod Table
+pub mod Places
+pub mod Soundness

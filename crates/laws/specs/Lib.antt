@@ -2,4 +2,5 @@
 pub mod Scheme
 pub mod Laws
 pub mod Rewriting
+pub mod Places
 pub mod Soundness
