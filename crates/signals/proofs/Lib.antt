@@ -3,3 +3,7 @@ pub mod Truth
 pub mod Agreement
 pub mod Wording
 pub mod Tables
+pub mod WordFacts
+pub mod Scan
+pub mod Operand
+pub mod Normal

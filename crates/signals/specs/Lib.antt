@@ -7,3 +7,6 @@ pub mod Implication
 pub mod Quantified
 pub mod Wording
 pub mod Tables
+pub mod Settled
+pub mod Normal
+pub mod Passing
