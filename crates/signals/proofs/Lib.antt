@@ -3,7 +3,10 @@ pub mod Truth
 pub mod Agreement
 pub mod Wording
 pub mod Tables
+pub mod LatchSteps
+pub mod LatchStill
 pub mod WordFacts
 pub mod Scan
 pub mod Operand
 pub mod Normal
+pub mod Implication

@@ -76,8 +76,8 @@ some-up p (suc m) e = go (some-up p m) (or-cases (some p m) (p (suc m)) e)
     go h (inl u) = let (n, l, w) = h u in (n, omega arith, w)
     go h (inr u) = (suc m, omega arith, u)
 
--- m is n, or below n and at most m
-le-cases : (n m : ℕ) → n ≤ suc m → (n ≤ m) ⊎ (n ≡ suc m)
+-- a number up to suc m is up to m, or suc m
+pub le-cases : (n m : ℕ) → n ≤ suc m → (n ≤ m) ⊎ (n ≡ suc m)
 le-cases n m l = go (leb n m) refl
   where
     go : (b : Bool) → leb n m ≡ b → (n ≤ m) ⊎ (n ≡ suc m)

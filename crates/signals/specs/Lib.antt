@@ -7,6 +7,9 @@ pub mod Implication
 pub mod Quantified
 pub mod Wording
 pub mod Tables
+pub mod LatchSteps
 pub mod Settled
 pub mod Normal
 pub mod Passing
+pub mod Earliest
+pub mod Starred
