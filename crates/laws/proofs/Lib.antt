@@ -9,3 +9,4 @@ pub mod Edges
 pub mod Table
 pub mod Places
 pub mod Soundness
+pub mod Consequences
