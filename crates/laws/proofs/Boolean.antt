@@ -5,7 +5,7 @@ use Rattle.signals.specs.Signal.{constant, NOT, AND, OR}
 use Rattle.laws.specs.Laws.{andCommutes, orCommutes, andGroups, orGroups, andDistributes, orDistributes, andAbsorbs, orAbsorbs, notOfAnd, notOfOr, notNot, andSelf, orSelf, andOne, orZero, andZero, orOne, andNot, orNot}
 use Rattle.laws.specs.Scheme.{f, g, h}
 use Rattle.laws.specs.Soundness.{Holds}
-use Rattle.laws.proofs.Respect.{put-for}
+use Rattle.laws.proofs.Letters.{put-for}
 
 absorb-and : (a b : Bool) → (a && (a || b)) ≡ a
 absorb-and true b = refl

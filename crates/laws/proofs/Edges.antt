@@ -1,16 +1,15 @@
 -- Laws 49 to 55, those of the edges.
 use Prim.Native.Nat.{ℕ, _-_, _%_}
 use native.Mathlib.Omega.{arith}
-use mathlib.Core.Path.{_≡_, refl, _∙_, ap}
+use mathlib.Core.Path.{_≡_, refl}
 use mathlib.Core.Bool.{Bool, true, false, not, _&&_, _||_}
-use lib.Dec.{eqb}
 use borrow.Author.Tests.{eqb-false, eq-eqb}
 use Rattle.signals.specs.Moment.{isGap, justBefore}
 use Rattle.signals.specs.Signal.{Signal, constant, NOT, AND, OR, rising, falling}
 use Rattle.laws.specs.Laws.{risingAndInput, risingOfNot, fallingOfNot, risingOfRising, fallingOfRising, risingOfAnd, fallingOfOr}
 use Rattle.laws.specs.Scheme.{f, g}
 use Rattle.laws.specs.Soundness.{Holds}
-use Rattle.laws.proofs.Respect.{put-for}
+use Rattle.laws.proofs.Letters.{put-for}
 
 -- in each, n is whether the moment is an instant, a and b are values there, c and d those just before
 edge-and : (n a c : Bool) → (n && (a && not c) && a) ≡ (n && (a && not c))

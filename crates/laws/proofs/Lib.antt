@@ -1,6 +1,6 @@
 -- The proofs of the statements of specs/.
-pub mod Respect
-pub mod Parts
+pub mod Letters
+pub mod BothDown
 pub mod Boolean
 pub mod SetReset
 pub mod ResetSet
@@ -10,3 +10,4 @@ pub mod Table
 pub mod Places
 pub mod Soundness
 pub mod Consequences
+pub mod WrongTurns

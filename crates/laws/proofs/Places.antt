@@ -1,18 +1,18 @@
 -- Places in working-out order and surroundings: each part is found and replaced at its place, and each place has a part.
-use Prim.Native.Nat.{ℕ, zero, suc, _+_, _-_, _≤_, _<_}
+use Prim.Native.Nat.{ℕ, _+_, _-_, _≤_, _<_}
 use native.Mathlib.Omega.{arith}
 use mathlib.Core.Path.{_≡_, refl, sym, _∙_, ap}
-use mathlib.Core.Bool.{Bool, true, false, cond}
+use mathlib.Core.Bool.{Bool, true, false}
 use mathlib.Core.List.{List, [], _∷_, _++_, append-assoc}
 use lib.Dec.{ltb}
 use lib.ListN.{length, getD, length-append}
 use lib.Seq.{getD-at}
 use borrow.Author.Tests.{ltb-true, ltb-false, lt-ltb, le-ltb}
-use Rattle.formulas.specs.Tree.{Tree, Unary, Binary, leaf, unary, binary}
-use Rattle.laws.specs.Scheme.{put}
+use Rattle.formulas.specs.Tree.{Tree, leaf, unary, binary}
+use Rattle.laws.specs.Scheme.{Equation, put}
 use Rattle.laws.specs.Laws.{equation}
-use Rattle.laws.specs.Rewriting.{parts, size, partAt, replaceAt, before, after, Step, Leads, Rewrites}
-use Rattle.laws.specs.Places.{Surroundings, whole, under, onLeft, onRight, around, earlier, placeIn, Placed, EveryPartIsPlaced, Surrounded, EveryPlaceIsAPart, OnePartApart, RewritingReachesEveryPart}
+use Rattle.laws.specs.Rewriting.{parts, size, partAt, replaceAt, Direction, forward, backward, before, after, Step, Leads, Rewrites}
+use Rattle.laws.specs.Places.{Surroundings, whole, under, onLeft, onRight, around, earlier, placeIn, EveryPartIsPlaced, Surrounded, EveryPlaceIsAPart, OnePartApart, RewritingReachesEveryPart, RewritingGoesBack}
 
 -- the list of parts is as long as the tree is large
 pub length-parts : (t : Tree) → length (parts t) ≡ size t
@@ -233,3 +233,32 @@ step-of F G a =
 
 pub rewriting-reaches-every-part : RewritingReachesEveryPart
 rewriting-reaches-every-part F G = (λ x. apart (x .0) F G (x .1), step-of F G)
+
+-- the other direction
+turned : Direction → Direction
+turned forward = backward
+turned backward = forward
+
+before-turned : (way : Direction) (q : Equation) → before (turned way) q ≡ after way q
+unfolding turned
+before-turned forward q = refl
+before-turned backward q = refl
+
+after-turned : (way : Direction) (q : Equation) → after (turned way) q ≡ before way q
+unfolding turned
+after-turned forward q = refl
+after-turned backward q = refl
+
+pub rewriting-goes-back : RewritingGoesBack
+rewriting-goes-back F G w =
+    let a = rewriting-reaches-every-part F G .0 w in
+    let q : Equation = equation (a .number) in
+    step-of G F record {
+      number = a .number;
+      numbered = a .numbered;
+      direction = turned (a .direction);
+      substitution = a .substitution;
+      surroundings = a .surroundings;
+      from = a .to ∙ ap (λ k. around (a .surroundings) (put (a .substitution) k)) (sym (before-turned (a .direction) q));
+      to = a .from ∙ ap (λ k. around (a .surroundings) (put (a .substitution) k)) (sym (after-turned (a .direction) q));
+    }

@@ -1,21 +1,21 @@
 -- Laws 27 to 36, those of RS.
-use Prim.Native.Nat.{ℕ, _+_, _%_, _≤_, _<_}
+use Prim.Native.Nat.{ℕ, _≤_, _<_}
 use native.Mathlib.Omega.{arith}
-use mathlib.Core.Path.{_≡_, refl, _∙_, sym}
-use mathlib.Core.Logic.{_⊎_, inl, inr, ⊎-elim}
+use mathlib.Core.Path.{_≡_, refl}
+use mathlib.Core.Logic.{inl, inr, ⊎-elim}
 use mathlib.Core.Bool.{Bool, true, false, true≢false, false≢true}
 use lib.Dec.{leb}
 use borrow.Author.Tests.{leb-true, leb-false, not-false}
 use Rattle.signals.specs.Moment.{opens}
 use Rattle.signals.specs.Signal.{Signal, constant, NOT, AND, OR, SR, RS}
 use Rattle.signals.specs.Quantified.{Up, Down}
-use Rattle.signals.proofs.Truth.{bool-ext, not-both, not-of, down-of}
+use Rattle.signals.proofs.Truth.{bool-ext, not-both, down-of}
 use Rattle.signals.proofs.Agreement.{NOT-up, NOT-of, AND-up, AND-of, OR-up, OR-of, SR-up, SR-of, RS-up, RS-of, OneRS, RS-up1, RS-of1, le-opens}
 use Rattle.laws.specs.Laws.{rsNot, rsResetOne, rsSetOne, rsSetZero, rsSelf, rsAndSet, rsSetUnderReset, rsAsSr, rsResetOr, rsSetOr}
 use Rattle.laws.specs.Scheme.{f, s, r, p}
 use Rattle.laws.specs.Soundness.{Holds}
-use Rattle.laws.proofs.Respect.{put-for}
-use Rattle.laws.proofs.Parts.{or-down, or-down-of}
+use Rattle.laws.proofs.Letters.{put-for}
+use Rattle.laws.proofs.BothDown.{or-down, or-down-of}
 
 -- where RS is up, the reset is down, and so it was at the moment of the set
 reset-down : (a b : Signal) (t : ℕ) → Up (RS a b t) → Down (b t)

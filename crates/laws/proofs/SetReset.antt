@@ -1,21 +1,21 @@
 -- Laws 20 to 26, those of SR.
-use Prim.Native.Nat.{ℕ, _+_, _%_, _≤_, _<_}
+use Prim.Native.Nat.{ℕ, _≤_, _<_}
 use native.Mathlib.Omega.{arith}
-use mathlib.Core.Path.{_≡_, refl, _∙_, sym}
-use mathlib.Core.Logic.{_⊎_, inl, inr, ⊎-elim}
+use mathlib.Core.Path.{_≡_, refl}
+use mathlib.Core.Logic.{inl, inr, ⊎-elim}
 use mathlib.Core.Bool.{Bool, true, false, true≢false, false≢true}
 use lib.Dec.{leb}
 use borrow.Author.Tests.{leb-true, leb-false, not-false}
 use Rattle.signals.specs.Moment.{opens}
 use Rattle.signals.specs.Signal.{Signal, constant, NOT, AND, OR, SR}
-use Rattle.signals.specs.Quantified.{Up, Down, Before, InOpen, UpSR}
+use Rattle.signals.specs.Quantified.{Up, Down, Before, InOpen}
 use Rattle.signals.proofs.Truth.{bool-ext, not-both, down-of}
 use Rattle.signals.proofs.Agreement.{AND-up, AND-of, OR-up, OR-of, SR-up, SR-of}
 use Rattle.laws.specs.Laws.{srNot, srResetOne, srSetOne, srSetZero, srAndReset, srResetOr, srSetOr}
 use Rattle.laws.specs.Scheme.{s, r, p}
 use Rattle.laws.specs.Soundness.{Holds}
-use Rattle.laws.proofs.Respect.{put-for}
-use Rattle.laws.proofs.Parts.{or-down, or-down-of}
+use Rattle.laws.proofs.Letters.{put-for}
+use Rattle.laws.proofs.BothDown.{or-down, or-down-of}
 
 -- the set was up at a moment before t, and the reset is down from then on
 abbrev Held : Signal → Signal → ℕ → Type 0

@@ -1,8 +1,8 @@
 -- Laws 37 to 48, those of TON and TOF.
 use Prim.Native.Nat.{ℕ, _+_, _*_, _-_, _≤_, _<_}
 use native.Mathlib.Omega.{arith}
-use mathlib.Core.Path.{_≡_, refl, _∙_, sym}
-use mathlib.Core.Logic.{_⊎_, inl, inr, ⊎-elim}
+use mathlib.Core.Path.{_≡_, refl}
+use mathlib.Core.Logic.{inl, inr, ⊎-elim}
 use mathlib.Core.Bool.{Bool, true, false, cond}
 use lib.Dec.{leb}
 use borrow.Author.Tests.{leb-true, leb-false}
@@ -11,9 +11,9 @@ use Rattle.signals.specs.Quantified.{Up, Down, Started, FromTo}
 use Rattle.signals.proofs.Truth.{bool-ext, up-or-down, not-both, down-of}
 use Rattle.signals.proofs.Agreement.{NOT-up, NOT-of, AND-up, AND-of, OR-up, OR-of, TON-up, TON-of, TOF-up, TOF-of}
 use Rattle.laws.specs.Laws.{tonAndInput, inputAndTof, tonOfAnd, tofOfOr, tonOfTon, tofOfTof, tonAndTon, tonOrTon, tofAndTof, tofOrTof, notTon, notTof}
-use Rattle.laws.specs.Scheme.{Substitution, f, g}
+use Rattle.laws.specs.Scheme.{f, g}
 use Rattle.laws.specs.Soundness.{Holds}
-use Rattle.laws.proofs.Respect.{put-for}
+use Rattle.laws.proofs.Letters.{put-for}
 
 -- AND and OR of two signals of which one is up wherever the other is
 and-second : (a b : Signal) (t : ℕ) → (Up (b t) → Up (a t)) → AND a b t ≡ b t

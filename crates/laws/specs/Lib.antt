@@ -4,3 +4,4 @@ pub mod Laws
 pub mod Rewriting
 pub mod Places
 pub mod Soundness
+pub mod WrongTurns

@@ -64,3 +64,7 @@ pub record OnePartApart (F G : Tree) : Type 0 where
 -- Rewriting by places is rewriting of any part.
 abbrev pub RewritingReachesEveryPart : Type 0
 RewritingReachesEveryPart = (F G : Tree) → Rewrites F G ↔ OnePartApart F G
+
+-- A step can be taken back.
+abbrev pub RewritingGoesBack : Type 0
+RewritingGoesBack = (F G : Tree) → Rewrites F G → Rewrites G F

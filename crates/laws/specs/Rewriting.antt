@@ -1,11 +1,11 @@
 -- One-step rewriting of a formula's tree: one part, the whole included, found by its place in working-out order, by one equation in either direction.
-use Prim.Native.Nat.{ℕ, zero, suc, _+_, _-_, _≤_, _<_}
+use Prim.Native.Nat.{ℕ, _+_, _-_, _≤_, _<_}
 use mathlib.Core.Path.{_≡_}
-use mathlib.Core.Bool.{Bool, true, false, cond}
+use mathlib.Core.Bool.{cond}
 use mathlib.Core.List.{List, [], _∷_, _++_}
 use lib.Dec.{ltb}
 use lib.ListN.{length, getD}
-use Rattle.formulas.specs.Tree.{Tree, Unary, Binary, leaf, unary, binary}
+use Rattle.formulas.specs.Tree.{Tree, leaf, unary, binary}
 use Rattle.laws.specs.Scheme.{Scheme, Equation, Substitution, put}
 use Rattle.laws.specs.Laws.{table, equation}
 

@@ -1,6 +1,6 @@
 -- Schemes: formulas over the letters f g h s r p with length terms in d and e, and what putting formulas and lengths for them gives.
 use Prim.Native.Nat.{ℕ, _+_, _≤_}
-use mathlib.Core.Bool.{Bool, cond}
+use mathlib.Core.Bool.{cond}
 use lib.Dec.{leb}
 use Rattle.signals.specs.Moment.{M}
 use Rattle.formulas.specs.Tree as tree

@@ -1,9 +1,9 @@
--- What is down of OR, and what is not up of NOT.
+-- OR is down exactly where both operands are.
 use Prim.Native.Nat.{ℕ}
-use mathlib.Core.Path.{_≡_, refl}
+use mathlib.Core.Path.{refl}
 use mathlib.Core.Bool.{Bool, true, false, true≢false, _||_}
 use Rattle.signals.specs.Signal.{Signal, OR}
-use Rattle.signals.specs.Quantified.{Up, Down}
+use Rattle.signals.specs.Quantified.{Down}
 
 or-false-both : (a b : Bool) → Down (a || b) → Down a × Down b
 or-false-both true b e = absurd (true≢false e)
