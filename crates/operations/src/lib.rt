@@ -3,7 +3,8 @@ ghost use mathlib.Core.Path.{_≡_};
 ghost use mathlib.Core.List.{List, _++_};
 ghost use Prim.Native.Nat.{ℕ, _<_, _≤_};
 ghost use lib.ListN.{length, set, take, drop};
-ghost use Rattle.signals.specs.Signal.{num};
+ghost use mathlib.Core.Bool.{not, _&&_, _||_};
+ghost use Rattle.signals.specs.Signal.{num, cell};
 ghost use Rattle.signals.specs.Words.{word};
 ghost use Rattle.signals.specs.Answers.{writtenOf, outputOf};
 ghost use Rattle.operations.specs.Calls.{answerFault};
@@ -129,4 +130,53 @@ fn deliver(slot: &[u32], made: Made, out: &mut [u32]) -> Written
     }
     copy_words(slot, count, out);
     Written::Count(count)
+}
+
+// What the merge of two lists builds: a connective by its table, an edge of the first, or a latch.
+enum Operation {
+    Connective,
+    Rising,
+    Falling,
+    SetWins,
+    ResetWins,
+}
+
+// What a date shows of the merge: its value at the date and after it, and the bit that a latch carries on.
+struct Shown {
+    at: bool,
+    after: bool,
+    carried: bool,
+}
+
+fn index(v: bool) -> usize
+    ensures { λ r. ⌜ r ≡ num v ⌝ }
+{
+    if v { 1 } else { 0 }
+}
+
+// Row by the first operand, column by the second.
+fn cell_of(table: [[bool; 2]; 2], p: bool, q: bool) -> bool
+    ensures { λ r. ⌜ r ≡ cell table p q ⌝ }
+{
+    let row = index(p);
+    let column = index(q);
+    table[row][column]
+}
+
+fn both(a: bool, b: bool) -> bool
+    ensures { λ r. ⌜ r ≡ (a && b) ⌝ }
+{
+    if a { b } else { false }
+}
+
+fn either(a: bool, b: bool) -> bool
+    ensures { λ r. ⌜ r ≡ (a || b) ⌝ }
+{
+    if a { true } else { b }
+}
+
+fn inverse(a: bool) -> bool
+    ensures { λ r. ⌜ r ≡ not a ⌝ }
+{
+    !a
 }
