@@ -2,3 +2,4 @@ pub mod Emitting
 pub mod BuildingLaws
 pub mod Scanning
 pub mod Copying
+pub mod MergeCases
