@@ -3,3 +3,5 @@ pub mod BuildingLaws
 pub mod Scanning
 pub mod Copying
 pub mod MergeCases
+pub mod MergeHeld
+pub mod MergeTurn
