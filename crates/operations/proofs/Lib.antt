@@ -5,3 +5,4 @@ pub mod Copying
 pub mod MergeCases
 pub mod MergeHeld
 pub mod MergeTurn
+pub mod JudgedCalls

@@ -2,3 +2,4 @@
 pub mod Calls
 pub mod Building
 pub mod Merging
+pub mod Slots

@@ -8,7 +8,8 @@ ghost use Rattle.signals.specs.Signal.{num, cell};
 ghost use Rattle.signals.specs.LatchSteps.{atStep, gapStep, shown};
 ghost use Rattle.signals.specs.Words.{word, listFault, listOf, signalOf, lastDate};
 ghost use Rattle.signals.specs.Answers.{writtenOf, outputOf};
-ghost use Rattle.operations.specs.Calls.{answerFault};
+ghost use Rattle.operations.specs.Calls.{answerFault, pairFault, faultOfTwo, exactOfTwo};
+ghost use Rattle.operations.specs.Slots.{inSlotFault, slotAfter};
 ghost use Rattle.operations.specs.Building.{idle, emitted, emittedIn, begun, Built};
 ghost use Rattle.operations.specs.Merging.{latchFirst, latchShown, firstShown, dateShown, merged};
 use lists::Step;
@@ -320,4 +321,69 @@ fn merge(
         j = q.passed;
     }
     made
+}
+
+// The lists' faults, first operand first.
+fn pair_fault(a: &[u32], b: &[u32]) -> u32
+    ensures { λ r. ⌜ r ≡ pairFault (now (a .entry)) (now (b .entry)) ⌝ }
+{
+    let fault = lists::list_fault(a);
+    if fault != 0 {
+        return fault;
+    }
+    lists::list_fault(b)
+}
+
+// The answer in a slot of 256 words or more, judged (5, 6).
+fn finish(made: Made) -> Written
+    ensures { λ r. ⌜ ((exact old slot : List ℕ) → 256 ≤ length old → Built exact old slot made → r ≡ writtenOf (answerFault exact (length old)) exact) ⌝ }
+{
+    let count = made.count;
+    if 256 < count {
+        return Written::Refused(5);
+    }
+    if made.late {
+        return Written::Refused(6);
+    }
+    Written::Count(count)
+}
+
+// A merge of two lists that are judged first, its answer delivered to an output.
+fn operate(
+    operation: Operation,
+    table: [[bool; 2]; 2],
+    a: &[u32],
+    b: &[u32],
+    out: &mut [u32],
+) -> Written
+    ensures { λ r. ⌜ (r ≡ writtenOf (faultOfTwo (merged operation table) (now (a .entry)) (now (b .entry)) (length (now (out .entry)))) (exactOfTwo (merged operation table) (now (a .entry)) (now (b .entry)))) × (now (out .exit) ≡ outputOf (faultOfTwo (merged operation table) (now (a .entry)) (now (b .entry)) (length (now (out .entry)))) (exactOfTwo (merged operation table) (now (a .entry)) (now (b .entry))) (now (out .entry))) ⌝ }
+{
+    let fault = pair_fault(a, b);
+    if fault != 0 {
+        return Written::Refused(fault);
+    }
+    let mut slot = [0u32; 256];
+    let made = merge(operation, table, a, b, &mut slot);
+    deliver(&slot, made, out)
+}
+
+// The same in a slot that is lent.
+fn operate_in(
+    operation: Operation,
+    table: [[bool; 2]; 2],
+    a: &[u32],
+    b: &[u32],
+    slot: &mut [u32],
+) -> Written
+    ensures { λ r. ⌜ (r ≡ writtenOf (inSlotFault (pairFault (now (a .entry)) (now (b .entry))) (exactOfTwo (merged operation table) (now (a .entry)) (now (b .entry))) (length (now (slot .entry)))) (exactOfTwo (merged operation table) (now (a .entry)) (now (b .entry)))) × (now (slot .exit) ≡ slotAfter (pairFault (now (a .entry)) (now (b .entry))) (exactOfTwo (merged operation table) (now (a .entry)) (now (b .entry))) (now (slot .entry))) ⌝ }
+{
+    let fault = pair_fault(a, b);
+    if fault != 0 {
+        return Written::Refused(fault);
+    }
+    if slot.len() < 256 {
+        return Written::Refused(7);
+    }
+    let made = merge(operation, table, a, b, slot);
+    finish(made)
 }
