@@ -6,3 +6,4 @@ pub mod MergeCases
 pub mod MergeHeld
 pub mod MergeTurn
 pub mod JudgedCalls
+pub mod OneOperand
