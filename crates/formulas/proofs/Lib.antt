@@ -1,0 +1,5 @@
+-- Lemmas on the grammar, its reader and code words.
+pub mod Standing
+pub mod Bytes
+pub mod Steps
+pub mod Complete
