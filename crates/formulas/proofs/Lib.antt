@@ -3,3 +3,4 @@ pub mod Standing
 pub mod Bytes
 pub mod Steps
 pub mod Complete
+pub mod Sound
