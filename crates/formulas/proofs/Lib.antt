@@ -4,3 +4,5 @@ pub mod Bytes
 pub mod Steps
 pub mod Complete
 pub mod Sound
+pub mod Working
+pub mod Reading
