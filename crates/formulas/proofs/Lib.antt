@@ -3,3 +3,6 @@ pub mod Standing
 pub mod Bytes
 pub mod Steps
 pub mod Complete
+pub mod Sound
+pub mod Working
+pub mod Reading

@@ -4,3 +4,5 @@ pub mod Grammar
 pub mod Code
 pub mod Reader
 pub mod Formula
+pub mod Exactness
+pub mod Places
