@@ -9,8 +9,8 @@ use Rattle.signals.specs.Moment.{M}
 use Rattle.signals.specs.Signal.{Signal}
 use Rattle.signals.specs.Words.{dateOf}
 use Rattle.formulas.specs.Tree.{Tree, Leaf, leaf, unary, binary, down, up, name}
-use Rattle.formulas.specs.Code.{longest}
 use Rattle.formulas.specs.Grammar.{Writes}
+use Rattle.formulas.specs.Exactness.{Ten, Eleven, Eight, Twelve}
 use Rattle.laws.specs.Rewriting.{parts, partAt}
 use Rattle.sheets.specs.Names.{among}
 use Rattle.sheets.specs.Reading.{sheetFault, signalsOn, names}
@@ -28,22 +28,6 @@ NoFault fault = fault ≡ 0
 -- 14 to 17, by the sheet's own fault
 abbrev pub SheetBreaks : List ℕ → Type 0
 SheetBreaks sheet = ¬ (sheetFault sheet ≡ 0)
-
--- 10: formula empty or over 1,024 bytes
-abbrev pub Breaks10 : List ℕ → Type 0
-Breaks10 formula = (length formula ≡ 0) ⊎ (1024 < length formula)
-
--- 11: outside the grammar
-abbrev pub Breaks11 : List ℕ → Type 0
-Breaks11 formula = ¬ ((t : Tree) × (d : ℕ) × Writes formula t d)
-
--- 8: length above M
-abbrev pub Breaks8 : List ℕ → Type 0
-Breaks8 formula = (t : Tree) × (d : ℕ) × Writes formula t d × (M < longest t)
-
--- 12: over 32 parts, or depth over 16
-abbrev pub Breaks12 : List ℕ → Type 0
-Breaks12 formula = (t : Tree) × (d : ℕ) × Writes formula t d × ((32 < length (parts t)) ⊎ (16 < d))
 
 -- a name that stands in a tree
 abbrev pub LeafNames : Leaf → List ℕ → Type 0
@@ -92,12 +76,11 @@ abbrev pub Breaks7 : List ℕ → List ℕ → ℕ → Type 0
 Breaks7 sheet formula room =
     (t : Tree) × (d : ℕ) × Writes formula t d × ((l : List ℕ) × ListFor (signalOn sheet t) l × (room < length l))
 
--- formula 10, 11, 8, 12, 13
+-- formula 10 (empty or over 1,024 bytes), 11 (outside the grammar), 8 (length above M), 12 (over 32 parts, or depth over 16), 13
 abbrev pub ReadingChecks : List ℕ → List ℕ → (ℕ → Type 0) → ℕ → Type 0
 ReadingChecks sheet formula later =
-    Check 10 (Breaks10 formula)
-    (Check 11 (Breaks11 formula)
-    (Check 8 (Breaks8 formula) (Check 12 (Breaks12 formula) (Check 13 (Breaks13 sheet formula) later))))
+    Check 10 (Ten formula)
+    (Check 11 (Eleven formula) (Check 8 (Eight formula) (Check 12 (Twelve formula) (Check 13 (Breaks13 sheet formula) later))))
 
 -- 5 or 6 at the first part worked out that meets one
 abbrev pub WorkingChecks : List ℕ → List ℕ → (ℕ → Type 0) → ℕ → Type 0
