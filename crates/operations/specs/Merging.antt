@@ -23,13 +23,16 @@ bitOf Falling f g k = false
 bitOf SetWins f g k = carried true f g k
 bitOf ResetWins f g k = carried false f g k
 
+abbrev pub latchFirst : Bool → Bool → Bool → Shown
+latchFirst w p q = record { at = false; after = shown w p (gapStep p q false); carried = gapStep p q false }
+
 -- what gap 0 shows, from the values there
 abbrev pub firstShown : Operation → Table → Bool → Bool → Shown
 firstShown Connective table p q = record { at = false; after = cell table p q; carried = false }
 firstShown Rising table p q = record { at = false; after = false; carried = false }
 firstShown Falling table p q = record { at = false; after = false; carried = false }
-firstShown SetWins table p q = record { at = false; after = shown true p (gapStep p q false); carried = gapStep p q false }
-firstShown ResetWins table p q = record { at = false; after = shown false p (gapStep p q false); carried = gapStep p q false }
+firstShown SetWins table p q = latchFirst true p q
+firstShown ResetWins table p q = latchFirst false p q
 
 -- what a latch shows at and after a date, from the bit carried before it and the values at and after it
 abbrev pub latchShown : Bool → Bool → Bool → Bool → Bool → Bool → Shown
@@ -37,7 +40,7 @@ latchShown w q s1 s2 r1 r2 =
     record {
       at = atStep w s1 r1 q;
       after = shown w s2 (gapStep s2 r2 (atStep w s1 r1 q));
-      carried = gapStep s2 r2 (atStep w s1 r1 q)
+      carried = gapStep s2 r2 (atStep w s1 r1 q);
     }
 
 -- what a date shows: the bit carried, the first operand's values before, at and after it, the second's at and after it

@@ -1,14 +1,17 @@
 // Every operation of document 01 on lists.
 ghost use mathlib.Core.Path.{_≡_};
 ghost use mathlib.Core.List.{List, _++_};
-ghost use Prim.Native.Nat.{ℕ, _<_, _≤_};
+ghost use Prim.Native.Nat.{ℕ, _<_, _≤_, min};
 ghost use lib.ListN.{length, set, take, drop};
 ghost use mathlib.Core.Bool.{not, _&&_, _||_};
 ghost use Rattle.signals.specs.Signal.{num, cell};
+ghost use Rattle.signals.specs.LatchSteps.{atStep, gapStep, shown};
 ghost use Rattle.signals.specs.Words.{word};
 ghost use Rattle.signals.specs.Answers.{writtenOf, outputOf};
 ghost use Rattle.operations.specs.Calls.{answerFault};
 ghost use Rattle.operations.specs.Building.{idle, emitted, emittedIn, begun, Built};
+ghost use Rattle.operations.specs.Merging.{latchFirst, latchShown, firstShown, dateShown};
+use lists::Step;
 use signals::Date;
 use signals::M;
 use signals::Written;
@@ -179,4 +182,108 @@ fn inverse(a: bool) -> bool
     ensures { λ r. ⌜ r ≡ not a ⌝ }
 {
     !a
+}
+
+// A latch at an instant, from the bit carried in the gap before.
+fn latch_at(set_wins: bool, s: bool, r: bool, q: bool) -> bool
+    ensures { λ v. ⌜ v ≡ atStep «set_wins» s r q ⌝ }
+{
+    if set_wins {
+        either(s, both(q, inverse(r)))
+    } else {
+        both(inverse(r), either(s, q))
+    }
+}
+
+// The bit carried in a gap, from the latch at the instant before.
+fn carry(s: bool, r: bool, at: bool) -> bool
+    ensures { λ v. ⌜ v ≡ gapStep s r at ⌝ }
+{
+    both(inverse(r), either(s, at))
+}
+
+// What a gap shows of the bit carried in it.
+fn latch_in(set_wins: bool, s: bool, q: bool) -> bool
+    ensures { λ v. ⌜ v ≡ shown «set_wins» s q ⌝ }
+{
+    if set_wins { either(s, q) } else { q }
+}
+
+fn latch_date(set_wins: bool, q: bool, p: Step, r: Step) -> Shown
+    ensures { λ v. ⌜ v ≡ latchShown «set_wins» q (p .at) (p .after) (r .at) (r .after) ⌝ }
+{
+    let at = latch_at(set_wins, p.at, r.at, q);
+    let carried = carry(p.after, r.after, at);
+    Shown {
+        at,
+        after: latch_in(set_wins, p.after, carried),
+        carried,
+    }
+}
+
+fn latch_first(set_wins: bool, s: bool, r: bool) -> Shown
+    ensures { λ v. ⌜ v ≡ latchFirst «set_wins» s r ⌝ }
+{
+    let carried = carry(s, r, false);
+    Shown {
+        at: false,
+        after: latch_in(set_wins, s, carried),
+        carried,
+    }
+}
+
+// What gap 0 shows, from the values there.
+fn first_shown(operation: Operation, table: [[bool; 2]; 2], p: bool, q: bool) -> Shown
+    ensures { λ v. ⌜ v ≡ firstShown operation table p q ⌝ }
+{
+    match operation {
+        Operation::Connective => Shown {
+            at: false,
+            after: cell_of(table, p, q),
+            carried: false,
+        },
+        Operation::Rising => Shown {
+            at: false,
+            after: false,
+            carried: false,
+        },
+        Operation::Falling => Shown {
+            at: false,
+            after: false,
+            carried: false,
+        },
+        Operation::SetWins => latch_first(true, p, q),
+        Operation::ResetWins => latch_first(false, p, q),
+    }
+}
+
+// What a date shows, from the bit carried before it and what passing it found of both operands.
+fn date_shown(operation: Operation, table: [[bool; 2]; 2], carried: bool, p: Step, q: Step) -> Shown
+    ensures { λ v. ⌜ v ≡ dateShown operation table carried (p .before) (p .at) (p .after) (q .at) (q .after) ⌝ }
+{
+    match operation {
+        Operation::Connective => Shown {
+            at: cell_of(table, p.at, q.at),
+            after: cell_of(table, p.after, q.after),
+            carried: false,
+        },
+        Operation::Rising => Shown {
+            at: both(p.at, inverse(p.before)),
+            after: false,
+            carried: false,
+        },
+        Operation::Falling => Shown {
+            at: both(inverse(p.at), p.before),
+            after: false,
+            carried: false,
+        },
+        Operation::SetWins => latch_date(true, carried, p, q),
+        Operation::ResetWins => latch_date(false, carried, p, q),
+    }
+}
+
+fn earlier(a: Date, b: Date) -> Date
+    ensures { λ r. ⌜ r .0 ≡ min (a .0) (b .0) ⌝ }
+{
+    if a.0 < b.0 { a } else { b }
 }
