@@ -6,3 +6,4 @@ pub mod Complete
 pub mod Sound
 pub mod Working
 pub mod Reading
+pub mod Segments
