@@ -7,3 +7,4 @@ pub mod Sound
 pub mod Working
 pub mod Reading
 pub mod Segments
+pub mod Writing
