@@ -6,3 +6,5 @@ pub mod Complete
 pub mod Sound
 pub mod Working
 pub mod Reading
+pub mod Segments
+pub mod Writing
