@@ -13,5 +13,5 @@ Answered sheet formula =
 
 -- the needed work words, and an output at least as long as the answer
 pub record Enough (sheet formula : List ℕ) (work : ℕ) (old : List ℕ) : Type 0 where
-  pub work : neededWork sheet ≤ work
+  pub area : neededWork sheet ≤ work
   pub room : length (wordsOn sheet formula) ≤ length old
