@@ -1,0 +1,73 @@
+-- `sheets::read32` meets its contract.
+use borrow.Author.Needs.{needs}
+use native.Mathlib.Omega.{arith}
+use mathlib.Core.Path.{refl}
+use Rattle.sheets.specs.Bytes.{low32}
+use Rattle.sheets.proofs.read32.Statement.{statement}
+use Rattle.sheets.proofs.read32.Tie as tie
+
+shared-slice-read-result : tie.Need-shared-slice-read-result
+shared-slice-read-result c = search needs
+
+cast-result : tie.Need-cast-result
+cast-result c = omega (arith, c .shared-slice-known .given 0)
+
+shared-slice-read-result-2 : tie.Need-shared-slice-read-result-2
+shared-slice-read-result-2 c = search needs
+
+cast-result-2 : tie.Need-cast-result-2
+cast-result-2 c = omega (arith, c .shared-slice-known2 .given 1)
+
+mul-result : tie.Need-mul-result
+mul-result c = omega (arith, c .shared-slice-known2 .given 0, c .shared-slice-known2 .given 1, c .shared-slice-known2 .given 2, c .shared-slice-known2 .given 3)
+
+add-result : tie.Need-add-result
+add-result c = omega (arith, c .shared-slice-known2 .given 0, c .shared-slice-known2 .given 1, c .shared-slice-known2 .given 2, c .shared-slice-known2 .given 3)
+
+shared-slice-read-result-3 : tie.Need-shared-slice-read-result-3
+shared-slice-read-result-3 c = search needs
+
+cast-result-3 : tie.Need-cast-result-3
+cast-result-3 c = omega (arith, c .shared-slice-known3 .given 0, c .shared-slice-known3 .given 1, c .shared-slice-known3 .given 2, c .shared-slice-known3 .given 3)
+
+mul-result-2 : tie.Need-mul-result-2
+mul-result-2 c = omega (arith, c .shared-slice-known3 .given 0, c .shared-slice-known3 .given 1, c .shared-slice-known3 .given 2, c .shared-slice-known3 .given 3)
+
+add-result-2 : tie.Need-add-result-2
+add-result-2 c = omega (arith, c .shared-slice-known3 .given 0, c .shared-slice-known3 .given 1, c .shared-slice-known3 .given 2, c .shared-slice-known3 .given 3)
+
+shared-slice-read-result-4 : tie.Need-shared-slice-read-result-4
+shared-slice-read-result-4 c = search needs
+
+cast-result-4 : tie.Need-cast-result-4
+cast-result-4 c = omega (arith, c .shared-slice-known4 .given 0, c .shared-slice-known4 .given 1, c .shared-slice-known4 .given 2, c .shared-slice-known4 .given 3)
+
+mul-result-3 : tie.Need-mul-result-3
+mul-result-3 c = omega (arith, c .shared-slice-known4 .given 0, c .shared-slice-known4 .given 1, c .shared-slice-known4 .given 2, c .shared-slice-known4 .given 3)
+
+add-result-3 : tie.Need-add-result-3
+add-result-3 c = omega (arith, c .shared-slice-known4 .given 0, c .shared-slice-known4 .given 1, c .shared-slice-known4 .given 2, c .shared-slice-known4 .given 3)
+
+returns : tie.Need-returns
+unfolding low32
+returns c = refl
+
+pub read32-spec : {M : Type 1} → statement M
+read32-spec =
+    tie.close
+    (tie.spec
+    shared-slice-read-result
+    cast-result
+    shared-slice-read-result-2
+    cast-result-2
+    mul-result
+    add-result
+    shared-slice-read-result-3
+    cast-result-3
+    mul-result-2
+    add-result-2
+    shared-slice-read-result-4
+    cast-result-4
+    mul-result-3
+    add-result-3
+    returns)
