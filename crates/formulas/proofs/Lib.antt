@@ -10,3 +10,4 @@ pub mod Segments
 pub mod Writing
 pub mod Carried
 pub mod Coding
+pub mod Marking
