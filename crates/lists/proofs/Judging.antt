@@ -1,0 +1,73 @@
+-- The tests that the list check makes are those of the definitions, and one turn of its loop is one clause of `wordsFault`.
+use Prim.Native.Nat.{ℕ, zero, suc, _+_, _≤_, _<_, _/_, _%_}
+use native.Mathlib.Omega.{arith}
+use native.Mathlib.Numerals.{add-one}
+use mathlib.Core.Path.{_≡_, refl, sym, _∙_}
+use mathlib.Core.Bool.{Bool, true, false, cond, _&&_, Bool·beq}
+use mathlib.Core.List.{List, [], _∷_}
+use lib.Dec.{leb, ltb, eqb}
+use lib.ListN.{length, getD, drop, drop-of-length-le}
+use lib.Seq.{drop-cons}
+use borrow.Author.Tests.{eqb-true, eqb-false, eq-eqb, ne-eqb, le-leb, lt-leb, lt-ltb, le-ltb}
+use Rattle.signals.specs.Words.{dateOf, valueAt, valueAfter, headValue, changesNothing, wordsFault, listFault}
+
+pub both-up : (w : ℕ) → eqb (w % 4) 3 ≡ changesNothing true w
+unfolding changesNothing valueAt valueAfter
+both-up w = go (eqb (w / 2 % 2) 1) (eqb (w % 2) 1) refl refl
+  where
+    go : (a b : Bool) → eqb (w / 2 % 2) 1 ≡ a → eqb (w % 2) 1 ≡ b → eqb (w % 4) 3 ≡ (Bool·beq a true && Bool·beq b true)
+    go true true p q = eq-eqb (w % 4) 3 (omega (arith, eqb-true (w / 2 % 2) 1 p, eqb-true (w % 2) 1 q))
+    go true false p q = ne-eqb (w % 4) 3 (λ e. eqb-false (w % 2) 1 q (omega arith))
+    go false true p q = ne-eqb (w % 4) 3 (λ e. eqb-false (w / 2 % 2) 1 p (omega arith))
+    go false false p q = ne-eqb (w % 4) 3 (λ e. eqb-false (w / 2 % 2) 1 p (omega arith))
+
+pub both-down : (w : ℕ) → eqb (w % 4) 0 ≡ changesNothing false w
+unfolding changesNothing valueAt valueAfter
+both-down w = go (eqb (w / 2 % 2) 1) (eqb (w % 2) 1) refl refl
+  where
+    go : (a b : Bool) → eqb (w / 2 % 2) 1 ≡ a → eqb (w % 2) 1 ≡ b → eqb (w % 4) 0 ≡ (Bool·beq a false && Bool·beq b false)
+    go true true p q = ne-eqb (w % 4) 0 (λ e. omega (arith, eqb-true (w / 2 % 2) 1 p))
+    go true false p q = ne-eqb (w % 4) 0 (λ e. omega (arith, eqb-true (w / 2 % 2) 1 p))
+    go false true p q = ne-eqb (w % 4) 0 (λ e. omega (arith, eqb-true (w % 2) 1 q))
+    go false false p q =
+        let p' : (w / 2 % 2 ≡ 1) → ⊥ = eqb-false (w / 2 % 2) 1 p in
+        let q' : (w % 2 ≡ 1) → ⊥ = eqb-false (w % 2) 1 q in
+        eq-eqb (w % 4) 0 (omega arith)
+
+module _ (l : List ℕ) (passed last : ℕ) (before : Bool) (h : passed < length l) where
+  pub fault-3 : dateOf (getD l passed 0) ≤ last → wordsFault last before (drop passed l) ≡ 3
+  unfolding wordsFault
+  fault-3 e = rw (drop-cons l passed 0 h, le-leb _ _ e)
+
+  pub fault-4 : last < dateOf (getD l passed 0) → changesNothing before (getD l passed 0) ≡ true → wordsFault last before (drop passed l) ≡ 4
+  unfolding wordsFault
+  fault-4 d e = rw (drop-cons l passed 0 h, lt-leb _ _ d, e)
+
+  pub no-fault : last < dateOf (getD l passed 0) → changesNothing before (getD l passed 0) ≡ false
+      → wordsFault last before (drop passed l) ≡ wordsFault (dateOf (getD l passed 0)) (valueAfter (getD l passed 0)) (drop (passed + 1) l)
+  unfolding wordsFault
+  no-fault d e = rw (add-one, drop-cons l passed 0 h, lt-leb _ _ d, e)
+
+pub done : (l : List ℕ) (passed last : ℕ) (before : Bool) → length l ≤ passed → wordsFault last before (drop passed l) ≡ 0
+unfolding wordsFault
+done l passed last before h = rw (drop-of-length-le l {i = passed} h)
+
+pub empty-1 : (l : List ℕ) → length l ≡ 0 → listFault l ≡ 1
+unfolding listFault
+empty-1 [] e = refl
+empty-1 (w ∷ ws) e = absurd (omega arith)
+
+pub long-1 : (l : List ℕ) → 256 < length l → listFault l ≡ 1
+unfolding listFault
+long-1 [] e = refl
+long-1 (w ∷ ws) e = rw (lt-ltb 256 (length (w ∷ ws)) e)
+
+pub head-2 : (l : List ℕ) → (length l ≡ 0 → ⊥) → length l ≤ 256 → 1 < getD l 0 0 → listFault l ≡ 2
+unfolding listFault
+head-2 [] n s h = absurd (n refl)
+head-2 (w ∷ ws) n s h = rw (le-ltb 256 (length (w ∷ ws)) s, lt-ltb 1 w h)
+
+pub words-3-4 : (l : List ℕ) → (length l ≡ 0 → ⊥) → length l ≤ 256 → getD l 0 0 ≤ 1 → listFault l ≡ wordsFault 0 (headValue (getD l 0 0)) (drop 1 l)
+unfolding listFault
+words-3-4 [] n s h = absurd (n refl)
+words-3-4 (w ∷ ws) n s h = rw (le-ltb 256 (length (w ∷ ws)) s, le-ltb 1 w h)

@@ -1,0 +1,2 @@
+-- What the calls on lists answer, and how words are read.
+pub mod Reading

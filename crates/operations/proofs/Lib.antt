@@ -1,0 +1,7 @@
+pub mod Emitting
+pub mod BuildingLaws
+pub mod Scanning
+pub mod Copying
+pub mod MergeCases
+pub mod MergeHeld
+pub mod MergeTurn

@@ -1,0 +1,53 @@
+-- Each operation on lists as a call: its faults in document 01's order, its exact answer, its output.
+use Prim.Native.Nat.{ℕ, _+_, max}
+use mathlib.Core.Bool.{Bool, true, false, cond, _||_}
+use mathlib.Core.List.{List, [], _∷_}
+use lib.Dec.{ltb, eqb}
+use lib.ListN.{length}
+use Rattle.signals.specs.Moment.{M}
+use Rattle.signals.specs.Signal.{Signal, Table, NOT, connective, rising, falling, SR, RS, TON, TOF}
+use Rattle.signals.specs.Words.{dateOf, listFault, signalOf, lastDate, listOf}
+
+-- the first of two faults that is one
+unfoldable pub firstOf : ℕ → ℕ → ℕ
+firstOf f g = cond (eqb f 0) g f
+
+-- a word of the list is dated after M
+unfoldable pub changesAfterM : List ℕ → Bool
+changesAfterM [] = false
+changesAfterM (w ∷ ws) = ltb M (dateOf w) || changesAfterM ws
+
+-- 5: the exact answer is over 256 words, those past M counted; 6: it changes after M; 7: the output, of n words, is shorter
+unfoldable pub answerFault : List ℕ → ℕ → ℕ
+answerFault exact n = cond (ltb 256 (length exact)) 5 (cond (changesAfterM exact) 6 (cond (ltb n (length exact)) 7 0))
+
+-- 8: the length is above M
+unfoldable pub lengthFault : ℕ → ℕ
+lengthFault d = cond (ltb M d) 8 0
+
+-- the lists' faults, first operand first
+unfoldable pub pairFault : List ℕ → List ℕ → ℕ
+pairFault a b = firstOf (listFault a) (listFault b)
+
+-- The exact answers: the normal list of the defined signal, to the date from which it is constant.
+unfoldable pub exactOfOne : (Signal → Signal) → List ℕ → List ℕ
+exactOfOne operation a = listOf (operation (signalOf a)) (lastDate a)
+
+unfoldable pub exactOfTwo : (Signal → Signal → Signal) → List ℕ → List ℕ → List ℕ
+exactOfTwo operation a b = listOf (operation (signalOf a) (signalOf b)) (max (lastDate a) (lastDate b))
+
+unfoldable pub exactOfDelay : (Signal → Signal) → ℕ → List ℕ → List ℕ
+exactOfDelay operation d a = listOf (operation (signalOf a)) (lastDate a + d)
+
+-- NOT, rising, falling: list, 5, 6, 7
+unfoldable pub faultOfOne : (Signal → Signal) → List ℕ → ℕ → ℕ
+faultOfOne operation a n = firstOf (listFault a) (answerFault (exactOfOne operation a) n)
+
+-- connectives, SR, RS: list, list, 5, 6, 7
+unfoldable pub faultOfTwo : (Signal → Signal → Signal) → List ℕ → List ℕ → ℕ → ℕ
+faultOfTwo operation a b n = firstOf (pairFault a b) (answerFault (exactOfTwo operation a b) n)
+
+-- TON, TOF: list, 8, 5, 6, 7
+unfoldable pub faultOfDelay : (Signal → Signal) → ℕ → List ℕ → ℕ → ℕ
+faultOfDelay operation d a n =
+    firstOf (listFault a) (firstOf (lengthFault d) (answerFault (exactOfDelay operation d a) n))

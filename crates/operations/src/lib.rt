@@ -1,0 +1,323 @@
+// Every operation of document 01 on lists.
+ghost use mathlib.Core.Path.{_≡_};
+ghost use mathlib.Core.List.{List, _++_};
+ghost use Prim.Native.Nat.{ℕ, _<_, _≤_, min, max};
+ghost use lib.ListN.{length, set, take, drop};
+ghost use mathlib.Core.Bool.{not, _&&_, _||_};
+ghost use Rattle.signals.specs.Signal.{num, cell};
+ghost use Rattle.signals.specs.LatchSteps.{atStep, gapStep, shown};
+ghost use Rattle.signals.specs.Words.{word, listFault, listOf, signalOf, lastDate};
+ghost use Rattle.signals.specs.Answers.{writtenOf, outputOf};
+ghost use Rattle.operations.specs.Calls.{answerFault};
+ghost use Rattle.operations.specs.Building.{idle, emitted, emittedIn, begun, Built};
+ghost use Rattle.operations.specs.Merging.{latchFirst, latchShown, firstShown, dateShown, merged};
+use lists::Step;
+use signals::Date;
+use signals::M;
+use signals::Written;
+
+// The answer being built in a slot: the value after its last word, its words counted, and whether one is dated after M.
+struct Made {
+    value: bool,
+    count: usize,
+    late: bool,
+}
+
+// Both values equal the value before.
+fn idle_word(before: bool, at: bool, after: bool) -> bool
+    ensures { λ r. ⌜ r ≡ idle before at after ⌝ }
+{
+    if before {
+        if at { after } else { false }
+    } else {
+        if at { false } else { !after }
+    }
+}
+
+// The word of a date and its two values.
+fn word_of(date: u32, at: bool, after: bool) -> u32
+    requires { ⌜ date ≤ 1073741823 ⌝ }
+    ensures { λ r. ⌜ r ≡ word date at after ⌝ }
+{
+    let w = 4 * date;
+    if at {
+        if after { w + 3 } else { w + 2 }
+    } else {
+        if after { w + 1 } else { w }
+    }
+}
+
+// A word of the given date and values, unless it changes nothing: counted always, stored while it is among the first
+// 256 and not dated after M.
+fn emit(slot: &mut [u32], made: Made, date: Date, at: bool, after: bool) -> Made
+    requires { ⌜ (256 ≤ length (now slot)) × (made .count < 4294967296) ⌝ }
+    ensures { λ r. ⌜ (r ≡ emitted made (date .0) at after) × (now (slot .exit) ≡ emittedIn (now (slot .entry)) made (date .0) at after) ⌝ }
+{
+    if idle_word(made.value, at, after) {
+        return made;
+    }
+    let count = made.count;
+    let on = date.0;
+    if made.late {
+        return Made {
+            value: after,
+            count: count + 1,
+            late: true,
+        };
+    }
+    if M < on {
+        return Made {
+            value: after,
+            count: count + 1,
+            late: true,
+        };
+    }
+    if count < 256 {
+        slot[count] = word_of(on, at, after);
+        return Made {
+            value: after,
+            count: count + 1,
+            late: false,
+        };
+    }
+    Made {
+        value: after,
+        count: count + 1,
+        late: false,
+    }
+}
+
+// The first word of an answer.
+fn begin(slot: &mut [u32], value: bool) -> Made
+    requires { ⌜ 256 ≤ length (now slot) ⌝ }
+    ensures { λ r. ⌜ (r ≡ begun value) × (now (slot .exit) ≡ set (now (slot .entry)) 0 (num value)) ⌝ }
+{
+    if value {
+        slot[0] = 1;
+    } else {
+        slot[0] = 0;
+    }
+    Made {
+        value,
+        count: 1,
+        late: false,
+    }
+}
+
+// The first count words of a slot, copied to the output.
+fn copy_words(slot: &[u32], count: usize, out: &mut [u32])
+    requires { ⌜ (count ≤ length (now slot)) × (count ≤ length (now out)) ⌝ }
+    ensures { λ r. ⌜ now (out .exit) ≡ take count (now (slot .entry)) ++ drop count (now (out .entry)) ⌝ }
+{
+    let mut i: usize = 0;
+    while i < count {
+        out[i] = slot[i];
+        i += 1;
+    }
+}
+
+// The answer in a slot, judged (5, 6, 7) and handed over.
+fn deliver(slot: &[u32], made: Made, out: &mut [u32]) -> Written
+    requires { ⌜ 256 ≤ length (now slot) ⌝ }
+    ensures { λ r. ⌜ ((exact old : List ℕ) → Built exact old (now (slot .entry)) made → (r ≡ writtenOf (answerFault exact (length (now (out .entry)))) exact) × (now (out .exit) ≡ outputOf (answerFault exact (length (now (out .entry)))) exact (now (out .entry)))) ⌝ }
+{
+    let count = made.count;
+    if 256 < count {
+        return Written::Refused(5);
+    }
+    if made.late {
+        return Written::Refused(6);
+    }
+    if out.len() < count {
+        return Written::Refused(7);
+    }
+    copy_words(slot, count, out);
+    Written::Count(count)
+}
+
+// What the merge of two lists builds: a connective by its table, an edge of the first, or a latch.
+enum Operation {
+    Connective,
+    Rising,
+    Falling,
+    SetWins,
+    ResetWins,
+}
+
+// What a date shows of the merge: its value at the date and after it, and the bit that a latch carries on.
+struct Shown {
+    at: bool,
+    after: bool,
+    carried: bool,
+}
+
+fn index(v: bool) -> usize
+    ensures { λ r. ⌜ r ≡ num v ⌝ }
+{
+    if v { 1 } else { 0 }
+}
+
+// Row by the first operand, column by the second.
+fn cell_of(table: [[bool; 2]; 2], p: bool, q: bool) -> bool
+    ensures { λ r. ⌜ r ≡ cell table p q ⌝ }
+{
+    let row = index(p);
+    let column = index(q);
+    table[row][column]
+}
+
+fn both(a: bool, b: bool) -> bool
+    ensures { λ r. ⌜ r ≡ (a && b) ⌝ }
+{
+    if a { b } else { false }
+}
+
+fn either(a: bool, b: bool) -> bool
+    ensures { λ r. ⌜ r ≡ (a || b) ⌝ }
+{
+    if a { true } else { b }
+}
+
+fn inverse(a: bool) -> bool
+    ensures { λ r. ⌜ r ≡ not a ⌝ }
+{
+    !a
+}
+
+// A latch at an instant, from the bit carried in the gap before.
+fn latch_at(set_wins: bool, s: bool, r: bool, q: bool) -> bool
+    ensures { λ v. ⌜ v ≡ atStep «set_wins» s r q ⌝ }
+{
+    if set_wins {
+        either(s, both(q, inverse(r)))
+    } else {
+        both(inverse(r), either(s, q))
+    }
+}
+
+// The bit carried in a gap, from the latch at the instant before.
+fn carry(s: bool, r: bool, at: bool) -> bool
+    ensures { λ v. ⌜ v ≡ gapStep s r at ⌝ }
+{
+    both(inverse(r), either(s, at))
+}
+
+// What a gap shows of the bit carried in it.
+fn latch_in(set_wins: bool, s: bool, q: bool) -> bool
+    ensures { λ v. ⌜ v ≡ shown «set_wins» s q ⌝ }
+{
+    if set_wins { either(s, q) } else { q }
+}
+
+fn latch_date(set_wins: bool, q: bool, p: Step, r: Step) -> Shown
+    ensures { λ v. ⌜ v ≡ latchShown «set_wins» q (p .at) (p .after) (r .at) (r .after) ⌝ }
+{
+    let at = latch_at(set_wins, p.at, r.at, q);
+    let carried = carry(p.after, r.after, at);
+    Shown {
+        at,
+        after: latch_in(set_wins, p.after, carried),
+        carried,
+    }
+}
+
+fn latch_first(set_wins: bool, s: bool, r: bool) -> Shown
+    ensures { λ v. ⌜ v ≡ latchFirst «set_wins» s r ⌝ }
+{
+    let carried = carry(s, r, false);
+    Shown {
+        at: false,
+        after: latch_in(set_wins, s, carried),
+        carried,
+    }
+}
+
+// What gap 0 shows, from the values there.
+fn first_shown(operation: Operation, table: [[bool; 2]; 2], p: bool, q: bool) -> Shown
+    ensures { λ v. ⌜ v ≡ firstShown operation table p q ⌝ }
+{
+    match operation {
+        Operation::Connective => Shown {
+            at: false,
+            after: cell_of(table, p, q),
+            carried: false,
+        },
+        Operation::Rising => Shown {
+            at: false,
+            after: false,
+            carried: false,
+        },
+        Operation::Falling => Shown {
+            at: false,
+            after: false,
+            carried: false,
+        },
+        Operation::SetWins => latch_first(true, p, q),
+        Operation::ResetWins => latch_first(false, p, q),
+    }
+}
+
+// What a date shows, from the bit carried before it and what passing it found of both operands.
+fn date_shown(operation: Operation, table: [[bool; 2]; 2], carried: bool, p: Step, q: Step) -> Shown
+    ensures { λ v. ⌜ v ≡ dateShown operation table carried (p .before) (p .at) (p .after) (q .at) (q .after) ⌝ }
+{
+    match operation {
+        Operation::Connective => Shown {
+            at: cell_of(table, p.at, q.at),
+            after: cell_of(table, p.after, q.after),
+            carried: false,
+        },
+        Operation::Rising => Shown {
+            at: both(p.at, inverse(p.before)),
+            after: false,
+            carried: false,
+        },
+        Operation::Falling => Shown {
+            at: both(inverse(p.at), p.before),
+            after: false,
+            carried: false,
+        },
+        Operation::SetWins => latch_date(true, carried, p, q),
+        Operation::ResetWins => latch_date(false, carried, p, q),
+    }
+}
+
+fn earlier(a: Date, b: Date) -> Date
+    ensures { λ r. ⌜ r .0 ≡ min (a .0) (b .0) ⌝ }
+{
+    if a.0 < b.0 { a } else { b }
+}
+
+// The merge of two accepted lists: date by date, what the operation makes of both.
+fn merge(
+    operation: Operation,
+    table: [[bool; 2]; 2],
+    a: &[u32],
+    b: &[u32],
+    slot: &mut [u32],
+) -> Made
+    requires { ⌜ (listFault (now a) ≡ 0) × (listFault (now b) ≡ 0) × (256 ≤ length (now slot)) ⌝ }
+    ensures { λ r. ⌜ Built (listOf (merged operation table (signalOf (now (a .entry))) (signalOf (now (b .entry)))) (max (lastDate (now (a .entry))) (lastDate (now (b .entry))))) (now (slot .entry)) (now (slot .exit)) r ⌝ }
+{
+    let first = first_shown(
+        operation,
+        table,
+        lists::held_value(a, 1),
+        lists::held_value(b, 1),
+    );
+    let mut made = begin(slot, first.after);
+    let mut carried = first.carried;
+    let mut i: usize = 1;
+    let mut j: usize = 1;
+    while i + j < a.len() + b.len() {
+        let date = earlier(lists::next_date(a, i), lists::next_date(b, j));
+        let p = lists::past(a, i, date);
+        let q = lists::past(b, j, date);
+        let shown = date_shown(operation, table, carried, p, q);
+        made = emit(slot, made, date, shown.at, shown.after);
+        carried = shown.carried;
+        i = p.passed;
+        j = q.passed;
+    }
+    made
+}
