@@ -1,3 +1,8 @@
 -- Laws that the proofs of the functions cite, and the theorems about sheets.
 pub mod Truth
 pub mod Steps
+pub mod Walking
+pub mod Judging
+pub mod Locating
+pub mod Placing
+pub mod Filling

@@ -4,3 +4,4 @@ pub mod Bytes
 pub mod Reading
 pub mod Writing
 pub mod Calls
+pub mod Walk
