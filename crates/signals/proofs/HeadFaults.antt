@@ -9,18 +9,18 @@ use lib.Dec.{ltb}
 use lib.ListN.{length}
 use borrow.Author.Tests.{lt-ltb, ltb-true, ltb-false}
 use Rattle.signals.specs.ListFaults.{Breaks1, Breaks2}
-use Rattle.signals.proofs.WordFaults.{is-false}
+use Rattle.signals.proofs.Truth.{down-of}
 
 -- the tests of the first word and of the length
 pub not-long : (h : ℕ) (ws : List ℕ) → (¬ Breaks1 (h ∷ ws)) → ltb 256 (length (h ∷ ws)) ≡ false
-not-long h ws n = is-false (ltb 256 (length (h ∷ ws))) (λ t. n (inr (ltb-true 256 (length (h ∷ ws)) t)))
+not-long h ws n = down-of (ltb 256 (length (h ∷ ws))) (λ t. n (inr (ltb-true 256 (length (h ∷ ws)) t)))
 
 pub long-test : (h : ℕ) (ws : List ℕ) → Breaks1 (h ∷ ws) → ltb 256 (length (h ∷ ws)) ≡ true
 long-test h ws (inl e) = absurd (omega arith)
 long-test h ws (inr l) = lt-ltb 256 (length (h ∷ ws)) l
 
 pub not-high : (h : ℕ) (ws : List ℕ) → (¬ Breaks2 (h ∷ ws)) → ltb 1 h ≡ false
-not-high h ws n = is-false (ltb 1 h) (λ t. n (ltb-true 1 h t))
+not-high h ws n = down-of (ltb 1 h) (λ t. n (ltb-true 1 h t))
 
 -- the parts of the two statements that 1 and 2 share: r is the fault of the words after the first
 abbrev pub headFault : ℕ → List ℕ → ℕ → ℕ

@@ -70,6 +70,13 @@ scan-to s m k d v a b h le =
     let left : k + (m - k) - d ≡ m - d = omega (arith, h .later) in
     rw (← left) (scan-step s (m - k) k d v a b h (omega (arith, h .later)))
 
+-- the list is the first word and the scan from date 0
+pub listOf-scan : (s : Signal) (m : ℕ) → listOf s m ≡ num (s 0) ∷ wordsOf s 0 (m - 0)
+unfolding listOf
+listOf-scan s m =
+    let e : m - 0 ≡ m = omega arith in
+    rw e
+
 -- (b) a settled signal gives no more words
 pub scan-settled : (s : Signal) (n k : ℕ) (v : Bool) → ((t : ℕ) → gap k ≤ t → s t ≡ v) → wordsOf s k n ≡ []
 unfolding wordsOf

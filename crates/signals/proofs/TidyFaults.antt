@@ -9,7 +9,8 @@ use lib.Dec.{leb}
 use borrow.Author.Tests.{lt-ltb, le-leb, leb-true, leb-false}
 use Rattle.signals.specs.Words.{dateOf, datesFault, tidyFault}
 use Rattle.signals.specs.ListFaults.{Breaks1, Breaks2, Breaks3, TidyFaultsExact}
-use Rattle.signals.proofs.WordFaults.{Low, is-false, low-of, of-low}
+use Rattle.signals.proofs.Truth.{down-of}
+use Rattle.signals.proofs.WordFaults.{Low, low-of, of-low}
 use Rattle.signals.proofs.HeadFaults.{not-long, long-test, headFault, past-head, Head, long, high, past, head-ways}
 
 -- what the fault of the dates says of the words after the first
@@ -45,7 +46,7 @@ unfolding datesFault
 gives-0 k [] h = refl
 gives-0 k (w ∷ ws) h =
     rw
-    (is-false (leb (dateOf w) k) (λ t. h 0 (omega arith, leb-true (dateOf w) k t)))
+    (down-of (leb (dateOf w) k) (λ t. h 0 (omega arith, leb-true (dateOf w) k t)))
     (gives-0 (dateOf w) ws (λ i b. h (suc i) (omega (arith, b .0), b .1)))
 
 gives-3 : (k : ℕ) (ws : List ℕ) (i : ℕ) → Low k ws i → datesFault k ws ≡ 3

@@ -9,6 +9,7 @@ use lib.ListN.{length, getD}
 use borrow.Author.Tests.{le-leb, leb-true, leb-false}
 use Rattle.signals.specs.Words.{dateOf, valueAt, valueAfter, headValue, changesNothing, wordsFault}
 use Rattle.signals.specs.ListFaults.{Breaks3, Breaks4, dateBefore, valueBefore, SoundBefore}
+use Rattle.signals.proofs.Truth.{down-of}
 use Rattle.signals.proofs.Normal.{same-values}
 
 -- the date and the value before word i of the words ws, with k and v before them
@@ -75,15 +76,11 @@ pub idle-test : (v : Bool) (w : ℕ) → valueAt w ≡ v → valueAfter w ≡ v 
 unfolding changesNothing
 idle-test v w a b = rw (a, b) (idle v)
 
-pub is-false : (b : Bool) → (b ≡ true → ⊥) → b ≡ false
-is-false true h = absurd (h refl)
-is-false false h = refl
-
 pub tests-fine : (k : ℕ) (v : Bool) (w : ℕ) (ws : List ℕ) → Fine k v (w ∷ ws) 0 → (leb (dateOf w) k ≡ false) × (changesNothing v w ≡ false)
 unfolding changesNothing
 tests-fine k v w ws f = (
-  is-false (leb (dateOf w) k) (λ t. f .0 (omega arith, leb-true (dateOf w) k t)),
-  is-false
+  down-of (leb (dateOf w) k) (λ t. f .0 (omega arith, leb-true (dateOf w) k t)),
+  down-of
       (changesNothing v w)
       (λ t.
       let e = same-values (valueAt w) (valueAfter w) v t in
@@ -135,7 +132,7 @@ pub gives-4 : (k : ℕ) (v : Bool) (ws : List ℕ) (i : ℕ) → Idle v ws i →
 unfolding wordsFault
 gives-4 k v [] i h b f = absurd (omega (arith, h .0))
 gives-4 k v (w ∷ ws) zero h b f =
-    rw (is-false (leb (dateOf w) k) (λ t. b (omega arith, leb-true (dateOf w) k t)), idle-test v w (h .1) (h .2))
+    rw (down-of (leb (dateOf w) k) (λ t. b (omega arith, leb-true (dateOf w) k t)), idle-test v w (h .1) (h .2))
 gives-4 k v (w ∷ ws) (suc i) h b f =
     skip-fine k v w ws (f 0 (omega arith)) ∙
     gives-4
@@ -148,11 +145,11 @@ gives-4 k v (w ∷ ws) (suc i) h b f =
     (λ j l. fine-tail k v w ws j (f (suc j) (omega arith)))
 
 -- from the words after the first to the list
-pub prior-date : (k w : ℕ) (ws : List ℕ) (i : ℕ) → i < suc (length ws) → priorDate (dateOf w) ws i ≡ dateOf (getD (w ∷ ws) i 0)
-prior-date k w [] zero l = refl
-prior-date k w (x ∷ ws) zero l = refl
-prior-date k w [] (suc i) l = absurd (omega arith)
-prior-date k w (x ∷ ws) (suc i) l = prior-date k x ws i (omega arith)
+pub prior-date : (w : ℕ) (ws : List ℕ) (i : ℕ) → i < suc (length ws) → priorDate (dateOf w) ws i ≡ dateOf (getD (w ∷ ws) i 0)
+prior-date w [] zero l = refl
+prior-date w (x ∷ ws) zero l = refl
+prior-date w [] (suc i) l = absurd (omega arith)
+prior-date w (x ∷ ws) (suc i) l = prior-date x ws i (omega arith)
 
 pub prior-value : (w : ℕ) (ws : List ℕ) (i : ℕ) → i < suc (length ws) → priorValue (valueAfter w) ws i ≡ valueAfter (getD (w ∷ ws) i 0)
 prior-value w [] zero l = refl
@@ -163,7 +160,7 @@ prior-value w (x ∷ ws) (suc i) l = prior-value x ws i (omega arith)
 pub date-before : (h : ℕ) (ws : List ℕ) (i : ℕ) → i < length ws → dateBefore (h ∷ ws) (suc i) ≡ priorDate 0 ws i
 date-before h [] i l = absurd (omega arith)
 date-before h (w ∷ ws) zero l = refl
-date-before h (w ∷ ws) (suc i) l = sym (prior-date 0 w ws i (omega arith))
+date-before h (w ∷ ws) (suc i) l = sym (prior-date w ws i (omega arith))
 
 pub value-before : (h : ℕ) (ws : List ℕ) (i : ℕ) → i < length ws → valueBefore (h ∷ ws) (suc i) ≡ priorValue (headValue h) ws i
 value-before h [] i l = absurd (omega arith)
