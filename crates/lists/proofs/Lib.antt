@@ -1,2 +1,4 @@
 pub mod Judging
 pub mod ReadingFacts
+pub mod Searching
+pub mod Telling

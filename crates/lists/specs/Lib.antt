@@ -1,2 +1,3 @@
 -- What the calls on lists answer, and how words are read.
 pub mod Reading
+pub mod Questions

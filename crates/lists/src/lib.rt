@@ -4,8 +4,13 @@ ghost use Prim.Native.Nat.{_<_, _≤_, _-_};
 ghost use lib.ListN.{length, getD, drop};
 ghost use Rattle.signals.specs.Words.{headValue, changesNothing, wordsFault, listFault};
 ghost use Rattle.signals.specs.Passing.{heldValue};
+ghost use Rattle.signals.specs.Moment.{gap, instant};
+ghost use Rattle.signals.specs.Words.{signalOf};
 ghost use Rattle.lists.specs.Reading.{nextDate, stepPast};
+ghost use Rattle.lists.specs.Questions.{datedBy, toldValue, valueAtOf, valueInOf};
 use signals::Date;
+use signals::M;
+use signals::Told;
 
 // The date where no word is left: above every sum of a date and a length.
 pub const NEVER: u32 = 4294967295;
@@ -116,4 +121,58 @@ pub fn list_fault(list: &[u32]) -> u32
         return 2;
     }
     words_fault(list)
+}
+
+// Along an accepted list up to a date: the words dated at or before it are passed.
+fn search(words: &[u32], date: Date) -> Step
+    requires { ⌜ listFault (now words) ≡ 0 ⌝ }
+    ensures { λ r. ⌜ (r .passed ≡ datedBy (date .0) (now (words .entry))) × (r .at ≡ signalOf (now (words .entry)) (instant (date .0))) × (r .after ≡ signalOf (now (words .entry)) (gap (date .0))) ⌝ }
+{
+    let mut passed: usize = 1;
+    let mut next = next_date(words, passed);
+    while next.0 < date.0 {
+        let step = past(words, passed, next);
+        passed = step.passed;
+        next = next_date(words, passed);
+    }
+    past(words, passed, date)
+}
+
+fn told(value: bool) -> Told
+    ensures { λ r. ⌜ r ≡ toldValue value ⌝ }
+{
+    if value { Told::Yes } else { Told::No }
+}
+
+// The value at the instant k.
+pub fn value_at(list: &[u32], k: u32) -> Told
+    ensures { λ r. ⌜ r ≡ valueAtOf (now (list .entry)) k ⌝ }
+{
+    let fault = list_fault(list);
+    if fault != 0 {
+        return Told::Refused(fault);
+    }
+    if k == 0 {
+        return Told::Refused(9);
+    }
+    if M < k {
+        return Told::Refused(9);
+    }
+    let step = search(list, Date(k));
+    told(step.at)
+}
+
+// The value in the gap k.
+pub fn value_in(list: &[u32], k: u32) -> Told
+    ensures { λ r. ⌜ r ≡ valueInOf (now (list .entry)) k ⌝ }
+{
+    let fault = list_fault(list);
+    if fault != 0 {
+        return Told::Refused(fault);
+    }
+    if M < k {
+        return Told::Refused(9);
+    }
+    let step = search(list, Date(k));
+    told(step.after)
 }
