@@ -1,0 +1,4 @@
+-- Lemmas of the evaluator.
+pub mod SlotFacts
+pub mod Exact
+pub mod Tracing

@@ -1,0 +1,95 @@
+-- Working a formula's parts out on a stack of lists, each in a slot of 256 words of the work area.
+use Prim.Native.Nat.{ℕ, _+_, _*_, _-_, _≤_}
+use mathlib.Core.Path.{_≡_}
+use mathlib.Core.Bool.{Bool, true, false, cond, _&&_}
+use mathlib.Core.List.{List, [], _∷_}
+use lib.ListN.{length, take, drop, getD, set}
+use Rattle.signals.specs.Moment.{M}
+use Rattle.signals.specs.Signal.{Table, tableOf, NOT, rising, falling, SR, RS, TON, TOF, connective}
+use Rattle.signals.specs.Words.{listFault}
+use Rattle.operations.specs.Calls.{exactOfOne, exactOfTwo, exactOfDelay}
+use Rattle.formulas.specs.Tree.{Tree, Leaf, Unary, Binary, leaf, unary, binary, down, up, name, invert, rise, fall, ton, tof, and, or, sr, rs}
+use Rattle.formulas.specs.Code.{Part, operand, one, two, ticksOf, top}
+use Rattle.sheets.specs.Names.{wellNamed, among}
+use Rattle.sheets.specs.Reading.{signalsOn, names}
+use Rattle.calls.specs.OnSheet.{exactOn, leafFound}
+use Rattle.calls.specs.Calls.{partFault}
+use Rattle.evaluation.specs.declared.Next.{Next}
+
+-- one part worked out
+abbrev pub worked : Part → List Tree → List Tree
+worked (operand l) st = leaf l ∷ st
+worked (one o) [] = []
+worked (one o) (t ∷ st) = unary o t ∷ st
+worked (two o) [] = []
+worked (two o) (u ∷ []) = []
+worked (two o) (u ∷ t ∷ st) = binary o t u ∷ st
+
+-- the stack has the part's operands
+abbrev pub Enough : Part → List Tree → Type 0
+Enough (operand l) st = Unit {0}
+Enough (one o) [] = ⊥
+Enough (one o) (t ∷ st) = Unit {0}
+Enough (two o) [] = ⊥
+Enough (two o) (u ∷ []) = ⊥
+Enough (two o) (u ∷ t ∷ st) = Unit {0}
+
+-- a timer's length is at most M; a name is one, and the sheet has it
+abbrev pub leafKnown : List ℕ → Leaf → Type 0
+leafKnown sheet down = Unit {0}
+leafKnown sheet up = Unit {0}
+leafKnown sheet (name n) = (wellNamed n ≡ true) × (among n (names (signalsOn sheet)) ≡ true)
+
+abbrev pub Known : List ℕ → Part → Type 0
+Known sheet (operand l) = leafKnown sheet l
+Known sheet (one o) = ticksOf o ≤ M
+Known sheet (two o) = Unit {0}
+
+-- the list stands at the front of a slot
+pub record InSlot (work : List ℕ) (slot count : ℕ) (l : List ℕ) : Type 0 where
+  pub long : count ≡ length l
+  pub stands : take count (drop (256 * slot) work) ≡ l
+  pub accepted : listFault l ≡ 0
+
+-- the stack's lists stand in the slots from base on, the last one topmost
+abbrev pub Stacked : List ℕ → List ℕ → List ℕ → ℕ → List Tree → Type 0
+Stacked sheet work counts base [] = Unit {0}
+Stacked sheet work counts base (t ∷ st) =
+    InSlot work (base + length st) (getD counts (length st) 0) (exactOn sheet t) × Stacked sheet work counts base st
+
+-- what a step says: the part's fault, and without one the stack after it
+pub record Stepped (sheet work counts : List ℕ) (base : ℕ) (p : Part) (st : List Tree) (next : Next) : Type 0 where
+  pub fault-is : next .fault ≡ partFault (exactOn sheet (top (worked p st)))
+  pub height-is : next .fault ≡ 0 → next .height ≡ length (worked p st)
+  pub small : next .count ≤ 256
+  pub stacked : next .fault ≡ 0 → Stacked sheet work (set counts (next .height - 1) (next .count)) base (worked p st)
+
+-- the exact answers of the operators, from their operands' lists
+abbrev pub unaryExact : Unary → List ℕ → List ℕ
+unaryExact invert l = exactOfOne NOT l
+unaryExact rise l = exactOfOne rising l
+unaryExact fall l = exactOfOne falling l
+unaryExact (ton d) l = exactOfDelay (TON d) d l
+unaryExact (tof d) l = exactOfDelay (TOF d) d l
+
+abbrev pub AND-table : Table
+AND-table = tableOf _&&_
+
+abbrev pub OR-table : Table
+OR-table = (false ∷ true ∷ []) ∷ (true ∷ true ∷ []) ∷ []
+
+abbrev pub binaryExact : Binary → List ℕ → List ℕ → List ℕ
+binaryExact and l m = exactOfTwo (connective AND-table) l m
+binaryExact or l m = exactOfTwo (connective OR-table) l m
+binaryExact sr l m = exactOfTwo SR l m
+binaryExact rs l m = exactOfTwo RS l m
+
+-- the trees that parts make, one after the other
+unfoldable pub trace : List Part → List Tree → List Tree
+trace [] st = []
+trace (p ∷ ps) st = top (worked p st) ∷ trace ps (worked p st)
+
+-- all the parts
+abbrev pub AllKnown : List ℕ → List Part → Type 0
+AllKnown sheet [] = Unit {0}
+AllKnown sheet (p ∷ ps) = Known sheet p × AllKnown sheet ps
