@@ -9,3 +9,9 @@ pub mod WordFacts
 pub mod Scan
 pub mod Operand
 pub mod Normal
+pub mod Settling
+pub mod WordFaults
+pub mod HeadFaults
+pub mod ListFaults
+pub mod TidyFaults
+pub mod Tidying

@@ -1,21 +1,21 @@
 -- A signal that settles has one normal list, which denotes it; a normal list is read back from the signal it denotes.
-use Prim.Native.Nat.{ℕ, zero, suc, _+_, _*_, _-_, _≤_, _<_, max}
+use Prim.Native.Nat.{ℕ, zero, suc, _+_, _-_, _≤_, _<_, max}
 use mathlib.Core.Bool.{Bool, true, false, cond, Bool·beq, _&&_, false≢true}
-use mathlib.Core.List.{List, [], _∷_, _++_}
+use mathlib.Core.List.{List, [], _∷_}
 use mathlib.Core.Logic.{_↔_}
 use mathlib.Core.Path.{_≡_, refl, sym, _∙_, ap}
 use native.Mathlib.Omega.{arith}
-use native.Mathlib.Decide.{ℕ-discrete, decLt}
-use lib.Dec.{leb, ltb, eqb}
-use borrow.Author.Tests.{lt-ltb, le-ltb, lt-leb, le-leb, leb-true, leb-false, ltb-true, ltb-false}
+use native.Mathlib.Decide.{ℕ-discrete}
+use lib.Dec.{leb, ltb}
+use borrow.Author.Tests.{lt-leb, leb-false, ltb-true, ltb-false}
 use lib.ListN.{length, getD}
 use Rattle.signals.specs.Moment.{gap, instant}
-use Rattle.signals.specs.Signal.{Signal, num}
+use Rattle.signals.specs.Signal.{Signal}
 use Rattle.signals.specs.Words.{word, dateOf, valueAt, valueAfter, headValue, changesNothing, wordsFault, listFault, valueFrom, signalOf, lastFrom, lastDate, wordsOf, listOf}
-use Rattle.signals.specs.Settled.{SettledFrom, Same, entry}
-use Rattle.signals.specs.Normal.{Normal, Accepted, Rising, AcceptedNormal, Unique, UniqueAccepted, ListOf, ListOfSignal, Reread, ReadBack}
-use Rattle.signals.proofs.WordFacts.{dateOf-word, valueAt-word, valueAfter-word, word-of, head-value, num-le, headValue-num, num-headValue}
-use Rattle.signals.proofs.Scan.{Held, scan-to, scan-settled, scan-more, listOf-more, listOf-ext}
+use Rattle.signals.specs.Settled.{SettledFrom, entry}
+use Rattle.signals.specs.Normal.{Normal, Accepted, Rising, AcceptedNormal, Unique, UniqueAccepted, ListOfSignal, ReadBack}
+use Rattle.signals.proofs.WordFacts.{dateOf-word, valueAt-word, valueAfter-word, word-of, num-le, headValue-num, num-headValue}
+use Rattle.signals.proofs.Scan.{scan-to, scan-settled, listOf-more, listOf-ext}
 use Rattle.signals.proofs.Operand.{Ahead, At, at-start, pass-word, words-rise, value-none, value-before, value-at, value-after, value-held}
 
 -- the last date lies at or above the date before

@@ -1,20 +1,20 @@
 -- An operand ahead of a date: the value held, the words left, and what passing the next date tells.
-use Prim.Native.Nat.{ℕ, zero, suc, _+_, _*_, _-_, _≤_, _<_}
-use mathlib.Core.Bool.{Bool, true, false, cond, _&&_, false≢true}
-use mathlib.Core.List.{List, [], _∷_, _++_}
-use mathlib.Core.Path.{_≡_, refl, sym, _∙_, ap}
+use Prim.Native.Nat.{ℕ, _+_, _-_, _≤_, _<_}
+use mathlib.Core.Bool.{Bool, true, false, cond, _&&_}
+use mathlib.Core.List.{List, [], _∷_}
+use mathlib.Core.Path.{_≡_, refl, _∙_}
 use native.Mathlib.Omega.{arith}
 use native.Mathlib.Numerals.{add-one}
 use lib.Dec.{leb, ltb, eqb}
-use borrow.Author.Tests.{lt-ltb, le-ltb, eq-eqb, ne-eqb, ltb-true, ltb-false, eqb-true, eqb-false, leb-true, leb-false}
+use borrow.Author.Tests.{lt-ltb, le-ltb, eq-eqb, ne-eqb, ltb-true, ltb-false, eqb-true, eqb-false, leb-false}
 use lib.ListN.{length, getD, drop, drop-of-length-le}
 use lib.Seq.{drop-cons}
 use Rattle.signals.specs.Moment.{gap, instant}
-use Rattle.signals.specs.Signal.{Signal, num}
-use Rattle.signals.specs.Words.{dateOf, valueAt, valueAfter, headValue, wordsFault, datesFault, valueFrom, signalOf, lastFrom, changesNothing}
+use Rattle.signals.specs.Signal.{Signal}
+use Rattle.signals.specs.Words.{dateOf, valueAt, valueAfter, wordsFault, datesFault, valueFrom, signalOf, changesNothing}
 use Rattle.signals.specs.Passing.{heldValue, isNext, atDate, afterDate, passedDate}
-use Rattle.signals.specs.Settled.{SettledFrom}
-use Rattle.signals.specs.Normal.{Normal, Rising}
+use Rattle.signals.specs.Normal.{Rising}
+use Rattle.signals.proofs.Truth.{and-left, and-right}
 use Rattle.signals.proofs.Scan.{Held}
 use Rattle.signals.proofs.WordFacts.{head-value}
 
@@ -167,10 +167,6 @@ at-take f l p k a h =
     let step = pass-word f k (heldValue l p) (getD l p 0) (drop (p + 1) l) ahead in
     (step .0, record { one = omega arith; within = omega arith; ahead = rw (held-next l p) (step .1) })
 
-and-true : (a b : Bool) → a && b ≡ true → (a ≡ true) × (b ≡ true)
-and-true true b h = (refl, h)
-and-true false b h = absurd (false≢true h)
-
 -- the step: passing date e, not above the next word's date
 pub record Passed (f : Signal) (l : List ℕ) (p k e : ℕ) : Type 0 where
   pub held : Held f k e (heldValue l p) (atDate l p e) (afterDate l p e)
@@ -182,8 +178,9 @@ at-pass f l p k e a later le = go (isNext l p e) refl
   where
     go : (t : Bool) → isNext l p e ≡ t → Passed f l p k e
     go true q =
-        let parts = and-true (ltb p (length l)) (eqb (dateOf (getD l p 0)) e) q in
-        let step = rw (eqb-true (dateOf (getD l p 0)) e (parts .1)) at (at-take f l p k a (ltb-true p (length l) (parts .0))) in
+        let left = and-left (ltb p (length l)) (eqb (dateOf (getD l p 0)) e) q in
+        let date = and-right (ltb p (length l)) (eqb (dateOf (getD l p 0)) e) q in
+        let step = rw (eqb-true (dateOf (getD l p 0)) e date) at (at-take f l p k a (ltb-true p (length l) left)) in
         record { held = rw q (step .0); on = rw q (step .1) }
     go false q =
         let before : p < length l → e < dateOf (getD l p 0) =

@@ -1,5 +1,5 @@
 -- The words of a signal, date by date: what a stretch without change, a settled end and an equal signal do to them.
-use Prim.Native.Nat.{ℕ, zero, suc, _+_, _*_, _-_, _≤_, _<_}
+use Prim.Native.Nat.{ℕ, zero, suc, _+_, _-_, _≤_, _<_}
 use mathlib.Core.Bool.{Bool, true, false, cond, Bool·beq, _&&_}
 use mathlib.Core.List.{List, [], _∷_, _++_}
 use mathlib.Core.Path.{_≡_, refl, sym, _∙_, ap}
@@ -69,6 +69,13 @@ pub scan-to : (s : Signal) (m k d : ℕ) (v a b : Bool) → Held s k d v a b →
 scan-to s m k d v a b h le =
     let left : k + (m - k) - d ≡ m - d = omega (arith, h .later) in
     rw (← left) (scan-step s (m - k) k d v a b h (omega (arith, h .later)))
+
+-- the list is the first word and the scan from date 0
+pub listOf-scan : (s : Signal) (m : ℕ) → listOf s m ≡ num (s 0) ∷ wordsOf s 0 (m - 0)
+unfolding listOf
+listOf-scan s m =
+    let e : m - 0 ≡ m = omega arith in
+    rw e
 
 -- (b) a settled signal gives no more words
 pub scan-settled : (s : Signal) (n k : ℕ) (v : Bool) → ((t : ℕ) → gap k ≤ t → s t ≡ v) → wordsOf s k n ≡ []

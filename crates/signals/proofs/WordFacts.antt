@@ -1,13 +1,13 @@
 -- A word, its date and its two values determine each other.
-use Prim.Native.Nat.{ℕ, zero, suc, _+_, _*_, _-_, _/_, _%_, _≤_, _<_, _^_}
-use mathlib.Core.Bool.{Bool, true, false, cond, Bool·beq, _&&_}
-use mathlib.Core.Path.{_≡_, refl, sym, _∙_, ap}
+use Prim.Native.Nat.{ℕ, zero, suc, _+_, _*_, _/_, _%_, _≤_, _<_, _^_}
+use mathlib.Core.Bool.{Bool, true, false}
+use mathlib.Core.Path.{_≡_, refl}
 use native.Mathlib.Omega.{arith}
-use lib.Dec.{leb, ltb, eqb}
-use borrow.Author.Tests.{eq-eqb, ne-eqb, eqb-true, eqb-false}
+use lib.Dec.{eqb}
+use borrow.Author.Tests.{eq-eqb, ne-eqb}
 use Rattle.signals.specs.Moment.{M}
 use Rattle.signals.specs.Signal.{num}
-use Rattle.signals.specs.Words.{word, dateOf, valueAt, valueAfter, headValue, changesNothing}
+use Rattle.signals.specs.Words.{word, dateOf, valueAt, valueAfter, headValue}
 
 pub dateOf-word : (d : ℕ) (a b : Bool) → dateOf (word d a b) ≡ d
 unfolding word dateOf

@@ -11,3 +11,6 @@ pub mod LatchSteps
 pub mod Settled
 pub mod Normal
 pub mod Passing
+pub mod Settling
+pub mod ListFaults
+pub mod Tidying
