@@ -1,13 +1,13 @@
 -- The operations that compute agree with their sentences. For each: `-up` reads the sentence off, `-of` makes the signal up from it.
-use Prim.Native.Nat.{ℕ, zero, suc, _+_, _*_, _-_, _%_, _≤_, _<_}
+use Prim.Native.Nat.{ℕ, _+_, _*_, _≤_, _<_}
 use native.Mathlib.Omega.{arith}
-use mathlib.Core.Path.{_≡_, refl, sym, _∙_, ap}
-use mathlib.Core.Logic.{_⊎_, inl, inr, ⊎-elim}
-use mathlib.Core.Bool.{Bool, true, false, not, _&&_, _||_}
+use mathlib.Core.Path.{_≡_, refl}
+use mathlib.Core.Logic.{inl, inr, ⊎-elim}
+use mathlib.Core.Bool.{Bool, true, false, not, _&&_}
 use lib.Dec.{leb}
 use borrow.Author.Tests.{leb-true, leb-false, le-leb}
 use Rattle.signals.specs.Moment.{isGap, justBefore, opens, inOpen, inClosed, started, fromTo}
-use Rattle.signals.specs.Signal.{Signal, Table, cell, implied, some, every, NOT, connective, AND, OR, rising, falling, SR, RS, TON, TOF}
+use Rattle.signals.specs.Signal.{Signal, Table, implied, some, every, NOT, connective, AND, OR, rising, falling, SR, RS, TON, TOF}
 use Rattle.signals.specs.Quantified.{Up, Down, InOpen, InClosed, Before, Started, FromTo, UpNOT, UpConnective, UpAND, UpOR, UpRising, UpFalling, UpSR, UpRS, UpTON, UpTOF, Agreement}
 use Rattle.signals.proofs.Truth.{not-up, not-of, and-left, and-right, and-of, or-cases, or-left, or-right, implied-use, implied-of, some-up, some-of, every-up, every-of}
 

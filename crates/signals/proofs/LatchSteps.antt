@@ -1,12 +1,12 @@
 -- SR and RS from moment to moment, and while their operands stand still.
-use Prim.Native.Nat.{ℕ, zero, suc, _+_, _*_, _-_, _/_, _%_, _≤_, _<_}
+use Prim.Native.Nat.{ℕ, zero, suc, _-_, _%_, _≤_}
 use native.Mathlib.Omega.{arith}
 use mathlib.Core.Path.{_≡_, refl, sym, _∙_, ap, subst}
 use mathlib.Core.Logic.{_⊎_, inl, inr, ⊎-elim}
 use mathlib.Core.Bool.{Bool, true, false, not, _&&_, _||_}
 use Rattle.signals.specs.Moment.{gap, instant, opens}
 use Rattle.signals.specs.Signal.{Signal, SR, RS}
-use Rattle.signals.specs.Quantified.{Up, Down, InOpen, UpSR}
+use Rattle.signals.specs.Quantified.{Up, Down, UpSR}
 use Rattle.signals.specs.LatchSteps.{latch, atStep, gapStep, shown, carried, LatchSteps}
 use Rattle.signals.proofs.Truth.{bool-ext, not-up, not-of, and-left, and-right, and-of, or-cases, or-left, or-right, le-cases}
 use Rattle.signals.proofs.Agreement.{SR-up, SR-of, RS-up1, RS-of1, OneRS, le-opens}

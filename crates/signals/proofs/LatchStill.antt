@@ -1,14 +1,14 @@
 -- Latches whose operands stand still from gap k up to instant d, and what instant d and gap d make of them: for loops over dates.
-use Prim.Native.Nat.{ℕ, zero, suc, _+_, _*_, _-_, _/_, _%_, _≤_, _<_}
+use Prim.Native.Nat.{ℕ, zero, suc, _+_, _-_, _≤_, _<_}
 use native.Mathlib.Omega.{arith}
 use mathlib.Core.Path.{_≡_, refl, sym, _∙_, ap, ap₂}
-use mathlib.Core.Logic.{_⊎_, inl, inr, ⊎-elim}
-use mathlib.Core.Bool.{Bool, true, false, not, _&&_, _||_}
+use mathlib.Core.Logic.{⊎-elim}
+use mathlib.Core.Bool.{Bool, true, false}
 use Rattle.signals.specs.Moment.{gap, instant}
-use Rattle.signals.specs.Signal.{Signal, SR, RS}
+use Rattle.signals.specs.Signal.{Signal}
 use Rattle.signals.specs.LatchSteps.{latch, atStep, gapStep, shown, carried}
-use Rattle.signals.specs.Wording.{IsGap, IsInstant}
 use Rattle.signals.proofs.Wording.{either}
+use Rattle.signals.proofs.Scan.{Held}
 use Rattle.signals.proofs.LatchSteps.{latch-at, latch-in}
 
 -- f has the value v from gap k up to the moment before instant d
@@ -110,6 +110,29 @@ carried-next w s r k (suc d) a b ss rr l =
     ap
     (λ (q : Bool). gapStep (s (gap (suc d))) (r (gap (suc d))) (atStep w (s (instant (suc d))) (r (instant (suc d))) q))
     (carried-still w s r k (suc d) a b ss rr d (omega arith) (omega arith))
+
+-- one turn of a loop over dates: from what the operands do up to date d, what the latch does, and the bit carried in gap d
+pub latch-held : (w : Bool) (s r : Signal) (k d : ℕ) (a b s1 s2 r1 r2 : Bool) → Held s k d a s1 s2 → Held r k d b r1 r2 →
+    Held (latch w s r) k d (shown w a (carried w s r k)) (atStep w s1 r1 (carried w s r k)) (shown w s2 (carried w s r d))
+latch-held w s r k d a b s1 s2 r1 r2 hs hr =
+    record {
+      later = hs .later;
+      still = latch-still w s r k d a b (hs .still) (hr .still);
+      at =
+          latch-next w s r k d a b (hs .still) (hr .still) (hs .later)
+          ∙ ap₂ (λ (p q : Bool). atStep w p q (carried w s r k)) (hs .at) (hr .at);
+      after = latch-in w s r d ∙ ap (λ (p : Bool). shown w p (carried w s r d)) (hs .after);
+    }
+
+pub carried-held : (w : Bool) (s r : Signal) (k d : ℕ) (a b s1 s2 r1 r2 : Bool) → Held s k d a s1 s2 → Held r k d b r1 r2 →
+    carried w s r d ≡ gapStep s2 r2 (atStep w s1 r1 (carried w s r k))
+carried-held w s r k d a b s1 s2 r1 r2 hs hr =
+    carried-next w s r k d a b (hs .still) (hr .still) (hs .later) ∙ rw (hs .at, hr .at, hs .after, hr .after) refl
+
+-- the bit carried in gap 0
+pub carried-first : (w : Bool) (s r : Signal) (a b : Bool) → s 0 ≡ a → r 0 ≡ b → carried w s r 0 ≡ gapStep a b false
+unfolding carried
+carried-first w s r a b p q = ap₂ (λ (x y : Bool). gapStep x y false) p q
 
 -- operands that stand still for good
 pub latch-settled : (w : Bool) (s r : Signal) (k : ℕ) (a b : Bool) → ((t : ℕ) → gap k ≤ t → s t ≡ a) → ((t : ℕ) → gap k ≤ t → r t ≡ b) → (t : ℕ) → gap k ≤ t → latch w s r t ≡ latch w s r (gap k)

@@ -9,6 +9,8 @@ pub mod WordFacts
 pub mod Scan
 pub mod Operand
 pub mod Normal
+pub mod Implication
+pub mod Starred
 pub mod Settling
 pub mod WordFaults
 pub mod HeadFaults

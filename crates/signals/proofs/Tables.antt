@@ -1,9 +1,9 @@
 -- Connectives and tables are the same thing.
 use Prim.Native.Nat.{ℕ}
-use mathlib.Core.Path.{_≡_, refl, ap}
+use mathlib.Core.Path.{_≡_, refl}
 use mathlib.Core.Bool.{Bool, true, false, _&&_, _||_}
-use mathlib.Core.List.{List, [], _∷_}
-use Rattle.signals.specs.Signal.{Signal, Table, cell, connective, tableOf, AND, OR}
+use mathlib.Core.List.{[], _∷_}
+use Rattle.signals.specs.Signal.{Signal, cell, connective, tableOf, AND, OR}
 use Rattle.signals.specs.Tables.{Tables, cellByHand}
 
 pub cell-by-hand : (a b c d p q : Bool) → cell ((a ∷ b ∷ []) ∷ (c ∷ d ∷ []) ∷ []) p q ≡ cellByHand a b c d p q

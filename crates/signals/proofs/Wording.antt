@@ -1,13 +1,13 @@
 -- The numbers of moments say what document 01 says of instants and gaps.
-use Prim.Native.Nat.{ℕ, zero, suc, _+_, _*_, _-_, _/_, _%_, _≤_, _<_}
+use Prim.Native.Nat.{ℕ, _+_, _*_, _-_, _/_, _%_, _≤_, _<_}
 use native.Mathlib.Omega.{arith}
-use mathlib.Core.Path.{_≡_, refl, sym, _∙_, ap}
-use mathlib.Core.Logic.{_⊎_, inl, inr, ⊎-elim, _↔_, _≢_}
-use mathlib.Core.Bool.{Bool, true, false, not, _&&_, _||_}
-use lib.Dec.{leb, eqb}
-use borrow.Author.Tests.{leb-true, leb-false, le-leb, eqb-true, eqb-false, eq-eqb, ne-eqb}
-use Rattle.signals.specs.Moment.{gap, instant, isGap, tick, justBefore, opens, inOpen, inClosed, started, fromTo}
-use Rattle.signals.specs.Quantified.{Up, Down, InOpen, InClosed, Before, Started, FromTo}
+use mathlib.Core.Path.{_≡_, refl, sym}
+use mathlib.Core.Logic.{_⊎_, inl, inr, ⊎-elim, _≢_}
+use mathlib.Core.Bool.{Bool, true, false}
+use lib.Dec.{leb}
+use borrow.Author.Tests.{leb-true, leb-false, eqb-true, eqb-false, eq-eqb, ne-eqb}
+use Rattle.signals.specs.Moment.{gap, instant, isGap, tick, justBefore, opens}
+use Rattle.signals.specs.Quantified.{Up, Down}
 use Rattle.signals.specs.Wording.{IsGap, IsInstant, Moments, Spans, Tests, Wording}
 use Rattle.signals.proofs.Agreement as agreement
 
@@ -87,14 +87,14 @@ pub opens-gap : (t : ℕ) → IsGap t → opens t ≡ t
 unfolding opens
 opens-gap t g = go (g .0) (g .1)
   where
-    go : (k : ℕ) → t ≡ 2 * k → t + t % 2 ≡ t
+    go : (k : ℕ) → t ≡ 2 * k → opens t ≡ t
     go k e = omega arith
 
 pub opens-instant : (t : ℕ) → IsInstant t → opens t ≡ t + 1
 unfolding opens
 opens-instant t g = go (g .0) (g .1) (g .2)
   where
-    go : (k : ℕ) → 1 ≤ k → t ≡ 2 * k - 1 → t + t % 2 ≡ t + 1
+    go : (k : ℕ) → 1 ≤ k → t ≡ 2 * k - 1 → opens t ≡ t + 1
     go k l e = omega arith
 
 -- at or after t1 is after it or it

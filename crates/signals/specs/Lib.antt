@@ -11,6 +11,8 @@ pub mod LatchSteps
 pub mod Settled
 pub mod Normal
 pub mod Passing
+pub mod Earliest
+pub mod Starred
 pub mod Settling
 pub mod ListFaults
 pub mod Tidying

@@ -2,8 +2,8 @@
 use Prim.Native.Nat.{ℕ}
 use mathlib.Core.Path.{_≡_}
 use mathlib.Core.Bool.{Bool, true, false, _&&_, _||_}
-use mathlib.Core.List.{List, [], _∷_}
-use Rattle.signals.specs.Signal.{Signal, Table, cell, connective, tableOf, AND, OR}
+use mathlib.Core.List.{[], _∷_}
+use Rattle.signals.specs.Signal.{Signal, cell, connective, tableOf, AND, OR}
 
 -- rows and columns in the order down, up
 abbrev pub cellByHand : Bool → Bool → Bool → Bool → Bool → Bool → Bool

@@ -1,9 +1,8 @@
 -- The numbers of Moment.antt say what document 01 says of instants and gaps: each field beside its sentence.
-use Prim.Native.Nat.{ℕ, zero, suc, _+_, _*_, _-_, _≤_, _<_}
+use Prim.Native.Nat.{ℕ, _+_, _-_, _≤_, _<_}
 use mathlib.Core.Path.{_≡_}
 use mathlib.Core.Logic.{_⊎_, _↔_}
-use mathlib.Core.Bool.{Bool, true, false}
-use Rattle.signals.specs.Moment.{gap, instant, isGap, tick, justBefore, opens, inOpen, inClosed, started, fromTo}
+use Rattle.signals.specs.Moment.{gap, instant, isGap, tick, justBefore, inOpen, inClosed, started, fromTo}
 use Rattle.signals.specs.Quantified.{Up, Down, InOpen, InClosed, Before, Started, FromTo}
 
 -- t is a gap; t is an instant (k from 1)
