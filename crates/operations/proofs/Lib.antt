@@ -6,3 +6,9 @@ pub mod MergeCases
 pub mod MergeHeld
 pub mod MergeTurn
 pub mod JudgedCalls
+pub mod DelayCases
+pub mod DelaySignals
+pub mod DelayTiming
+pub mod DelayUpcoming
+pub mod DelayTurn
+pub mod DelayLoop
