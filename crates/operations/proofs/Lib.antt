@@ -12,3 +12,4 @@ pub mod DelayTiming
 pub mod DelayUpcoming
 pub mod DelayTurn
 pub mod DelayLoop
+pub mod DelayJudged

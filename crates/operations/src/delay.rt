@@ -6,7 +6,8 @@ ghost use lib.ListN.{length};
 ghost use Rattle.signals.specs.Signal.{TON, TOF};
 ghost use Rattle.signals.specs.Words.{listFault};
 ghost use Rattle.signals.specs.Answers.{writtenOf, outputOf};
-ghost use Rattle.operations.specs.Calls.{exactOfDelay, faultOfDelay};
+ghost use Rattle.operations.specs.Calls.{firstOf, lengthFault, exactOfDelay, faultOfDelay};
+ghost use Rattle.operations.specs.Slots.{inSlotFault, slotAfter};
 ghost use Rattle.operations.specs.Building.{Built};
 ghost use Rattle.operations.specs.Delay.{dateIn, pending, reached, risen, timerNext, firstTimer, upcomingDate, onLevel, delayOf};
 use super::Made;
@@ -166,4 +167,75 @@ fn run(level: bool, waits: bool, d: Length, words: &[u32], slot: &mut [u32]) -> 
         date = upcoming(words, passed, timer);
     }
     made
+}
+
+// The list's fault, then 8.
+fn delay_fault(d: Length, words: &[u32]) -> u32
+    ensures { λ r. ⌜ r ≡ firstOf (listFault (now (words .entry))) (lengthFault (d .0)) ⌝ }
+{
+    let fault = lists::list_fault(words);
+    if fault != 0 {
+        return fault;
+    }
+    let ticks = d.0;
+    if M < ticks {
+        return 8;
+    }
+    0
+}
+
+// A delay of a list that is judged first, its answer delivered to an output.
+fn delay(level: bool, waits: bool, d: Length, f: &[u32], out: &mut [u32]) -> Written
+    ensures { λ r. ⌜ (r ≡ writtenOf (faultOfDelay (delayOf level waits (d .0)) (d .0) (now (f .entry)) (length (now (out .entry)))) (exactOfDelay (delayOf level waits (d .0)) (d .0) (now (f .entry)))) × (now (out .exit) ≡ outputOf (faultOfDelay (delayOf level waits (d .0)) (d .0) (now (f .entry)) (length (now (out .entry)))) (exactOfDelay (delayOf level waits (d .0)) (d .0) (now (f .entry))) (now (out .entry))) ⌝ }
+{
+    let fault = delay_fault(d, f);
+    if fault != 0 {
+        return Written::Refused(fault);
+    }
+    let mut slot = [0u32; 256];
+    let made = run(level, waits, d, f, &mut slot);
+    super::deliver(&slot, made, out)
+}
+
+// The same in a slot that is lent.
+fn delay_in(level: bool, waits: bool, d: Length, f: &[u32], slot: &mut [u32]) -> Written
+    ensures { λ r. ⌜ (r ≡ writtenOf (inSlotFault (firstOf (listFault (now (f .entry))) (lengthFault (d .0))) (exactOfDelay (delayOf level waits (d .0)) (d .0) (now (f .entry))) (length (now (slot .entry)))) (exactOfDelay (delayOf level waits (d .0)) (d .0) (now (f .entry)))) × (now (slot .exit) ≡ slotAfter (firstOf (listFault (now (f .entry))) (lengthFault (d .0))) (exactOfDelay (delayOf level waits (d .0)) (d .0) (now (f .entry))) (now (slot .entry))) ⌝ }
+{
+    let fault = delay_fault(d, f);
+    if fault != 0 {
+        return Written::Refused(fault);
+    }
+    if slot.len() < 256 {
+        return Written::Refused(7);
+    }
+    let made = run(level, waits, d, f, slot);
+    super::finish(made)
+}
+
+// TON(d,f), the on-delay.
+pub fn ton(d: Length, f: &[u32], out: &mut [u32]) -> Written
+    ensures { λ r. ⌜ (r ≡ writtenOf (faultOfDelay (TON (d .0)) (d .0) (now (f .entry)) (length (now (out .entry)))) (exactOfDelay (TON (d .0)) (d .0) (now (f .entry)))) × (now (out .exit) ≡ outputOf (faultOfDelay (TON (d .0)) (d .0) (now (f .entry)) (length (now (out .entry)))) (exactOfDelay (TON (d .0)) (d .0) (now (f .entry))) (now (out .entry))) ⌝ }
+{
+    delay(true, true, d, f, out)
+}
+
+// TOF(d,f), the off-delay: the engine follows the level down, and a run from gap 0 on does not wait.
+pub fn tof(d: Length, f: &[u32], out: &mut [u32]) -> Written
+    ensures { λ r. ⌜ (r ≡ writtenOf (faultOfDelay (TOF (d .0)) (d .0) (now (f .entry)) (length (now (out .entry)))) (exactOfDelay (TOF (d .0)) (d .0) (now (f .entry)))) × (now (out .exit) ≡ outputOf (faultOfDelay (TOF (d .0)) (d .0) (now (f .entry)) (length (now (out .entry)))) (exactOfDelay (TOF (d .0)) (d .0) (now (f .entry))) (now (out .entry))) ⌝ }
+{
+    delay(false, false, d, f, out)
+}
+
+// TON(d,f) in a slot that is lent.
+pub fn ton_in(d: Length, f: &[u32], slot: &mut [u32]) -> Written
+    ensures { λ r. ⌜ (r ≡ writtenOf (inSlotFault (firstOf (listFault (now (f .entry))) (lengthFault (d .0))) (exactOfDelay (TON (d .0)) (d .0) (now (f .entry))) (length (now (slot .entry)))) (exactOfDelay (TON (d .0)) (d .0) (now (f .entry)))) × (now (slot .exit) ≡ slotAfter (firstOf (listFault (now (f .entry))) (lengthFault (d .0))) (exactOfDelay (TON (d .0)) (d .0) (now (f .entry))) (now (slot .entry))) ⌝ }
+{
+    delay_in(true, true, d, f, slot)
+}
+
+// TOF(d,f) in a slot that is lent.
+pub fn tof_in(d: Length, f: &[u32], slot: &mut [u32]) -> Written
+    ensures { λ r. ⌜ (r ≡ writtenOf (inSlotFault (firstOf (listFault (now (f .entry))) (lengthFault (d .0))) (exactOfDelay (TOF (d .0)) (d .0) (now (f .entry))) (length (now (slot .entry)))) (exactOfDelay (TOF (d .0)) (d .0) (now (f .entry)))) × (now (slot .exit) ≡ slotAfter (firstOf (listFault (now (f .entry))) (lengthFault (d .0))) (exactOfDelay (TOF (d .0)) (d .0) (now (f .entry))) (now (slot .entry))) ⌝ }
+{
+    delay_in(false, false, d, f, slot)
 }
