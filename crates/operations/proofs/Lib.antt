@@ -6,6 +6,7 @@ pub mod MergeCases
 pub mod MergeHeld
 pub mod MergeTurn
 pub mod JudgedCalls
+pub mod OneOperand
 pub mod DelayCases
 pub mod DelaySignals
 pub mod DelayTiming

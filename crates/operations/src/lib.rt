@@ -4,12 +4,19 @@ ghost use mathlib.Core.List.{List, _++_};
 ghost use Prim.Native.Nat.{ℕ, _<_, _≤_, min, max};
 ghost use lib.ListN.{length, set, take, drop};
 ghost use mathlib.Core.Bool.{not, _&&_, _||_};
-ghost use Rattle.signals.specs.Signal.{num, cell};
+ghost use Rattle.signals.specs.Signal.{num, cell, NOT, connective, rising, falling, SR, RS};
 ghost use Rattle.signals.specs.LatchSteps.{atStep, gapStep, shown};
 ghost use Rattle.signals.specs.Words.{word, listFault, listOf, signalOf, lastDate};
 ghost use Rattle.signals.specs.Answers.{writtenOf, outputOf};
-ghost use Rattle.operations.specs.Calls.{answerFault, pairFault, faultOfTwo, exactOfTwo};
-ghost use Rattle.operations.specs.Slots.{inSlotFault, slotAfter};
+ghost use Rattle.operations.specs.Calls.{
+  answerFault,
+  pairFault,
+  exactOfOne,
+  exactOfTwo,
+  CallOfOne,
+  CallOfTwo,
+};
+ghost use Rattle.operations.specs.Slots.{CallInSlot};
 ghost use Rattle.operations.specs.Building.{idle, emitted, emittedIn, begun, Built};
 ghost use Rattle.operations.specs.Merging.{latchFirst, latchShown, firstShown, dateShown, merged};
 use lists::Step;
@@ -359,7 +366,7 @@ fn operate(
     b: &[u32],
     out: &mut [u32],
 ) -> Written
-    ensures { λ r. ⌜ (r ≡ writtenOf (faultOfTwo (merged operation table) (now (a .entry)) (now (b .entry)) (length (now (out .entry)))) (exactOfTwo (merged operation table) (now (a .entry)) (now (b .entry)))) × (now (out .exit) ≡ outputOf (faultOfTwo (merged operation table) (now (a .entry)) (now (b .entry)) (length (now (out .entry)))) (exactOfTwo (merged operation table) (now (a .entry)) (now (b .entry))) (now (out .entry))) ⌝ }
+    ensures { λ r. ⌜ CallOfTwo (merged operation table) (now (a .entry)) (now (b .entry)) (now (out .entry)) r (now (out .exit)) ⌝ }
 {
     let fault = pair_fault(a, b);
     if fault != 0 {
@@ -378,7 +385,7 @@ fn operate_in(
     b: &[u32],
     slot: &mut [u32],
 ) -> Written
-    ensures { λ r. ⌜ (r ≡ writtenOf (inSlotFault (pairFault (now (a .entry)) (now (b .entry))) (exactOfTwo (merged operation table) (now (a .entry)) (now (b .entry))) (length (now (slot .entry)))) (exactOfTwo (merged operation table) (now (a .entry)) (now (b .entry)))) × (now (slot .exit) ≡ slotAfter (pairFault (now (a .entry)) (now (b .entry))) (exactOfTwo (merged operation table) (now (a .entry)) (now (b .entry))) (now (slot .entry))) ⌝ }
+    ensures { λ r. ⌜ CallInSlot (pairFault (now (a .entry)) (now (b .entry))) (exactOfTwo (merged operation table) (now (a .entry)) (now (b .entry))) (now (slot .entry)) r (now (slot .exit)) ⌝ }
 {
     let fault = pair_fault(a, b);
     if fault != 0 {
@@ -389,4 +396,93 @@ fn operate_in(
     }
     let made = merge(operation, table, a, b, slot);
     finish(made)
+}
+
+// The first operand inverted, whatever the second.
+const INVERT: [[bool; 2]; 2] = [[true, true], [false, false]];
+
+// NOT: faults list, 7.
+pub fn not(a: &[u32], out: &mut [u32]) -> Written
+    ensures { λ r. ⌜ CallOfOne NOT (now (a .entry)) (now (out .entry)) r (now (out .exit)) ⌝ }
+{
+    let none = [0u32; 1];
+    operate(Operation::Connective, INVERT, a, &none, out)
+}
+
+// A connective by its table, row by the first operand, column by the second: faults list, list, 5, 7.
+pub fn connective(table: [[bool; 2]; 2], a: &[u32], b: &[u32], out: &mut [u32]) -> Written
+    ensures { λ r. ⌜ CallOfTwo (connective table) (now (a .entry)) (now (b .entry)) (now (out .entry)) r (now (out .exit)) ⌝ }
+{
+    operate(Operation::Connective, table, a, b, out)
+}
+
+// Rising edges: faults list, 7.
+pub fn rising(a: &[u32], out: &mut [u32]) -> Written
+    ensures { λ r. ⌜ CallOfOne rising (now (a .entry)) (now (out .entry)) r (now (out .exit)) ⌝ }
+{
+    let none = [0u32; 1];
+    operate(Operation::Rising, INVERT, a, &none, out)
+}
+
+// Falling edges: faults list, 7.
+pub fn falling(a: &[u32], out: &mut [u32]) -> Written
+    ensures { λ r. ⌜ CallOfOne falling (now (a .entry)) (now (out .entry)) r (now (out .exit)) ⌝ }
+{
+    let none = [0u32; 1];
+    operate(Operation::Falling, INVERT, a, &none, out)
+}
+
+// The latch in which set wins: faults list, list, 5, 7.
+pub fn sr(s: &[u32], r: &[u32], out: &mut [u32]) -> Written
+    ensures { λ v. ⌜ CallOfTwo SR (now (s .entry)) (now (r .entry)) (now (out .entry)) v (now (out .exit)) ⌝ }
+{
+    operate(Operation::SetWins, INVERT, s, r, out)
+}
+
+// The latch in which reset wins: faults list, list, 5, 7.
+pub fn rs(s: &[u32], r: &[u32], out: &mut [u32]) -> Written
+    ensures { λ v. ⌜ CallOfTwo RS (now (s .entry)) (now (r .entry)) (now (out .entry)) v (now (out .exit)) ⌝ }
+{
+    operate(Operation::ResetWins, INVERT, s, r, out)
+}
+
+// The calls that the evaluator makes, in a slot of 256 words or more that it lends: no entry points, since the slot is scratch.
+
+pub fn not_in(a: &[u32], slot: &mut [u32]) -> Written
+    ensures { λ r. ⌜ CallInSlot (listFault (now (a .entry))) (exactOfOne NOT (now (a .entry))) (now (slot .entry)) r (now (slot .exit)) ⌝ }
+{
+    let none = [0u32; 1];
+    operate_in(Operation::Connective, INVERT, a, &none, slot)
+}
+
+pub fn connective_in(table: [[bool; 2]; 2], a: &[u32], b: &[u32], slot: &mut [u32]) -> Written
+    ensures { λ r. ⌜ CallInSlot (pairFault (now (a .entry)) (now (b .entry))) (exactOfTwo (connective table) (now (a .entry)) (now (b .entry))) (now (slot .entry)) r (now (slot .exit)) ⌝ }
+{
+    operate_in(Operation::Connective, table, a, b, slot)
+}
+
+pub fn rising_in(a: &[u32], slot: &mut [u32]) -> Written
+    ensures { λ r. ⌜ CallInSlot (listFault (now (a .entry))) (exactOfOne rising (now (a .entry))) (now (slot .entry)) r (now (slot .exit)) ⌝ }
+{
+    let none = [0u32; 1];
+    operate_in(Operation::Rising, INVERT, a, &none, slot)
+}
+
+pub fn falling_in(a: &[u32], slot: &mut [u32]) -> Written
+    ensures { λ r. ⌜ CallInSlot (listFault (now (a .entry))) (exactOfOne falling (now (a .entry))) (now (slot .entry)) r (now (slot .exit)) ⌝ }
+{
+    let none = [0u32; 1];
+    operate_in(Operation::Falling, INVERT, a, &none, slot)
+}
+
+pub fn sr_in(s: &[u32], r: &[u32], slot: &mut [u32]) -> Written
+    ensures { λ v. ⌜ CallInSlot (pairFault (now (s .entry)) (now (r .entry))) (exactOfTwo SR (now (s .entry)) (now (r .entry))) (now (slot .entry)) v (now (slot .exit)) ⌝ }
+{
+    operate_in(Operation::SetWins, INVERT, s, r, slot)
+}
+
+pub fn rs_in(s: &[u32], r: &[u32], slot: &mut [u32]) -> Written
+    ensures { λ v. ⌜ CallInSlot (pairFault (now (s .entry)) (now (r .entry))) (exactOfTwo RS (now (s .entry)) (now (r .entry))) (now (slot .entry)) v (now (slot .exit)) ⌝ }
+{
+    operate_in(Operation::ResetWins, INVERT, s, r, slot)
 }
