@@ -1,13 +1,11 @@
 // On-delay and off-delay: one engine that follows one level of its input.
 ghost use mathlib.Core.Path.{_≡_};
-ghost use mathlib.Core.List.{List};
-ghost use Prim.Native.Nat.{ℕ, _+_, _<_, _≤_};
+ghost use Prim.Native.Nat.{_≤_};
 ghost use lib.ListN.{length};
 ghost use Rattle.signals.specs.Signal.{TON, TOF};
 ghost use Rattle.signals.specs.Words.{listFault};
-ghost use Rattle.signals.specs.Answers.{writtenOf, outputOf};
-ghost use Rattle.operations.specs.Calls.{firstOf, lengthFault, exactOfDelay, faultOfDelay};
-ghost use Rattle.operations.specs.Slots.{inSlotFault, slotAfter};
+ghost use Rattle.operations.specs.Calls.{firstOf, lengthFault, exactOfDelay, CallOfDelay};
+ghost use Rattle.operations.specs.Slots.{CallInSlot};
 ghost use Rattle.operations.specs.Building.{Built};
 ghost use Rattle.operations.specs.Delay.{dateIn, pending, reached, risen, timerNext, firstTimer, upcomingDate, onLevel, delayOf};
 use super::Made;
@@ -186,7 +184,7 @@ fn delay_fault(d: Length, words: &[u32]) -> u32
 
 // A delay of a list that is judged first, its answer delivered to an output.
 fn delay(level: bool, waits: bool, d: Length, f: &[u32], out: &mut [u32]) -> Written
-    ensures { λ r. ⌜ (r ≡ writtenOf (faultOfDelay (delayOf level waits (d .0)) (d .0) (now (f .entry)) (length (now (out .entry)))) (exactOfDelay (delayOf level waits (d .0)) (d .0) (now (f .entry)))) × (now (out .exit) ≡ outputOf (faultOfDelay (delayOf level waits (d .0)) (d .0) (now (f .entry)) (length (now (out .entry)))) (exactOfDelay (delayOf level waits (d .0)) (d .0) (now (f .entry))) (now (out .entry))) ⌝ }
+    ensures { λ r. ⌜ CallOfDelay (delayOf level waits (d .0)) (d .0) (now (f .entry)) (now (out .entry)) r (now (out .exit)) ⌝ }
 {
     let fault = delay_fault(d, f);
     if fault != 0 {
@@ -199,7 +197,7 @@ fn delay(level: bool, waits: bool, d: Length, f: &[u32], out: &mut [u32]) -> Wri
 
 // The same in a slot that is lent.
 fn delay_in(level: bool, waits: bool, d: Length, f: &[u32], slot: &mut [u32]) -> Written
-    ensures { λ r. ⌜ (r ≡ writtenOf (inSlotFault (firstOf (listFault (now (f .entry))) (lengthFault (d .0))) (exactOfDelay (delayOf level waits (d .0)) (d .0) (now (f .entry))) (length (now (slot .entry)))) (exactOfDelay (delayOf level waits (d .0)) (d .0) (now (f .entry)))) × (now (slot .exit) ≡ slotAfter (firstOf (listFault (now (f .entry))) (lengthFault (d .0))) (exactOfDelay (delayOf level waits (d .0)) (d .0) (now (f .entry))) (now (slot .entry))) ⌝ }
+    ensures { λ r. ⌜ CallInSlot (firstOf (listFault (now (f .entry))) (lengthFault (d .0))) (exactOfDelay (delayOf level waits (d .0)) (d .0) (now (f .entry))) (now (slot .entry)) r (now (slot .exit)) ⌝ }
 {
     let fault = delay_fault(d, f);
     if fault != 0 {
@@ -212,30 +210,30 @@ fn delay_in(level: bool, waits: bool, d: Length, f: &[u32], slot: &mut [u32]) ->
     super::finish(made)
 }
 
-// TON(d,f), the on-delay.
+// TON(d,f), the on-delay: faults list, 8, 5, 6, 7.
 pub fn ton(d: Length, f: &[u32], out: &mut [u32]) -> Written
-    ensures { λ r. ⌜ (r ≡ writtenOf (faultOfDelay (TON (d .0)) (d .0) (now (f .entry)) (length (now (out .entry)))) (exactOfDelay (TON (d .0)) (d .0) (now (f .entry)))) × (now (out .exit) ≡ outputOf (faultOfDelay (TON (d .0)) (d .0) (now (f .entry)) (length (now (out .entry)))) (exactOfDelay (TON (d .0)) (d .0) (now (f .entry))) (now (out .entry))) ⌝ }
+    ensures { λ r. ⌜ CallOfDelay (TON (d .0)) (d .0) (now (f .entry)) (now (out .entry)) r (now (out .exit)) ⌝ }
 {
     delay(true, true, d, f, out)
 }
 
-// TOF(d,f), the off-delay: the engine follows the level down, and a run from gap 0 on does not wait.
+// TOF(d,f), the off-delay: faults list, 8, 5, 6, 7. The engine follows the level down, and a run from gap 0 on does not wait.
 pub fn tof(d: Length, f: &[u32], out: &mut [u32]) -> Written
-    ensures { λ r. ⌜ (r ≡ writtenOf (faultOfDelay (TOF (d .0)) (d .0) (now (f .entry)) (length (now (out .entry)))) (exactOfDelay (TOF (d .0)) (d .0) (now (f .entry)))) × (now (out .exit) ≡ outputOf (faultOfDelay (TOF (d .0)) (d .0) (now (f .entry)) (length (now (out .entry)))) (exactOfDelay (TOF (d .0)) (d .0) (now (f .entry))) (now (out .entry))) ⌝ }
+    ensures { λ r. ⌜ CallOfDelay (TOF (d .0)) (d .0) (now (f .entry)) (now (out .entry)) r (now (out .exit)) ⌝ }
 {
     delay(false, false, d, f, out)
 }
 
 // TON(d,f) in a slot that is lent.
 pub fn ton_in(d: Length, f: &[u32], slot: &mut [u32]) -> Written
-    ensures { λ r. ⌜ (r ≡ writtenOf (inSlotFault (firstOf (listFault (now (f .entry))) (lengthFault (d .0))) (exactOfDelay (TON (d .0)) (d .0) (now (f .entry))) (length (now (slot .entry)))) (exactOfDelay (TON (d .0)) (d .0) (now (f .entry)))) × (now (slot .exit) ≡ slotAfter (firstOf (listFault (now (f .entry))) (lengthFault (d .0))) (exactOfDelay (TON (d .0)) (d .0) (now (f .entry))) (now (slot .entry))) ⌝ }
+    ensures { λ r. ⌜ CallInSlot (firstOf (listFault (now (f .entry))) (lengthFault (d .0))) (exactOfDelay (TON (d .0)) (d .0) (now (f .entry))) (now (slot .entry)) r (now (slot .exit)) ⌝ }
 {
     delay_in(true, true, d, f, slot)
 }
 
 // TOF(d,f) in a slot that is lent.
 pub fn tof_in(d: Length, f: &[u32], slot: &mut [u32]) -> Written
-    ensures { λ r. ⌜ (r ≡ writtenOf (inSlotFault (firstOf (listFault (now (f .entry))) (lengthFault (d .0))) (exactOfDelay (TOF (d .0)) (d .0) (now (f .entry))) (length (now (slot .entry)))) (exactOfDelay (TOF (d .0)) (d .0) (now (f .entry)))) × (now (slot .exit) ≡ slotAfter (firstOf (listFault (now (f .entry))) (lengthFault (d .0))) (exactOfDelay (TOF (d .0)) (d .0) (now (f .entry))) (now (slot .entry))) ⌝ }
+    ensures { λ r. ⌜ CallInSlot (firstOf (listFault (now (f .entry))) (lengthFault (d .0))) (exactOfDelay (TOF (d .0)) (d .0) (now (f .entry))) (now (slot .entry)) r (now (slot .exit)) ⌝ }
 {
     delay_in(false, false, d, f, slot)
 }
