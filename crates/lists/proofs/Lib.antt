@@ -6,3 +6,4 @@ pub mod Stretches
 pub mod Watching
 pub mod Verdicts
 pub mod Equality
+pub mod Keepings

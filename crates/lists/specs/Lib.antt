@@ -3,3 +3,4 @@ pub mod Reading
 pub mod Questions
 pub mod Finding
 pub mod Equality
+pub mod Keeping

@@ -1,20 +1,24 @@
 // Lists: the leaf that reads their words, and the calls that judge and question them.
 ghost use mathlib.Core.Path.{_≡_};
 ghost use mathlib.Core.Logic.{_⊎_};
-ghost use Prim.Native.Nat.{max, _<_, _≤_, _-_};
-ghost use lib.ListN.{length, getD, drop};
+ghost use Prim.Native.Nat.{max, _<_, _≤_, _+_, _-_};
+ghost use lib.ListN.{length, getD, drop, set};
 ghost use Rattle.signals.specs.Words.{headValue, changesNothing, wordsFault, listFault};
 ghost use Rattle.signals.specs.Passing.{heldValue};
 ghost use Rattle.signals.specs.Signal.{num};
 ghost use Rattle.signals.specs.Moment.{gap, instant};
-ghost use Rattle.signals.specs.Words.{signalOf};
+ghost use Rattle.signals.specs.Words.{signalOf, word, datesFault, tidyFault};
+ghost use Rattle.signals.specs.Tidying.{tidied};
+ghost use Rattle.signals.specs.Answers.{writtenOf, outputOf};
 ghost use Rattle.lists.specs.Reading.{nextDate, stepPast};
-ghost use Rattle.lists.specs.Questions.{firstOf, datedBy, toldValue, valueAtOf, valueInOf, equalOf, impliesOf};
+ghost use Rattle.lists.specs.Questions.{firstOf, datedBy, toldValue, valueAtOf, valueInOf, equalOf, impliesOf, tidyingFault};
 ghost use Rattle.lists.specs.Finding.{shown, shows, inStretch, verdictIn, Near, FirstFrom};
+ghost use Rattle.lists.specs.Keeping.{entryOf, putIn, overlay};
 use signals::Date;
 use signals::M;
 use signals::Told;
 use signals::Verdict;
+use signals::Written;
 
 // The date where no word is left: above every sum of a date and a length.
 pub const NEVER: u32 = 4294967295;
@@ -315,4 +319,106 @@ pub fn equal(a: &[u32], b: &[u32]) -> Told
         Found::In(_) => Told::No,
         Found::Nowhere => Told::Yes,
     }
+}
+
+// The fault of the dates of the words after the first.
+fn dates_fault(list: &[u32]) -> u32
+    requires { ⌜ 0 < length (now list) ⌝ }
+    ensures { λ r. ⌜ r ≡ datesFault 0 (drop 1 (now (list .entry))) ⌝ }
+{
+    let mut passed: usize = 1;
+    let mut last: u32 = 0;
+    while passed < list.len() {
+        let date = next_date(list, passed);
+        if date.0 <= last {
+            return 3;
+        }
+        last = date.0;
+        passed += 1;
+    }
+    0
+}
+
+// The fault of a list to be tidied, 0 for none.
+fn tidy_fault(list: &[u32]) -> u32
+    ensures { λ r. ⌜ r ≡ tidyFault (now (list .entry)) ⌝ }
+{
+    if list.len() == 0 {
+        return 1;
+    }
+    if 256 < list.len() {
+        return 1;
+    }
+    if 1 < list[0] {
+        return 2;
+    }
+    dates_fault(list)
+}
+
+// The word of a date and its two values.
+fn word_of(date: u32, at: bool, after: bool) -> u32
+    requires { ⌜ date ≤ 1073741823 ⌝ }
+    ensures { λ r. ⌜ r ≡ word date at after ⌝ }
+{
+    let w = 4 * date;
+    if at {
+        if after { w + 3 } else { w + 2 }
+    } else {
+        if after { w + 1 } else { w }
+    }
+}
+
+// A word written at a place that the output has.
+fn put(out: &mut [u32], place: usize, w: u32)
+    ensures { λ r. ⌜ now (out .exit) ≡ set (now (out .entry)) place w ⌝ }
+{
+    if place < out.len() {
+        out[place] = w;
+    }
+}
+
+// The word of a date, counted and put, unless it changes nothing.
+fn keep_word(out: &mut [u32], count: usize, date: Date, step: Step) -> usize
+    requires { ⌜ (date .0 ≤ 1073741823) × (count < 4294967296) ⌝ }
+    ensures { λ r. ⌜ (r ≡ count + length (entryOf (date .0) step)) × (now (out .exit) ≡ putIn (now (out .entry)) count (entryOf (date .0) step)) ⌝ }
+{
+    let w = word_of(date.0, step.at, step.after);
+    if changes_nothing(step.before, w) {
+        return count;
+    }
+    put(out, count, w);
+    count + 1
+}
+
+// The tidied words, counted, and written as far as the output goes.
+fn keep_words(list: &[u32], out: &mut [u32]) -> usize
+    requires { ⌜ tidyFault (now list) ≡ 0 ⌝ }
+    ensures { λ r. ⌜ (r ≡ length (tidied (now (list .entry)))) × (now (out .exit) ≡ overlay (tidied (now (list .entry))) (now (out .entry))) ⌝ }
+{
+    put(out, 0, bit(held_value(list, 1)) as u32);
+    let mut count: usize = 1;
+    let mut passed: usize = 1;
+    while passed < list.len() {
+        let date = next_date(list, passed);
+        let step = past(list, passed, date);
+        count = keep_word(out, count, date, step);
+        passed = step.passed;
+    }
+    count
+}
+
+// Tidying: counted first, so that nothing is written when the output is too short.
+pub fn tidy(list: &[u32], out: &mut [u32]) -> Written
+    ensures { λ r. ⌜ (r ≡ writtenOf (tidyingFault (now (list .entry)) (length (now (out .entry)))) (tidied (now (list .entry)))) × (now (out .exit) ≡ outputOf (tidyingFault (now (list .entry)) (length (now (out .entry)))) (tidied (now (list .entry))) (now (out .entry))) ⌝ }
+{
+    let fault = tidy_fault(list);
+    if fault != 0 {
+        return Written::Refused(fault);
+    }
+    let count = keep_words(list, &mut out[..0]);
+    if out.len() < count {
+        return Written::Refused(7);
+    }
+    keep_words(list, out);
+    Written::Count(count)
 }
