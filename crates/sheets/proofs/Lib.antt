@@ -6,3 +6,9 @@ pub mod Judging
 pub mod Locating
 pub mod Placing
 pub mod Filling
+pub mod Digits
+pub mod Fields
+pub mod Accepting
+pub mod OneSignal
+pub mod ReadBack
+pub mod Appending

@@ -8,7 +8,7 @@ ghost use Rattle.sheets.specs.Names.{same, zeros, letter, digit, letters
 ghost use Rattle.sheets.specs.Bytes.{low16, low32, bytes16, bytes32, wordBytes};
 ghost use Rattle.sheets.specs.Reading.{wordCount, signalSize, sheetWordsFault, signalFault, frontFault, sheetFault, signalsFrom, names, entry};
 ghost use Rattle.sheets.specs.Writing.{entryBytes, sheetBytes};
-ghost use Rattle.sheets.specs.Calls.{placeFrom, placeOf, lookupFault, lookupOf, beginFault};
+ghost use Rattle.sheets.specs.Calls.{placeFrom, placeOf, lookupFault, lookupOf, beginFault, appended, appendFault};
 ghost use Rattle.sheets.specs.Walk.{Whole, placed};
 ghost use Rattle.signals.specs.Words.{changesNothing};
 ghost use Rattle.signals.specs.Answers.{writtenOf, outputOf};
@@ -463,4 +463,50 @@ pub fn begin(out: &mut [u8]) -> Written
     put16(out, 3, 1);
     put16(out, 5, 0);
     Written::Count(7)
+}
+
+// The fault of appending to a sheet when the output has `room` bytes: sheet, 16, list, 15, 7.
+fn append_fault(sheet: &[u8], name: &[u8], list: &[u32], room: usize) -> u32
+    ensures { λ r. ⌜ r ≡ appendFault (now (sheet .entry)) (now (name .entry)) (now (list .entry)) room ⌝ }
+{
+    let fault = sheet_fault(sheet);
+    if fault != 0 {
+        return fault;
+    }
+    let count = read16(sheet, 5);
+    if well_named(name) {
+        if known(sheet, count, name) {
+            return 16;
+        }
+        let bad = lists::list_fault(list);
+        if bad != 0 {
+            return bad;
+        }
+        if 32 <= count {
+            return 15;
+        }
+        if room < sheet.len() + (10 + 4 * list.len()) {
+            return 7;
+        }
+        0
+    } else {
+        16
+    }
+}
+
+// Appends a signal: writes the sheet with it.
+pub fn append(sheet: &[u8], name: &[u8], list: &[u32], out: &mut [u8]) -> Written
+    ensures { λ r. ⌜ (r ≡ writtenOf (appendFault (now (sheet .entry)) (now (name .entry)) (now (list .entry)) (length (now (out .entry)))) (appended (now (sheet .entry)) (now (name .entry)) (now (list .entry)))) × (now (out .exit) ≡ outputOf (appendFault (now (sheet .entry)) (now (name .entry)) (now (list .entry)) (length (now (out .entry)))) (appended (now (sheet .entry)) (now (name .entry)) (now (list .entry))) (now (out .entry))) ⌝ }
+{
+    let fault = append_fault(sheet, name, list, out.len());
+    if fault != 0 {
+        return Written::Refused(fault);
+    }
+    let count = read16(sheet, 5);
+    let end = sheet.len();
+    put(out, 0, &sheet[..5]);
+    put16(out, 5, count + 1);
+    put(out, 7, &sheet[7..]);
+    put_signal(out, end, name, list);
+    Written::Count(end + (10 + 4 * list.len()))
 }
