@@ -3,3 +3,8 @@ pub mod FirstFault
 pub mod SheetLists
 pub mod Settles
 pub mod PartFaults
+pub mod ReadingFaults
+pub mod CallFaults
+pub mod NotRefused
+pub mod NamedFormula
+pub mod Demand2
