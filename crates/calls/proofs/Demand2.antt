@@ -97,7 +97,7 @@ pub words-given : (E : Engine) (sheet formula : List ℕ) (work : ℕ) (old word
 words-given E sheet formula work old words h = rw (h .count, h .output) (take-append-seam words (drop (length words) old))
 
 -- the fault that an answer shows is the defined one
-shown : (sheet formula : List ℕ) (work : ℕ) (old : List ℕ) → faultIn (callAnswer sheet formula work old) ≡ callFault sheet formula work (length old)
+pub shown : (sheet formula : List ℕ) (work : ℕ) (old : List ℕ) → faultIn (callAnswer sheet formula work old) ≡ callFault sheet formula work (length old)
 unfolding callAnswer
 shown sheet formula work old = fault-shown (callFault sheet formula work (length old)) (wordsOn sheet formula)
 

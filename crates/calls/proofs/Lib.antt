@@ -8,3 +8,4 @@ pub mod CallFaults
 pub mod NotRefused
 pub mod NamedFormula
 pub mod Demand2
+pub mod Demand3
