@@ -77,7 +77,7 @@ output-given : (sheet formula : List ℕ) (work : ℕ) (old : List ℕ) → call
 unfolding callOutput outputOf
 output-given sheet formula work old e = rw (eq-eqb (callFault sheet formula work (length old)) 0 e) refl
 
-output-kept : (sheet formula : List ℕ) (work : ℕ) (old : List ℕ) → (¬ (callFault sheet formula work (length old) ≡ 0))
+pub output-kept : (sheet formula : List ℕ) (work : ℕ) (old : List ℕ) → (¬ (callFault sheet formula work (length old) ≡ 0))
     → callOutput sheet formula work old ≡ old
 unfolding callOutput outputOf
 output-kept sheet formula work old e = rw (ne-eqb (callFault sheet formula work (length old)) 0 e) refl

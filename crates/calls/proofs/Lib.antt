@@ -9,3 +9,4 @@ pub mod NotRefused
 pub mod NamedFormula
 pub mod Demand2
 pub mod Demand3
+pub mod OneEngine
