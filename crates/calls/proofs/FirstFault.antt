@@ -27,6 +27,14 @@ pub first-some : (f g n : ℕ) → f ≡ n → 0 < n → firstOf f g ≡ n
 unfolding firstOf
 first-some f g n e l = rw (ne-eqb f 0 (λ z. omega arith)) e
 
+pub first-with-none : (f : ℕ) → firstOf f 0 ≡ f
+unfolding firstOf
+first-with-none f = go (eqb f 0) refl
+  where
+    go : (b : Bool) → eqb f 0 ≡ b → cond b 0 f ≡ f
+    go true q = sym (eqb-true f 0 q)
+    go false q = refl
+
 pub both-none : (f g : ℕ) → firstOf f g ≡ 0 → (f ≡ 0) × (g ≡ 0)
 unfolding firstOf
 both-none f g e = go (eqb f 0) refl e

@@ -3,3 +3,10 @@ pub mod FirstFault
 pub mod SheetLists
 pub mod Settles
 pub mod PartFaults
+pub mod ReadingFaults
+pub mod CallFaults
+pub mod NotRefused
+pub mod NamedFormula
+pub mod Demand2
+pub mod Demand3
+pub mod OneEngine

@@ -8,4 +8,5 @@ pub mod Tabled
 pub mod Demand2
 pub mod Demand3
 pub mod NotRefused
+pub mod OneEngine
 pub mod WrongEngines

@@ -1,0 +1,181 @@
+-- A name of an accepted sheet, as a formula: it is answered, and its words are the sheet's.
+use Prim.Native.Nat.{ℕ, zero, suc, _+_, _*_, _≤_, _<_}
+use native.Mathlib.Omega.{arith}
+use mathlib.Core.Path.{_≡_, refl, sym, _∙_, ap, subst}
+use mathlib.Core.Bool.{Bool, true, false, cond, _&&_, _||_}
+use mathlib.Core.Logic.{_⊎_, inl, inr, ⊎-elim}
+use mathlib.Core.List.{List, [], _∷_, _++_}
+use lib.Dec.{leb, ltb, eqb}
+use lib.ListN.{length, take, drop, getD}
+use lib.Seq.{getD-drop}
+use borrow.Author.Tests.{leb-true, le-leb, ltb-true, ltb-false, le-ltb, eqb-true}
+use Rattle.signals.specs.Moment.{M}
+use Rattle.signals.specs.Words.{dateOf, listFault, signalOf, lastDate, listOf}
+use Rattle.signals.proofs.Truth.{and-left, and-right, and-of, or-cases, down-of, not-both}
+use Rattle.signals.proofs.Normal.{acceptedNormal, readBack}
+use Rattle.operations.specs.Calls.{firstOf, changesAfterM}
+use Rattle.formulas.specs.Tree.{Tree, leaf, unary, binary, name}
+use Rattle.formulas.specs.Code.{code}
+use Rattle.formulas.specs.Grammar.{Sum, Product, Factor, isLower, isDigit, isNameByte, allOf, isName}
+use Rattle.formulas.specs.Formula.{formulaTree, formulaFault}
+use Rattle.formulas.specs.Exactness.{Ten, Eleven, Eight, Twelve, LengthIn}
+use Rattle.formulas.proofs.Reading.{tree-of, one-tree, faults-exact}
+use Rattle.laws.specs.Rewriting.{parts}
+use Rattle.sheets.specs.Bytes.{Bytes, low32, wordsIn}
+use Rattle.sheets.specs.Names.{letter, digit, lettersOrDigits, wellNamed, same, among}
+use Rattle.sheets.specs.Reading.{sheetFault, Entry, entry, nameOf, listOn, signalSize, wordCount, nameAt, signalsFrom, countOn, signalsOn, names, listNamed, environmentOn}
+use Rattle.calls.specs.OnSheet.{signalOn, settlingDate, exactOn, namesFound}
+use Rattle.calls.specs.Calls.{readingFault, partFault, partsFault, workingFault, wordsOn}
+use Rattle.calls.proofs.FirstFault.{first-none, first-with-none}
+use Rattle.calls.proofs.SheetLists.{Sound, AllSound, sheet-sound}
+use Rattle.calls.proofs.PartFaults.{late-of}
+use Rattle.calls.proofs.NotRefused.{Clear}
+
+-- the sheet's rule of names and the grammar's are one
+rest-named : (bs : List ℕ) → lettersOrDigits bs ≡ true → allOf isNameByte bs ≡ true
+unfolding lettersOrDigits allOf isNameByte isLower isDigit letter digit
+rest-named [] e = refl
+rest-named (b ∷ bs) e =
+    and-of (letter b || digit b) (allOf isNameByte bs) (and-left (letter b || digit b) (lettersOrDigits bs) e)
+    (rest-named bs (and-right (letter b || digit b) (lettersOrDigits bs) e))
+
+pub is-name : (n : List ℕ) → wellNamed n ≡ true → isName n ≡ true
+unfolding wellNamed isName isLower letter
+is-name [] e = e
+is-name (b ∷ bs) e =
+    let l = leb-true (length (b ∷ bs)) 8 (and-left (leb (length (b ∷ bs)) 8) (letter b && lettersOrDigits bs) e) in
+    let r = and-right (leb (length (b ∷ bs)) 8) (letter b && lettersOrDigits bs) e in
+    and-of (letter b) (allOf isNameByte bs && leb (length bs) 7) (and-left (letter b) (lettersOrDigits bs) r)
+    (and-of (allOf isNameByte bs) (leb (length bs) 7) (rest-named bs (and-right (letter b) (lettersOrDigits bs) r)) (le-leb (length bs) 7 (omega arith)))
+
+same-equal : (a b : List ℕ) → same a b ≡ true → a ≡ b
+unfolding same
+same-equal [] [] e = refl
+same-equal [] (y ∷ ys) e = absurd (not-both {A = ⊥} e refl)
+same-equal (x ∷ xs) [] e = absurd (not-both {A = ⊥} e refl)
+same-equal (x ∷ xs) (y ∷ ys) e =
+    let p = eqb-true x y (and-left (eqb x y) (same xs ys) e) in
+    let q = same-equal xs ys (and-right (eqb x y) (same xs ys) e) in
+    cc
+
+-- a name among an accepted sheet's is a name, and its list is accepted
+named-sound : (n : List ℕ) (es : List Entry) → AllSound es → among n (names es) ≡ true → (wellNamed n ≡ true) × (listFault (listNamed n es) ≡ 0)
+unfolding among names listNamed
+named-sound n [] h e = absurd (not-both {A = ⊥} e refl)
+named-sound n (x ∷ es) h e = go (same (nameOf x) n) refl (named-sound n es (h .1))
+  where
+    go : (b : Bool) → same (nameOf x) n ≡ b → (among n (names es) ≡ true → (wellNamed n ≡ true) × (listFault (listNamed n es) ≡ 0))
+        → (wellNamed n ≡ true) × (listFault (cond b (listOn x) (listNamed n es)) ≡ 0)
+    go true q r = (ap wellNamed (sym (same-equal (nameOf x) n q)) ∙ h .0 .named, h .0 .listed)
+    go false q r = r (rw q at e)
+
+-- the words of bytes are below 2^32
+bytes-drop : (k : ℕ) (l : List ℕ) → Bytes l → Bytes (drop k l)
+bytes-drop k l h i = rw (getD-drop k l i 0) (h (k + i))
+
+word-small : (l : List ℕ) → Bytes l → low32 l < 4294967296
+unfolding low32
+word-small l h = omega (arith, h 0, h 1, h 2, h 3)
+
+words-small : (n : ℕ) (l : List ℕ) → Bytes l → (i : ℕ) → getD (wordsIn n l) i 0 < 4294967296
+unfolding wordsIn
+words-small zero l h i = omega arith
+words-small (suc n) l h zero = word-small l h
+words-small (suc n) l h (suc i) = words-small n (drop 4 l) (bytes-drop 4 l h) i
+
+abbrev Small : List ℕ → Type 0
+Small l = (i : ℕ) → getD l i 0 < 4294967296
+
+none-small : Small []
+none-small i = omega arith
+
+lists-small : (x : List ℕ) (n : ℕ) (rest : List ℕ) → Bytes rest → Small (listNamed x (signalsFrom n rest))
+unfolding listNamed signalsFrom
+lists-small x zero rest h = none-small
+lists-small x (suc n) rest h =
+    go (same (nameAt rest) x) (lists-small x n (drop (signalSize rest) rest) (bytes-drop (signalSize rest) rest h))
+  where
+    go : (b : Bool) → Small (listNamed x (signalsFrom n (drop (signalSize rest) rest)))
+        → Small (cond b (wordsIn (wordCount rest) (drop 10 rest)) (listNamed x (signalsFrom n (drop (signalSize rest) rest))))
+    go true r = words-small (wordCount rest) (drop 10 rest) (bytes-drop 10 rest h)
+    go false r = r
+
+not-late : (l : List ℕ) → Small l → changesAfterM l ≡ false
+unfolding dateOf
+not-late l h = down-of (changesAfterM l) (λ e. let w = late-of l e in omega (arith, w .2, h (w .0)))
+
+-- a name as a formula
+name-writes : (n : List ℕ) → isName n ≡ true → Sum n (leaf (name n)) 0
+name-writes n e = Sum.product (Product.factor (Factor.named e))
+
+-- a leaf has no length
+abbrev NoLeaf : Tree → Type 0
+NoLeaf (leaf l) = ⊥
+NoLeaf (unary o t) = Unit
+NoLeaf (binary o t u) = Unit
+
+no-leaf : {n : ℕ} {t : Tree} → LengthIn n t → NoLeaf t
+no-leaf LengthIn.of-ton = tt
+no-leaf LengthIn.of-tof = tt
+no-leaf (LengthIn.under h) = tt
+no-leaf (LengthIn.first h) = tt
+no-leaf (LengthIn.second h) = tt
+
+name-fault : (n : List ℕ) → wellNamed n ≡ true → isName n ≡ true → formulaFault n ≡ 0
+unfolding wellNamed code
+name-fault [] e f = absurd (not-both {A = ⊥} e refl)
+name-fault (b ∷ bs) e f =
+    let l = leb-true (length (b ∷ bs)) 8 (and-left (leb (length (b ∷ bs)) 8) (letter b && lettersOrDigits bs) e) in
+    let w = name-writes (b ∷ bs) f in
+    faults-exact (b ∷ bs) .4 .1 (
+      λ t. ⊎-elim (λ z. omega arith) (λ z. omega arith) t,
+      λ x. x (leaf (name (b ∷ bs))) 0 w,
+      λ x. subst NoLeaf (one-tree (b ∷ bs) (x .0) (leaf (name (b ∷ bs))) (x .1) 0 (x .3) w .0) (no-leaf (x .4)),
+      λ x.
+          let q = one-tree (b ∷ bs) (x .0) (leaf (name (b ∷ bs))) (x .1) 0 (x .2) w in
+          let r : length (code (x .0)) ≡ 1 = ap (λ (y : Tree). length (code y)) (q .0) in
+          ⊎-elim (λ z. omega arith) (λ z. let k = q .1 in omega arith) (x .3),
+    )
+
+pub record NameServed (sheet n : List ℕ) : Type 0 where
+  pub clear : Clear sheet n
+  pub same-words : wordsOn sheet n ≡ listNamed n (signalsOn sheet)
+
+-- the normal list of an accepted list's signal is that list
+name-exact : (sheet n : List ℕ) → listFault (listNamed n (signalsOn sheet)) ≡ 0 → exactOn sheet (leaf (name n)) ≡ listNamed n (signalsOn sheet)
+unfolding exactOn settlingDate environmentOn
+name-exact sheet n a = readBack (listNamed n (signalsOn sheet)) (acceptedNormal (listNamed n (signalsOn sheet)) .0 a .0) .same
+
+accepted-fine : (l : List ℕ) → listFault l ≡ 0 → changesAfterM l ≡ false → partFault l ≡ 0
+unfolding partFault
+accepted-fine l a e = rw (le-ltb 256 (length l) (acceptedNormal l .0 a .1), e) refl
+
+name-parts : (sheet n : List ℕ) → partFault (exactOn sheet (leaf (name n))) ≡ 0 → partsFault sheet (parts (leaf (name n))) ≡ 0
+unfolding partsFault parts
+name-parts sheet n e = first-with-none (partFault (exactOn sheet (leaf (name n)))) ∙ e
+
+list-small : (sheet n : List ℕ) → Bytes sheet → Small (listNamed n (signalsOn sheet))
+unfolding signalsOn
+list-small sheet n small = lists-small n (countOn sheet) (drop 7 sheet) (bytes-drop 7 sheet small)
+
+text-clear : (sheet n : List ℕ) → formulaFault n ≡ 0 → formulaTree n ≡ leaf (name n) → among n (names (signalsOn sheet)) ≡ true → readingFault sheet n ≡ 0
+unfolding readingFault namesFound
+text-clear sheet n f t e = first-none (formulaFault n) (cond (namesFound sheet (formulaTree n)) 0 13) f ∙ rw (t, e) refl
+
+pub name-served : (sheet n : List ℕ) → Bytes sheet → sheetFault sheet ≡ 0 → among n (names (signalsOn sheet)) ≡ true → NameServed sheet n
+unfolding workingFault wordsOn
+name-served sheet n small ok e =
+    let l = listNamed n (signalsOn sheet) in
+    let s = named-sound n (signalsOn sheet) (sheet-sound sheet ok) e in
+    let f = is-name n (s .0) in
+    let t : formulaTree n ≡ leaf (name n) = tree-of n (leaf (name n)) 0 (name-writes n f) in
+    let x : exactOn sheet (leaf (name n)) ≡ l = name-exact sheet n (s .1) in
+    let z : partFault (exactOn sheet (leaf (name n))) ≡ 0 = ap partFault x ∙ accepted-fine l (s .1) (not-late l (list-small sheet n small)) in
+    record {
+      clear = record {
+        sheet-ok = ok;
+        text-ok = text-clear sheet n (name-fault n (s .0) f) t e;
+        parts-ok = rw t (name-parts sheet n z);
+      };
+      same-words = rw t x;
+    }
