@@ -4,6 +4,9 @@ use mathlib.Core.Path.{_≡_}
 use mathlib.Core.Bool.{Bool, true, false, cond, _&&_}
 use mathlib.Core.List.{List, [], _∷_}
 use lib.ListN.{length, take, drop, getD, set}
+use lib.Seq.{paste}
+use Rattle.signals.specs.Answers.{writtenOf}
+use Rattle.signals.specs.declared.Written.{Written}
 use Rattle.signals.specs.Moment.{M}
 use Rattle.signals.specs.Signal.{Table, tableOf, NOT, rising, falling, SR, RS, TON, TOF, connective}
 use Rattle.signals.specs.Words.{listFault}
@@ -93,3 +96,13 @@ trace (p ∷ ps) st = top (worked p st) ∷ trace ps (worked p st)
 abbrev pub AllKnown : List ℕ → List Part → Type 0
 AllKnown sheet [] = Unit {0}
 AllKnown sheet (p ∷ ps) = Known sheet p × AllKnown sheet ps
+
+-- a leaf's list put into the work area at a place
+pub record Loaded (sheet : List ℕ) (l : Leaf) (old work : List ℕ) (at count : ℕ) : Type 0 where
+  pub count-is : count ≡ length (exactOn sheet (leaf l))
+  pub work-is : work ≡ paste old at (exactOn sheet (leaf l)) count
+
+-- an operation's answer in a buffer of 256 words or more: 5 or 6, or its words
+pub record Applied (exact buffer : List ℕ) (answer : Written) : Type 0 where
+  pub answer-is : answer ≡ writtenOf (partFault exact) exact
+  pub stands : partFault exact ≡ 0 → take (length exact) buffer ≡ exact

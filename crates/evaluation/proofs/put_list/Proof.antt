@@ -1,57 +1,60 @@
+-- `evaluation::put_list` meets its contract: after i turns i words are in their places.
+use borrow.Author.Needs.{needs}
+use Prim.Native.Nat.{ℕ, _+_, _-_, _≤_, _<_}
+use native.Mathlib.Omega.{arith}
+use mathlib.Core.Path.{_≡_, refl, sym, _∙_, ap}
+use lib.ListN.{length, length-set}
+use lib.Seq.{paste, paste-zero}
+use Rattle.evaluation.proofs.Putting.{put-next}
 use Rattle.evaluation.proofs.put_list.Statement.{statement}
 use Rattle.evaluation.proofs.put_list.Tie as tie
-use Rattle.evaluation.proofs.put_list.Reads as reads
-use Rattle.evaluation.proofs.put_list.Lts as lts
 
 abbrev Inv-loop : tie.InvT-loop
-Inv-loop work₀ at words count i₀ work i = ?
+Inv-loop work₀ at words count i₀ work i = (i ≤ count) × (length work ≡ length work₀) × (work ≡ paste work₀ at words i)
 
 abbrev μ-loop : tie.MeasureT-loop
-μ-loop work₀ at words count i₀ work i = ?
+μ-loop work₀ at words count i₀ work i = count - i
 
--- src/lib.rt:20:5
 loop-holds : tie.Need-loop-holds Inv-loop μ-loop
-loop-holds c = ?
+loop-holds c = (omega arith, refl, paste-zero (c .args .work .now) (c .args .at) (c .args .words .now))
 
--- src/lib.rt:21:24
 mul-work : tie.Need-mul-work Inv-loop μ-loop
-mul-work c = ?
+mul-work c = search needs
 
--- src/lib.rt:21:24
 shared-slice-read-work : tie.Need-shared-slice-read-work Inv-loop μ-loop
-shared-slice-read-work c = ?
+shared-slice-read-work c = search needs
 
--- src/lib.rt:21:14
 add-work : tie.Need-add-work Inv-loop μ-loop
-add-work c = ?
+add-work c = search needs
 
--- src/lib.rt:21:9
 mul-work-2 : tie.Need-mul-work-2 Inv-loop μ-loop
-mul-work-2 c = ?
+mul-work-2 c = search needs
 
--- src/lib.rt:21:9
 slice-write-work : tie.Need-slice-write-work Inv-loop μ-loop
-slice-write-work c = ?
+slice-write-work c = search needs
 
--- src/lib.rt:22:9
 add-i : tie.Need-add-i Inv-loop μ-loop
-add-i c = ?
+add-i c = search needs
 
--- src/lib.rt:20:5
 loop-less : tie.Need-loop-less Inv-loop μ-loop
-loop-less c = ?
+loop-less c = search needs
 
--- src/lib.rt:20:5
+in-work : (c : tie.After-shared-slice-known Inv-loop μ-loop) → c .before .before .before .args .at + c .before .before .loop .i < length (c .before .before .before .args .work .now)
+in-work c = omega arith
+
 loop-again : tie.Need-loop-again Inv-loop μ-loop
-loop-again c = ?
+loop-again c =
+    let here = c .before .before .loop in
+    let args = c .before .before .before .args in
+    (omega arith,
+    simp length-set (here .inv .1),
+    put-next (args .work .now) (args .words .now) (here .work) (args .at) (here .i) _ (here .inv .2) refl (in-work c) (shared-slice-read-work c))
 
--- src/lib.rt:15:1
 same-length : tie.Need-same-length Inv-loop μ-loop
-same-length c = ?
+same-length c = c .before .loop .inv .1
 
--- src/lib.rt:15:1
 returns : tie.Need-returns Inv-loop μ-loop
-returns c = ?
+returns c = let e : c .before .loop .i ≡ c .before .before .args .count = omega arith in rw e at (c .before .loop .inv .2)
 
 pub put-list-spec : {M : Type 1} → statement M
 put-list-spec =
