@@ -12,3 +12,5 @@ pub mod Accepting
 pub mod OneSignal
 pub mod ReadBack
 pub mod Appending
+pub mod Named
+pub mod Theorems
