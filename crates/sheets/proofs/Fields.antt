@@ -41,7 +41,7 @@ characters-unpadded (b ∷ bs) k h =
     rw (ne-eqb b 0 (character-above b (and-left (letter b || digit b) _ h)))
     (ap (λ (l : List ℕ). b ∷ l) (characters-unpadded bs k (and-right (letter b || digit b) _ h)))
 
-named-characters : (n : List ℕ) → wellNamed n ≡ true → lettersOrDigits n ≡ true
+pub named-characters : (n : List ℕ) → wellNamed n ≡ true → lettersOrDigits n ≡ true
 unfolding wellNamed lettersOrDigits
 named-characters [] h = refl
 named-characters (b ∷ bs) h =

@@ -12,3 +12,10 @@ pub mod Accepting
 pub mod OneSignal
 pub mod ReadBack
 pub mod Appending
+pub mod Named
+pub mod Theorems
+pub mod NameRule
+pub mod WordCuts
+pub mod Exactly
+pub mod ExactSheets
+pub mod ExactCalls

@@ -5,3 +5,5 @@ pub mod Reading
 pub mod Writing
 pub mod Calls
 pub mod Walk
+pub mod Theorems
+pub mod Sentences
