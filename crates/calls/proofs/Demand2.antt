@@ -126,8 +126,8 @@ unfolding claimVerdict
 judged-as sheet ok f g =
     let n = max (settlingDate sheet f) (settlingDate sheet g) in
     let j = verdict-judged (signalOn sheet f) (signalOn sheet g) n
-          (settled-later (signalOn sheet f) (settlingDate sheet f) n (settles sheet ok f) (omega arith))
-          (settled-later (signalOn sheet g) (settlingDate sheet g) n (settles sheet ok g) (omega arith)) in
+    (settled-later (signalOn sheet f) (settlingDate sheet f) n (settles sheet ok f) (omega arith))
+    (settled-later (signalOn sheet g) (settlingDate sheet g) n (settles sheet ok g) (omega arith)) in
     record { holds = j .holds; fails = j .fails; either = j .either }
 
 pub claim-judged : (sheet F G : List ℕ) (work : ℕ) → claimFault sheet F G work ≡ 0 → (f g : Tree) (d e : ℕ) → Writes F f d → Writes G g e
@@ -144,8 +144,8 @@ written-back sheet formula work old words e h tree depth w later name q t =
     let z = no-fault sheet formula work old e in
     let c = call-clear sheet formula work (length old) z .0 in
     let s : words ≡ wordsOn sheet formula =
-          sym (words-given defined sheet formula work old words h)
-          ∙ words-given defined sheet formula work old (wordsOn sheet formula) (delivered sheet formula work old z) in
+    sym (words-given defined sheet formula work old words h)
+    ∙ words-given defined sheet formula work old (wordsOn sheet formula) (delivered sheet formula work old z) in
     ap (λ (l : List ℕ). signalOf l t) (q ∙ s) ∙ clear-list sheet formula c tree depth w .listed .denotes t
 
 reads-back : ReadsBack defined

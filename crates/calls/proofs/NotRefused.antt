@@ -60,8 +60,7 @@ call-clear sheet formula work room e =
     let a = both-none (sheetFault sheet) (firstOf (readingFault sheet formula) (firstOf (workFault sheet work) (firstOf (workingFault sheet formula) r))) e in
     let b = both-none (readingFault sheet formula) (firstOf (workFault sheet work) (firstOf (workingFault sheet formula) r)) (a .1) in
     let c = both-none (workFault sheet work) (firstOf (workingFault sheet formula) r) (b .1) in
-    let d = both-none (workingFault sheet formula) r (c .1) in
-    (
+    let d = both-none (workingFault sheet formula) r (c .1) in (
       record { sheet-ok = a .0; text-ok = b .0; parts-ok = d .0 },
       work-from sheet work (c .0),
       room-from (wordsOn sheet formula) room (d .1),
@@ -113,8 +112,7 @@ claim-clear sheet F G work e =
     let b = both-none (readingFault sheet F) (firstOf (readingFault sheet G) w) (a .1) in
     let c = both-none (readingFault sheet G) w (b .1) in
     let d = both-none (workFault sheet work) p (c .1) in
-    let f = both-none (workingFault sheet F) (workingFault sheet G) (d .1) in
-    (
+    let f = both-none (workingFault sheet F) (workingFault sheet G) (d .1) in (
       record { sheet-ok = a .0; text-ok = b .0; parts-ok = f .0 },
       record { sheet-ok = a .0; text-ok = c .0; parts-ok = f .1 },
       work-from sheet work (d .0),

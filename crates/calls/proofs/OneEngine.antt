@@ -77,8 +77,7 @@ module _ (E : Engine) (D : Demand2 E) where
       let z = sym (same-fault sheet formula work old) ∙ e in
       let c = call-clear sheet formula work (length old) z .0 in
       let q : g .words ≡ wordsOn sheet formula = clear-list sheet formula c (g .tree) (g .depth) (g .writes) .only (g .words) (g .theList .listed) in
-      let h = delivered sheet formula work old z in
-      (
+      let h = delivered sheet formula work old z in (
         g .delivered .count ∙ ap (λ (l : List ℕ). written.Count (length l)) q ∙ sym (h .count),
         g .delivered .output ∙ ap (λ (l : List ℕ). l ++ drop (length l) old) q ∙ sym (h .output),
       )
@@ -86,8 +85,7 @@ module _ (E : Engine) (D : Demand2 E) where
   alike-refused : (sheet formula : List ℕ) (work : ℕ) (old : List ℕ) → (¬ (faultIn (E .answer sheet formula work old) ≡ 0)) → Alike sheet formula work old
   alike-refused sheet formula work old e =
       let s = same-fault sheet formula work old in
-      let z : ¬ (callFault sheet formula work (length old) ≡ 0) = λ k. e (s ∙ k) in
-      (
+      let z : ¬ (callFault sheet formula work (length old) ≡ 0) = λ k. e (s ∙ k) in (
         refused (E .answer sheet formula work old) e ∙ ap written.Refused s ∙ sym (answer-refused sheet formula work old z),
         D .refusedKeeps sheet formula work old e ∙ sym (output-kept sheet formula work old z),
       )

@@ -41,7 +41,7 @@ faultsAs5 =
     record {
       answer = λ sheet formula work old. written.Refused 5;
       output = λ sheet formula work old. old;
-      claim = λ sheet F G work. verdict.Refused 5
+      claim = λ sheet F G work. verdict.Refused 5;
     }
 
 -- leaves the output words old

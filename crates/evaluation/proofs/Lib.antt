@@ -2,4 +2,7 @@
 pub mod SlotFacts
 pub mod Exact
 pub mod Putting
+pub mod PartCodes
+pub mod Leaves
+pub mod Applying
 pub mod Tracing

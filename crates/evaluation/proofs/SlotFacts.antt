@@ -51,21 +51,25 @@ pub keep-slots : (sheet work words counts : List ℕ) (base h n c : ℕ) (st : L
 keep-slots sheet work words counts base h n c [] le room s = tt
 keep-slots sheet work words counts base h n c (t ∷ st) le room s =
     let k = short (exactOn sheet t) (s .0 .accepted) in
-    let g : getD (set counts h c) (length st) 0 ≡ getD counts (length st) 0 = getD-set-other counts h (length st) c 0 (omega arith) in
-    (record {
-      long = g ∙ s .0 .long;
-      stands = rw g (below work words (256 * (base + h)) n (256 * (base + length st)) (getD counts (length st) 0) room (omega (arith, s .0 .long)) ∙ s .0 .stands);
-      accepted = s .0 .accepted
-    }, keep-slots sheet work words counts base h n c st (omega arith) room (s .1))
+    let g : getD (set counts h c) (length st) 0 ≡ getD counts (length st) 0 = getD-set-other counts h (length st) c 0 (omega arith) in (
+      record {
+        long = g ∙ s .0 .long;
+        stands = rw g (below work words (256 * (base + h)) n (256 * (base + length st)) (getD counts (length st) 0) room (omega (arith, s .0 .long)) ∙ s .0 .stands);
+        accepted = s .0 .accepted;
+      },
+      keep-slots sheet work words counts base h n c st (omega arith) room (s .1),
+    )
 
 -- the list of a tree put on top of the stack, at its height
 pub push-slot : (sheet work words counts : List ℕ) (base c : ℕ) (t : Tree) (st : List Tree) → c ≡ length (exactOn sheet t) → 256 * (base + length st) ≤ length work
     → take c words ≡ exactOn sheet t → c ≤ length words → listFault (exactOn sheet t) ≡ 0 → length st < length counts → Stacked sheet work counts base st
     → Stacked sheet (paste work (256 * (base + length st)) words c) (set counts (length st) c) base (t ∷ st)
 push-slot sheet work words counts base c t st ec room e enough ok hc s =
-    let g : getD (set counts (length st) c) (length st) 0 ≡ c = getD-set-same counts (length st) c 0 hc in
-    (record {
-      long = g ∙ ec;
-      stands = rw g (here work words (256 * (base + length st)) c room enough ∙ e);
-      accepted = ok
-    }, keep-slots sheet work words counts base (length st) c c st (omega arith) room s)
+    let g : getD (set counts (length st) c) (length st) 0 ≡ c = getD-set-same counts (length st) c 0 hc in (
+      record {
+        long = g ∙ ec;
+        stands = rw g (here work words (256 * (base + length st)) c room enough ∙ e);
+        accepted = ok;
+      },
+      keep-slots sheet work words counts base (length st) c c st (omega arith) room s,
+    )

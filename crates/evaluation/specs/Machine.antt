@@ -1,8 +1,9 @@
 -- Working a formula's parts out on a stack of lists, each in a slot of 256 words of the work area.
-use Prim.Native.Nat.{ℕ, _+_, _*_, _-_, _≤_}
+use Prim.Native.Nat.{ℕ, _+_, _*_, _-_, _/_, _%_, _≤_}
 use mathlib.Core.Path.{_≡_}
 use mathlib.Core.Bool.{Bool, true, false, cond, _&&_}
 use mathlib.Core.List.{List, [], _∷_}
+use lib.Dec.{eqb}
 use lib.ListN.{length, take, drop, getD, set}
 use lib.Seq.{paste}
 use Rattle.signals.specs.Answers.{writtenOf}
@@ -13,11 +14,25 @@ use Rattle.signals.specs.Words.{listFault}
 use Rattle.operations.specs.Calls.{exactOfOne, exactOfTwo, exactOfDelay}
 use Rattle.formulas.specs.Tree.{Tree, Leaf, Unary, Binary, leaf, unary, binary, down, up, name, invert, rise, fall, ton, tof, and, or, sr, rs}
 use Rattle.formulas.specs.Code.{Part, operand, one, two, ticksOf, top}
+use Rattle.formulas.specs.Formula.{nameAt}
 use Rattle.sheets.specs.Names.{wellNamed, among}
 use Rattle.sheets.specs.Reading.{signalsOn, names}
 use Rattle.calls.specs.OnSheet.{exactOn, leafFound}
 use Rattle.calls.specs.Calls.{partFault}
 use Rattle.evaluation.specs.declared.Next.{Next}
+
+-- the part that a code word stands for, by its kind in the low four bits: an operand below 3 and from 12 on, of one operand from 3 to 7,
+-- of two from 8 to 11
+unfoldable pub leafOf : List ℕ → ℕ → Leaf
+leafOf text w =
+    cond (eqb (w % 16) 2) (name (nameAt text (w / 256) (w / 16 % 16))) (cond (eqb (w % 16) 1) up down)
+
+unfoldable pub unaryOf : ℕ → ℕ → Unary
+unaryOf kind n =
+    cond (eqb kind 3) invert (cond (eqb kind 4) rise (cond (eqb kind 5) fall (cond (eqb kind 6) (ton n) (tof n))))
+
+unfoldable pub binaryOf : ℕ → Binary
+binaryOf kind = cond (eqb kind 8) and (cond (eqb kind 9) or (cond (eqb kind 10) sr rs))
 
 -- one part worked out
 abbrev pub worked : Part → List Tree → List Tree

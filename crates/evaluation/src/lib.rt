@@ -7,10 +7,11 @@ ghost use lib.Seq.{paste};
 ghost use Rattle.sheets.specs.Bytes.{low32, wordsIn};
 ghost use Rattle.sheets.specs.Reading.{sheetFault};
 ghost use Rattle.formulas.specs.Formula.{nameAt, partOf};
-ghost use Rattle.formulas.specs.Tree.{Tree, Leaf};
-ghost use Rattle.formulas.specs.Code.{operand};
-ghost use Rattle.evaluation.specs.Machine.{leafKnown, Loaded, Applied, Stacked, Enough, Known, Stepped};
-
+ghost use Rattle.signals.specs.Moment.{M};
+ghost use Rattle.signals.specs.Words.{listFault};
+ghost use Rattle.formulas.specs.Tree.{Tree};
+ghost use Rattle.formulas.specs.Code.{ticksOf};
+ghost use Rattle.evaluation.specs.Machine.{leafOf, unaryOf, binaryOf, leafKnown, Loaded, Applied, unaryExact, binaryExact, Stacked, Enough, Known, Stepped};
 use signals::Length;
 use signals::Written;
 
@@ -90,8 +91,8 @@ fn put_word(work: &mut [u32], at: usize, word: u32)
 fn load(sheet: &[u8], text: &[u8], code: u64, work: &mut [u32], at: usize) -> usize
     requires { ⌜ at + 256 ≤ length (now work) ⌝ }
     requires { ⌜ sheetFault (now sheet) ≡ 0 ⌝ }
-    requires { ⌜ ((l : Leaf) → partOf (now text) code ≡ operand l → leafKnown (now sheet) l) ⌝ }
-    ensures { λ r. ⌜ ((l : Leaf) → partOf (now (text .entry)) code ≡ operand l → Loaded (now (sheet .entry)) l (now (work .entry)) (now (work .exit)) at r) ⌝ }
+    requires { ⌜ leafKnown (now sheet) (leafOf (now text) code) ⌝ }
+    ensures { λ r. ⌜ Loaded (now (sheet .entry)) (leafOf (now (text .entry)) code) (now (work .entry)) (now (work .exit)) at r ⌝ }
 {
     let kind = code % 16;
     if kind == 2 {
@@ -107,4 +108,48 @@ fn load(sheet: &[u8], text: &[u8], code: u64, work: &mut [u32], at: usize) -> us
     }
     put_word(work, at, 0);
     1
+}
+
+const AND: [[bool; 2]; 2] = [[false, false], [false, true]];
+
+const OR: [[bool; 2]; 2] = [[false, true], [true, true]];
+
+// A part of one operand, worked out in a buffer.
+fn apply_unary(code: u64, a: &[u32], buffer: &mut [u32]) -> Written
+    requires { ⌜ (256 ≤ length (now buffer)) × (listFault (now a) ≡ 0) × (ticksOf (unaryOf (code % 16) (code / 16)) ≤ M) ⌝ }
+    ensures { λ r. ⌜ Applied (unaryExact (unaryOf (code % 16) (code / 16)) (now (a .entry))) (now (buffer .exit)) r ⌝ }
+{
+    let kind = code % 16;
+    if kind == 3 {
+        return operations::not_in(a, buffer);
+    }
+    if kind == 4 {
+        return operations::rising_in(a, buffer);
+    }
+    if kind == 5 {
+        return operations::falling_in(a, buffer);
+    }
+    let ticks = (code / 16 % 4294967296) as u32;
+    if kind == 6 {
+        return operations::delay::ton_in(Length(ticks), a, buffer);
+    }
+    operations::delay::tof_in(Length(ticks), a, buffer)
+}
+
+// A part of two operands, worked out in a buffer.
+fn apply_binary(code: u64, a: &[u32], b: &[u32], buffer: &mut [u32]) -> Written
+    requires { ⌜ (256 ≤ length (now buffer)) × (listFault (now a) ≡ 0) × (listFault (now b) ≡ 0) ⌝ }
+    ensures { λ r. ⌜ Applied (binaryExact (binaryOf (code % 16)) (now (a .entry)) (now (b .entry))) (now (buffer .exit)) r ⌝ }
+{
+    let kind = code % 16;
+    if kind == 8 {
+        return operations::connective_in(AND, a, b, buffer);
+    }
+    if kind == 9 {
+        return operations::connective_in(OR, a, b, buffer);
+    }
+    if kind == 10 {
+        return operations::sr_in(a, b, buffer);
+    }
+    operations::rs_in(a, b, buffer)
 }

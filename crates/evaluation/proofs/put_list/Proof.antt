@@ -45,10 +45,11 @@ in-work c = omega arith
 loop-again : tie.Need-loop-again Inv-loop μ-loop
 loop-again c =
     let here = c .before .before .loop in
-    let args = c .before .before .before .args in
-    (omega arith,
-    simp length-set (here .inv .1),
-    put-next (args .work .now) (args .words .now) (here .work) (args .at) (here .i) _ (here .inv .2) refl (in-work c) (shared-slice-read-work c))
+    let args = c .before .before .before .args in (
+      omega arith,
+      simp length-set (here .inv .1),
+      put-next (args .work .now) (args .words .now) (here .work) (args .at) (here .i) _ (here .inv .2) refl (in-work c) (shared-slice-read-work c),
+    )
 
 same-length : tie.Need-same-length Inv-loop μ-loop
 same-length c = c .before .loop .inv .1

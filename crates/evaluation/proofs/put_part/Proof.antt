@@ -49,11 +49,12 @@ in-part c = omega arith
 loop-again : tie.Need-loop-again Inv-loop μ-loop
 loop-again c =
     let here = c .before .before .loop in
-    let args = c .before .before .before .before .before .args in
-    (refl,
-    omega arith,
-    simp length-set (here .inv .2),
-    put-word (args .work .now) (args .part .now) (here .work) (args .at) (here .i) _ (here .inv .3) (c .word-at .ensures) (in-work c) (in-part c))
+    let args = c .before .before .before .before .before .args in (
+      refl,
+      omega arith,
+      simp length-set (here .inv .2),
+      put-word (args .work .now) (args .part .now) (here .work) (args .at) (here .i) _ (here .inv .3) (c .word-at .ensures) (in-work c) (in-part c),
+    )
 
 same-length : tie.Need-same-length Inv-loop μ-loop
 same-length c = c .before .loop .inv .2

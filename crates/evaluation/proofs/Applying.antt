@@ -1,0 +1,131 @@
+-- An operation of accepted lists in a buffer of 256 words or more meets only 5 and 6, and else leaves its words there.
+use Prim.Native.Nat.{ℕ, _+_, _/_, _%_, _≤_, _<_}
+use native.Mathlib.Omega.{arith}
+use mathlib.Core.Path.{_≡_, refl, sym, _∙_, ap}
+use mathlib.Core.Bool.{Bool, true, false, cond, false≢true}
+use mathlib.Core.List.{List, [], _∷_, _++_}
+use lib.Dec.{ltb, eqb}
+use lib.ListN.{length, take, drop}
+use lib.Seq.{take-at}
+use borrow.Author.Tests.{eq-eqb, ne-eqb, le-ltb, ltb-false}
+use Rattle.signals.specs.Moment.{M}
+use Rattle.signals.specs.Signal.{NOT, rising, falling, SR, RS, TON, TOF, connective}
+use Rattle.signals.specs.Words.{listFault}
+use Rattle.signals.specs.Answers.{writtenOf}
+use Rattle.signals.specs.declared.Written.{Written}
+use Rattle.operations.specs.Calls.{firstOf, pairFault, lengthFault, exactOfOne, exactOfTwo, exactOfDelay, answerFault, changesAfterM}
+use Rattle.operations.specs.Slots.{slotFault, inSlotFault, slotAfter, CallInSlot}
+use Rattle.operations.specs.Building.{slotWith}
+use Rattle.operations.proofs.JudgedCalls.{next-is}
+use Rattle.operations.proofs.BuildingLaws.{slot-short}
+use Rattle.formulas.specs.Tree.{Unary, Binary, invert, rise, fall, ton, tof, and, or, sr, rs}
+use Rattle.formulas.specs.Code.{ticksOf}
+use Rattle.calls.specs.Calls.{partFault}
+use Rattle.evaluation.specs.Machine.{Applied, unaryOf, binaryOf, unaryExact, binaryExact, AND-table, OR-table}
+use Rattle.evaluation.proofs.Exact.{slot-part}
+
+part-none : (exact : List ℕ) → partFault exact ≡ 0 → (length exact ≤ 256) × (changesAfterM exact ≡ false)
+unfolding partFault
+part-none exact = go (ltb 256 (length exact)) (changesAfterM exact) refl
+  where
+    go : (b c : Bool) → ltb 256 (length exact) ≡ b → _≡_ {A = ℕ} (cond b 5 (cond c 6 0)) 0 → (length exact ≤ 256) × (c ≡ false)
+    go true c e z = absurd (omega arith)
+    go false true e z = absurd (omega arith)
+    go false false e z = (ltb-false 256 (length exact) e, refl)
+
+pub applied : (judged : ℕ) (exact slot : List ℕ) (answer : Written) (after : List ℕ) → judged ≡ 0 → 256 ≤ length slot → CallInSlot judged exact slot answer after → Applied exact after answer
+unfolding inSlotFault slotAfter slotFault firstOf
+applied judged exact slot answer after z room h =
+    record {
+      answer-is = rw (z, le-ltb (length slot) 256 room, slot-part exact (length slot) room) at (h .0);
+      stands = λ p.
+          let q = part-none exact p in
+          let e : after ≡ slotWith exact slot = rw (z, le-ltb (length slot) 256 room) at (h .1) in
+          rw (e, slot-short exact slot (q .1) (q .0)) (take-at exact (drop (length exact) slot) (length exact) refl);
+    }
+
+pub pair-ok : (a b : List ℕ) → listFault a ≡ 0 → listFault b ≡ 0 → pairFault a b ≡ 0
+unfolding pairFault
+pair-ok a b x y = next-is (listFault a) (listFault b) x ∙ y
+
+pub delay-ok : (a : List ℕ) (d : ℕ) → listFault a ≡ 0 → d ≤ M → firstOf (listFault a) (lengthFault d) ≡ 0
+unfolding lengthFault
+delay-ok a d x y = next-is (listFault a) _ x ∙ rw (le-ltb M d y)
+
+-- which operator a code word of that kind stands for
+module _ (k n : ℕ) where
+  pub unary-3 : k ≡ 3 → unaryOf k n ≡ invert
+  unfolding unaryOf
+  unary-3 e = rw e
+
+  pub unary-4 : k ≡ 4 → unaryOf k n ≡ rise
+  unfolding unaryOf
+  unary-4 e = rw e
+
+  pub unary-5 : k ≡ 5 → unaryOf k n ≡ fall
+  unfolding unaryOf
+  unary-5 e = rw e
+
+  pub unary-6 : k ≡ 6 → unaryOf k n ≡ ton n
+  unfolding unaryOf
+  unary-6 e = rw e
+
+  pub unary-7 : (k ≡ 3 → ⊥) → (k ≡ 4 → ⊥) → (k ≡ 5 → ⊥) → (k ≡ 6 → ⊥) → unaryOf k n ≡ tof n
+  unfolding unaryOf
+  unary-7 a b c d = rw (ne-eqb k 3 a, ne-eqb k 4 b, ne-eqb k 5 c, ne-eqb k 6 d)
+
+  pub binary-8 : k ≡ 8 → binaryOf k ≡ and
+  unfolding binaryOf
+  binary-8 e = rw e
+
+  pub binary-9 : k ≡ 9 → binaryOf k ≡ or
+  unfolding binaryOf
+  binary-9 e = rw e
+
+  pub binary-10 : k ≡ 10 → binaryOf k ≡ sr
+  unfolding binaryOf
+  binary-10 e = rw e
+
+  pub binary-11 : (k ≡ 8 → ⊥) → (k ≡ 9 → ⊥) → (k ≡ 10 → ⊥) → binaryOf k ≡ rs
+  unfolding binaryOf
+  binary-11 a b c = rw (ne-eqb k 8 a, ne-eqb k 9 b, ne-eqb k 10 c)
+
+-- the answer of the call that the operator makes
+module _ (a slot : List ℕ) (answer : Written) (after : List ℕ) (room : 256 ≤ length slot) (ok : listFault a ≡ 0) (o : Unary) where
+  pub did-not : o ≡ invert → CallInSlot (listFault a) (exactOfOne NOT a) slot answer after → Applied (unaryExact o a) after answer
+  did-not e h = rw e (applied (listFault a) (exactOfOne NOT a) slot answer after ok room h)
+
+  pub did-rise : o ≡ rise → CallInSlot (listFault a) (exactOfOne rising a) slot answer after → Applied (unaryExact o a) after answer
+  did-rise e h = rw e (applied (listFault a) (exactOfOne rising a) slot answer after ok room h)
+
+  pub did-fall : o ≡ fall → CallInSlot (listFault a) (exactOfOne falling a) slot answer after → Applied (unaryExact o a) after answer
+  did-fall e h = rw e (applied (listFault a) (exactOfOne falling a) slot answer after ok room h)
+
+  pub did-ton : (n d : ℕ) → o ≡ ton n → ticksOf o ≤ M → d ≡ n % 4294967296
+      → CallInSlot (firstOf (listFault a) (lengthFault d)) (exactOfDelay (TON d) d a) slot answer after → Applied (unaryExact o a) after answer
+  did-ton n d e t q h =
+      let b : n ≤ M = rw e at t in
+      let s : d ≡ n = omega arith in
+      let h′ = rw s at h in
+      rw e (applied (firstOf (listFault a) (lengthFault n)) (exactOfDelay (TON n) n a) slot answer after (delay-ok a n ok b) room h′)
+
+  pub did-tof : (n d : ℕ) → o ≡ tof n → ticksOf o ≤ M → d ≡ n % 4294967296
+      → CallInSlot (firstOf (listFault a) (lengthFault d)) (exactOfDelay (TOF d) d a) slot answer after → Applied (unaryExact o a) after answer
+  did-tof n d e t q h =
+      let b : n ≤ M = rw e at t in
+      let s : d ≡ n = omega arith in
+      let h′ = rw s at h in
+      rw e (applied (firstOf (listFault a) (lengthFault n)) (exactOfDelay (TOF n) n a) slot answer after (delay-ok a n ok b) room h′)
+
+module _ (a b slot : List ℕ) (answer : Written) (after : List ℕ) (room : 256 ≤ length slot) (ok : listFault a ≡ 0) (ok2 : listFault b ≡ 0) (o : Binary) where
+  pub did-and : o ≡ and → CallInSlot (pairFault a b) (exactOfTwo (connective AND-table) a b) slot answer after → Applied (binaryExact o a b) after answer
+  did-and e h = rw e (applied (pairFault a b) _ slot answer after (pair-ok a b ok ok2) room h)
+
+  pub did-or : o ≡ or → CallInSlot (pairFault a b) (exactOfTwo (connective OR-table) a b) slot answer after → Applied (binaryExact o a b) after answer
+  did-or e h = rw e (applied (pairFault a b) _ slot answer after (pair-ok a b ok ok2) room h)
+
+  pub did-sr : o ≡ sr → CallInSlot (pairFault a b) (exactOfTwo SR a b) slot answer after → Applied (binaryExact o a b) after answer
+  did-sr e h = rw e (applied (pairFault a b) _ slot answer after (pair-ok a b ok ok2) room h)
+
+  pub did-rs : o ≡ rs → CallInSlot (pairFault a b) (exactOfTwo RS a b) slot answer after → Applied (binaryExact o a b) after answer
+  did-rs e h = rw e (applied (pairFault a b) _ slot answer after (pair-ok a b ok ok2) room h)

@@ -1,0 +1,105 @@
+-- The lists of leaves: a constant's has one word, a name's is the one that the sheet gives it.
+use Prim.Native.Nat.{ℕ, _+_, suc, _/_, _%_, _≤_, _<_}
+use native.Mathlib.Omega.{arith}
+use mathlib.Core.Path.{_≡_, refl, sym, _∙_, ap}
+use mathlib.Core.Bool.{Bool, true, false, cond}
+use mathlib.Core.List.{List, [], _∷_, _++_}
+use lib.Dec.{eqb}
+use lib.ListN.{length, take, drop, getD, set}
+use lib.Seq.{paste, set-split, append-snoc}
+use native.Mathlib.Numerals.{add-one}
+use borrow.Author.Tests.{eq-eqb, ne-eqb}
+use Rattle.signals.specs.Signal.{constant, num}
+use Rattle.signals.specs.Words.{listOf, wordsOf, listFault, signalOf, lastDate}
+use Rattle.signals.proofs.Normal.{readBack, acceptedNormal}
+use Rattle.sheets.specs.Bytes.{Bytes, wordsIn}
+use Rattle.sheets.specs.Names.{wellNamed, among}
+use Rattle.sheets.specs.Reading.{sheetFault, signalsOn, names, listNamed, environmentOn, orElse}
+use Rattle.sheets.specs.Calls.{lookupFault, lookupOf}
+use Rattle.sheets.specs.Theorems.{decoded, PartIsList}
+use Rattle.sheets.proofs.Theorems.{lookup-gives-the-list}
+use Rattle.formulas.specs.Tree.{Leaf, leaf, down, up, name}
+use Rattle.formulas.specs.Formula.{nameAt}
+use Rattle.calls.specs.OnSheet.{exactOn, settlingDate, signalOn}
+use Rattle.evaluation.specs.Machine.{leafOf, leafKnown, Loaded}
+use Rattle.evaluation.proofs.SlotFacts.{short}
+use Rattle.evaluation.proofs.Putting.{words-length}
+
+pub paste-one : (d : List ℕ) (at w : ℕ) → at < length d → set d at w ≡ paste d at (w ∷ []) 1
+paste-one d at w h =
+    set-split d at w h
+    ∙ sym (append-snoc (take at d) w (drop (suc at) d))
+    ∙ ap (λ k. (take at d ++ (w ∷ [])) ++ drop k d) (sym (add-one at))
+
+constant-list : (v : Bool) → listOf (constant v) 0 ≡ num v ∷ []
+unfolding listOf wordsOf constant
+constant-list v = refl
+
+pub down-list : (sheet : List ℕ) → exactOn sheet (leaf down) ≡ 0 ∷ []
+unfolding exactOn settlingDate
+down-list sheet = constant-list false
+
+pub up-list : (sheet : List ℕ) → exactOn sheet (leaf up) ≡ 1 ∷ []
+unfolding exactOn settlingDate
+up-list sheet = constant-list true
+
+-- a name's list on the sheet, as its part there
+module _ (sheet n : List ℕ) (ok : sheetFault sheet ≡ 0) (bytes : Bytes sheet) (known : (wellNamed n ≡ true) × (among n (names (signalsOn sheet)) ≡ true)) where
+  found : lookupFault sheet n ≡ 0
+  unfolding lookupFault
+  found = rw (ok, known .0, known .1)
+
+  the-part : PartIsList sheet n
+  the-part = lookup-gives-the-list sheet n bytes found
+
+  pub name-list : exactOn sheet (leaf (name n)) ≡ listNamed n (signalsOn sheet)
+  unfolding exactOn settlingDate environmentOn
+  name-list = readBack (listNamed n (signalsOn sheet)) (acceptedNormal (listNamed n (signalsOn sheet)) .0 (the-part .listed) .0) .same
+
+  pub part-words : (part : List ℕ) → part ≡ lookupOf sheet n → wordsIn (length part / 4) part ≡ exactOn sheet (leaf (name n))
+  unfolding decoded
+  part-words part e = rw e (the-part .words ∙ sym name-list)
+
+  pub part-short : (part : List ℕ) → part ≡ lookupOf sheet n → length part / 4 ≤ 256
+  part-short part e =
+      let l : length (wordsIn (length part / 4) part) ≡ length part / 4 = words-length (length part / 4) part in
+      let w = ap length (part-words part e ∙ name-list) in
+      let s = short (listNamed n (signalsOn sheet)) (the-part .listed) in
+      omega arith
+
+-- which leaf a code word of that kind stands for
+pub leaf-name : (text : List ℕ) (w : ℕ) → w % 16 ≡ 2 → leafOf text w ≡ name (nameAt text (w / 256) (w / 16 % 16))
+unfolding leafOf
+leaf-name text w e = rw (eq-eqb (w % 16) 2 e)
+
+pub leaf-up : (text : List ℕ) (w : ℕ) → w % 16 ≡ 1 → leafOf text w ≡ up
+unfolding leafOf
+leaf-up text w e = rw e
+
+pub leaf-down : (text : List ℕ) (w : ℕ) → (w % 16 ≡ 2 → ⊥) → (w % 16 ≡ 1 → ⊥) → leafOf text w ≡ down
+unfolding leafOf
+leaf-down text w a b = rw (ne-eqb (w % 16) 2 a, ne-eqb (w % 16) 1 b)
+
+-- the cases of loading
+pub loaded-name : (sheet text : List ℕ) (w : ℕ) (old work part name-bytes : List ℕ) (at count : ℕ) → sheetFault sheet ≡ 0 → Bytes sheet → leafKnown sheet (leafOf text w) → w % 16 ≡ 2
+    → name-bytes ≡ nameAt text (w / 256) (w / 16 % 16) → part ≡ lookupOf sheet name-bytes
+    → count ≡ length part / 4 → work ≡ paste old at (wordsIn (length part / 4) part) count → Loaded sheet (leafOf text w) old work at count
+loaded-name sheet text w old work part nb at count ok bytes known e en ep ec ew =
+    let k = rw (leaf-name text w e) at known in
+    let p : part ≡ lookupOf sheet (nameAt text (w / 256) (w / 16 % 16)) = rw en at ep in
+    let x = part-words sheet (nameAt text (w / 256) (w / 16 % 16)) ok bytes k part p in
+    rw (leaf-name text w e)
+    (record { count-is = ec ∙ sym (words-length (length part / 4) part) ∙ ap length x; work-is = rw (← x) ew })
+
+pub name-fits : (sheet text : List ℕ) (w : ℕ) (part name-bytes : List ℕ) → sheetFault sheet ≡ 0 → Bytes sheet → leafKnown sheet (leafOf text w) → w % 16 ≡ 2
+    → name-bytes ≡ nameAt text (w / 256) (w / 16 % 16) → part ≡ lookupOf sheet name-bytes → length part / 4 ≤ 256
+name-fits sheet text w part nb ok bytes known e en ep =
+    part-short sheet (nameAt text (w / 256) (w / 16 % 16)) ok bytes (rw (leaf-name text w e) at known) part (rw en at ep)
+
+pub loaded-up : (sheet text : List ℕ) (w : ℕ) (old work : List ℕ) (at : ℕ) → w % 16 ≡ 1 → work ≡ paste old at (1 ∷ []) 1 → Loaded sheet (leafOf text w) old work at 1
+loaded-up sheet text w old work at e ew =
+    rw (leaf-up text w e) (record { count-is = rw (up-list sheet); work-is = rw (up-list sheet) ew })
+
+pub loaded-down : (sheet text : List ℕ) (w : ℕ) (old work : List ℕ) (at : ℕ) → (w % 16 ≡ 2 → ⊥) → (w % 16 ≡ 1 → ⊥) → work ≡ paste old at (0 ∷ []) 1 → Loaded sheet (leafOf text w) old work at 1
+loaded-down sheet text w old work at a b ew =
+    rw (leaf-down text w a b) (record { count-is = rw (down-list sheet); work-is = rw (down-list sheet) ew })
