@@ -24,7 +24,7 @@ use Rattle.calls.specs.Calls.{partFault}
 use Rattle.evaluation.specs.Machine.{Applied, unaryOf, binaryOf, unaryExact, binaryExact, AND-table, OR-table}
 use Rattle.evaluation.proofs.Exact.{slot-part}
 
-part-none : (exact : List ℕ) → partFault exact ≡ 0 → (length exact ≤ 256) × (changesAfterM exact ≡ false)
+pub part-none : (exact : List ℕ) → partFault exact ≡ 0 → (length exact ≤ 256) × (changesAfterM exact ≡ false)
 unfolding partFault
 part-none exact = go (ltb 256 (length exact)) (changesAfterM exact) refl
   where

@@ -1,21 +1,28 @@
 -- The lists of leaves: a constant's has one word, a name's is the one that the sheet gives it.
-use Prim.Native.Nat.{ℕ, _+_, suc, _/_, _%_, _≤_, _<_}
+use Prim.Native.Nat.{ℕ, _+_, suc, _/_, _%_, zero, _≤_, _<_, _^_}
 use native.Mathlib.Omega.{arith}
 use mathlib.Core.Path.{_≡_, refl, sym, _∙_, ap}
 use mathlib.Core.Bool.{Bool, true, false, cond}
 use mathlib.Core.List.{List, [], _∷_, _++_}
-use lib.Dec.{eqb}
+use lib.Dec.{eqb, ltb}
 use lib.ListN.{length, take, drop, getD, set}
 use lib.Seq.{paste, set-split, append-snoc}
 use native.Mathlib.Numerals.{add-one}
-use borrow.Author.Tests.{eq-eqb, ne-eqb}
+use borrow.Author.Tests.{eq-eqb, ne-eqb, le-ltb}
+use Rattle.signals.specs.Moment.{M}
 use Rattle.signals.specs.Signal.{constant, num}
-use Rattle.signals.specs.Words.{listOf, wordsOf, listFault, signalOf, lastDate}
+use Rattle.signals.specs.Words.{listOf, wordsOf, listFault, signalOf, lastDate, dateOf}
+use Rattle.signals.proofs.WordFacts.{date-le}
+use Rattle.operations.specs.Calls.{changesAfterM}
+use Rattle.calls.specs.Calls.{partFault}
 use Rattle.signals.proofs.Normal.{readBack, acceptedNormal}
 use Rattle.sheets.specs.Bytes.{Bytes, wordsIn}
 use Rattle.sheets.specs.Names.{wellNamed, among}
 use Rattle.sheets.specs.Reading.{sheetFault, signalsOn, names, listNamed, environmentOn, orElse}
-use Rattle.sheets.specs.Calls.{lookupFault, lookupOf}
+use Rattle.sheets.specs.Calls.{lookupFault, lookupOf, placeOf, partAt}
+use Rattle.sheets.specs.declared.Place.{Place}
+use Rattle.sheets.specs.declared.Place.the-variants.{At, Refused}
+use Rattle.sheets.proofs.Digits.{bytes-drop, wordsIn-below}
 use Rattle.sheets.specs.Theorems.{decoded, PartIsList}
 use Rattle.sheets.proofs.Theorems.{lookup-gives-the-list}
 use Rattle.formulas.specs.Tree.{Leaf, leaf, down, up, name}
@@ -103,3 +110,44 @@ loaded-up sheet text w old work at e ew =
 pub loaded-down : (sheet text : List ℕ) (w : ℕ) (old work : List ℕ) (at : ℕ) → (w % 16 ≡ 2 → ⊥) → (w % 16 ≡ 1 → ⊥) → work ≡ paste old at (0 ∷ []) 1 → Loaded sheet (leafOf text w) old work at 1
 loaded-down sheet text w old work at a b ew =
     rw (leaf-down text w a b) (record { count-is = rw (down-list sheet); work-is = rw (down-list sheet) ew })
+
+-- names and constants never meet 5 or 6
+bytes-take : (n : ℕ) (l : List ℕ) → Bytes l → Bytes (take n l)
+bytes-take zero l h i = omega arith
+bytes-take (suc n) [] h i = omega arith
+bytes-take (suc n) (x ∷ l) h zero = h 0
+bytes-take (suc n) (x ∷ l) h (suc i) = bytes-take n l (λ j. h (suc j)) i
+
+lookup-bytes : (sheet n : List ℕ) → Bytes sheet → Bytes (lookupOf sheet n)
+unfolding lookupOf
+lookup-bytes sheet n h = go (placeOf sheet n)
+  where
+    go : (p : Place) → Bytes (partAt sheet p)
+    go (At start count) = bytes-take count (drop start sheet) (bytes-drop sheet start h)
+    go (Refused fault) = λ i. omega arith
+
+on-time : (l : List ℕ) → ((i : ℕ) → getD l i 0 < 2 ^ 32) → changesAfterM l ≡ false
+unfolding changesAfterM
+on-time [] h = refl
+on-time (w ∷ ws) h = rw (le-ltb M (dateOf w) (date-le w (h 0)), on-time ws (λ i. h (suc i)))
+
+no-part-fault : (l : List ℕ) → length l ≤ 256 → changesAfterM l ≡ false → partFault l ≡ 0
+unfolding partFault
+no-part-fault l h e = rw (le-ltb 256 (length l) h, e)
+
+pub leaf-fault : (sheet : List ℕ) (l : Leaf) → sheetFault sheet ≡ 0 → Bytes sheet → leafKnown sheet l → partFault (exactOn sheet (leaf l)) ≡ 0
+leaf-fault sheet down ok bytes known = rw (down-list sheet) (no-part-fault (0 ∷ []) (omega arith) (on-time (0 ∷ []) small))
+  where
+    small : (i : ℕ) → getD (0 ∷ []) i 0 < 2 ^ 32
+    small zero = omega arith
+    small (suc i) = omega arith
+leaf-fault sheet up ok bytes known = rw (up-list sheet) (no-part-fault (1 ∷ []) (omega arith) (on-time (1 ∷ []) small))
+  where
+    small : (i : ℕ) → getD (1 ∷ []) i 0 < 2 ^ 32
+    small zero = omega arith
+    small (suc i) = omega arith
+leaf-fault sheet (name n) ok bytes known =
+    let w = part-words sheet n ok bytes known (lookupOf sheet n) refl in
+    let s = part-short sheet n ok bytes known (lookupOf sheet n) refl in
+    let len = words-length (length (lookupOf sheet n) / 4) (lookupOf sheet n) in
+    rw (← w) (no-part-fault (wordsIn (length (lookupOf sheet n) / 4) (lookupOf sheet n)) (omega arith) (on-time _ (wordsIn-below (length (lookupOf sheet n) / 4) (lookupOf sheet n) (lookup-bytes sheet n bytes))))

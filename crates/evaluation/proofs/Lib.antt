@@ -5,4 +5,5 @@ pub mod Putting
 pub mod PartCodes
 pub mod Leaves
 pub mod Applying
+pub mod Stepping
 pub mod Tracing

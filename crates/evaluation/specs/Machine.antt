@@ -121,3 +121,24 @@ pub record Loaded (sheet : List ℕ) (l : Leaf) (old work : List ℕ) (at count 
 pub record Applied (exact buffer : List ℕ) (answer : Written) : Type 0 where
   pub answer-is : answer ≡ writtenOf (partFault exact) exact
   pub stands : partFault exact ≡ 0 → take (length exact) buffer ≡ exact
+
+-- what a step may rely on: the stack that the slots hold, with the part's operands
+pub record Ready (sheet work counts : List ℕ) (base height : ℕ) (p : Part) : Type 0 where
+  pub stack : List Tree
+  pub tall : length stack ≡ height
+  pub stacked : Stacked sheet work counts base stack
+  pub enough : Enough p stack
+  pub known : Known sheet p
+
+pub record Room (work buffer counts : List ℕ) (base height : ℕ) : Type 0 where
+  pub low : base ≤ 1
+  pub few : height ≤ 16
+  pub slots : 8192 ≤ length work
+  pub wide : 256 ≤ length buffer
+  pub counted : 32 ≤ length counts
+
+-- the step's promise, for every such stack
+abbrev pub Steps : List ℕ → List ℕ → List ℕ → List ℕ → ℕ → ℕ → Part → Next → Type 0
+Steps sheet before after counts base height p next =
+    (stack : List Tree) → length stack ≡ height → Stacked sheet before counts base stack → Enough p stack → Known sheet p
+    → Stepped sheet after counts base p stack next

@@ -10,8 +10,8 @@ ghost use Rattle.formulas.specs.Formula.{nameAt, partOf};
 ghost use Rattle.signals.specs.Moment.{M};
 ghost use Rattle.signals.specs.Words.{listFault};
 ghost use Rattle.formulas.specs.Tree.{Tree};
-ghost use Rattle.formulas.specs.Code.{ticksOf};
-ghost use Rattle.evaluation.specs.Machine.{leafOf, unaryOf, binaryOf, leafKnown, Loaded, Applied, unaryExact, binaryExact, Stacked, Enough, Known, Stepped};
+ghost use Rattle.formulas.specs.Code.{ticksOf, operand, one, two};
+ghost use Rattle.evaluation.specs.Machine.{leafOf, unaryOf, binaryOf, leafKnown, Loaded, Applied, unaryExact, binaryExact, Room, Ready, Steps};
 use signals::Length;
 use signals::Written;
 
@@ -152,4 +152,99 @@ fn apply_binary(code: u64, a: &[u32], b: &[u32], buffer: &mut [u32]) -> Written
         return operations::sr_in(a, b, buffer);
     }
     operations::rs_in(a, b, buffer)
+}
+
+// A leaf's list pushed onto the stack.
+fn push_leaf(
+    sheet: &[u8],
+    text: &[u8],
+    code: u64,
+    work: &mut [u32],
+    height: usize,
+    base: usize,
+) -> Next
+    requires { ⌜ (base ≤ 1) × (height ≤ 16) × (8192 ≤ length (now work)) ⌝ }
+    requires { ⌜ sheetFault (now sheet) ≡ 0 ⌝ }
+    requires { ⌜ leafKnown (now sheet) (leafOf (now text) code) ⌝ }
+    ensures { λ r. ⌜ ((counts : List ℕ) → 32 ≤ length counts → Steps (now (sheet .entry)) (now (work .entry)) (now (work .exit)) counts base height (operand (leafOf (now (text .entry)) code)) r) ⌝ }
+{
+    let at = (base + height) * 256;
+    let count = load(sheet, text, code, work, at);
+    Next {
+        fault: 0,
+        height: height + 1,
+        count,
+    }
+}
+
+// A part of one operand, its list in the place of its operand's.
+fn on_one(
+    code: u64,
+    work: &mut [u32],
+    buffer: &mut [u32],
+    counts: &[usize],
+    height: usize,
+    base: usize,
+) -> Next
+    requires { ⌜ Room (now work) (now buffer) (now counts) base height ⌝ }
+    requires { ⌜ ((sheet : List ℕ) × (sheetFault sheet ≡ 0) × Ready sheet (now work) (now counts) base height (one (unaryOf (code % 16) (code / 16)))) ⌝ }
+    ensures { λ r. ⌜ ((sheet : List ℕ) → sheetFault sheet ≡ 0 → Steps sheet (now (work .entry)) (now (work .exit)) (now (counts .entry)) base height (one (unaryOf (code % 16) (code / 16))) r) ⌝ }
+{
+    let top = height - 1;
+    let at = (base + top) * 256;
+    let end = at + counts[top];
+    let answer = apply_unary(code, &work[at..end], buffer);
+    match answer {
+        Written::Count(count) => {
+            put_list(work, at, buffer, count);
+            Next {
+                fault: 0,
+                height,
+                count,
+            }
+        }
+        Written::Refused(fault) => Next {
+            fault,
+            height,
+            count: 0,
+        },
+    }
+}
+
+// A part of two operands, its list in the place of its first operand's.
+fn on_two(
+    code: u64,
+    work: &mut [u32],
+    buffer: &mut [u32],
+    counts: &[usize],
+    height: usize,
+    base: usize,
+) -> Next
+    requires { ⌜ Room (now work) (now buffer) (now counts) base height ⌝ }
+    requires { ⌜ ((sheet : List ℕ) × (sheetFault sheet ≡ 0) × Ready sheet (now work) (now counts) base height (two (binaryOf (code % 16)))) ⌝ }
+    ensures { λ r. ⌜ ((sheet : List ℕ) → sheetFault sheet ≡ 0 → Steps sheet (now (work .entry)) (now (work .exit)) (now (counts .entry)) base height (two (binaryOf (code % 16))) r) ⌝ }
+{
+    let second = height - 1;
+    let first = height - 2;
+    let at = (base + first) * 256;
+    let end = at + counts[first];
+    let above = (base + second) * 256;
+    let last = above + counts[second];
+    let w = &work[..];
+    let answer = apply_binary(code, &w[at..end], &w[above..last], buffer);
+    match answer {
+        Written::Count(count) => {
+            put_list(work, at, buffer, count);
+            Next {
+                fault: 0,
+                height: second,
+                count,
+            }
+        }
+        Written::Refused(fault) => Next {
+            fault,
+            height: second,
+            count: 0,
+        },
+    }
 }

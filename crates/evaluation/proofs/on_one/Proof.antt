@@ -1,0 +1,99 @@
+-- `evaluation::on_one` meets its contract: the operator's answer takes the place of its operand's list.
+use native.Mathlib.Omega.{arith}
+use mathlib.Core.Path.{_≡_, refl, sym, _∙_}
+use Rattle.evaluation.proofs.Stepping.{OneTop, one-top, one-fits, one-accepted, answer-short, one-counted, one-refused}
+use borrow.Author.Needs.{needs}
+use Rattle.evaluation.proofs.on_one.Statement.{statement}
+use Rattle.evaluation.proofs.on_one.Tie as tie
+
+sub-top : tie.Need-sub-top
+sub-top c = one-fits _ _ _ _ _ (c .before .before .before .pre .0) _ _ (c .before .before .before .pre .1 .2) .0
+
+add-at : tie.Need-add-at
+add-at c = search needs
+
+mul-at : tie.Need-mul-at
+mul-at c = search needs
+
+mul-end : tie.Need-mul-end
+mul-end c = search needs
+
+shared-slice-read-end : tie.Need-shared-slice-read-end
+shared-slice-read-end c = search needs
+
+add-end : tie.Need-add-end
+add-end c = omega (arith, one-fits _ _ _ _ _ (c .before .before .before .before .pre .0) _ _ (c .before .before .before .before .pre .1 .2))
+
+mul-apply-unary : tie.Need-mul-apply-unary
+mul-apply-unary c = search needs
+
+sub-apply-unary : tie.Need-sub-apply-unary
+sub-apply-unary c = search needs
+
+part-apply-unary-start : tie.Need-part-apply-unary-start
+part-apply-unary-start c = search needs
+
+part-apply-unary-end : tie.Need-part-apply-unary-end
+part-apply-unary-end c = omega (arith, one-fits _ _ _ _ _ (c .before .before .before .before .before .pre .0) _ _ (c .before .before .before .before .before .pre .1 .2), c .before .before .before .before .before .pre .0 .slots)
+
+apply-unary-requires : tie.Need-apply-unary-requires
+apply-unary-requires c κs = (c .before .before .before .before .before .before .before .pre .0 .wide, one-accepted _ _ _ _ _ (c .before .before .before .before .before .before .before .pre .0) _ _ (c .before .before .before .before .before .before .before .pre .1 .2), c .before .before .before .before .before .before .before .pre .1 .2 .known)
+
+enum-known-answer : tie.Need-enum-known-answer
+enum-known-answer c = search needs
+
+put-list-requires : tie.Need-put-list-requires
+put-list-requires c κs =
+    let short = answer-short _ _ _ _ (c .before .before .before .before .before .before .before .apply-unary .ensures) (c .before .before .before .answer .given .1) in
+    let fits = one-fits _ _ _ _ _ (c .before .before .before .before .before .before .before .before .before .before .before .before .before .before .before .pre .0) _ _ (c .before .before .before .before .before .before .before .before .before .before .before .before .before .before .before .pre .1 .2) in
+    (omega (arith, c .before .before .before .before .before .before .before .before .before .before .before .before .before .before .before .pre .0 .low, c .before .before .before .before .before .before .before .before .before .before .before .before .before .before .before .pre .0 .few, c .before .before .before .before .before .before .before .before .before .before .before .before .before .before .before .pre .0 .slots), omega (arith, c .before .before .before .before .before .before .before .before .before .before .before .before .before .before .before .pre .0 .wide, c .before .before .before .before .before .before .before .apply-unary .kept .1 .1 .0))
+
+enum-known-answer-2 : tie.Need-enum-known-answer-2
+enum-known-answer-2 c = search needs
+
+same-length : tie.Need-same-length
+same-length c = search needs
+
+same-length-2 : tie.Need-same-length-2
+same-length-2 c = search needs
+
+returns : tie.Need-returns
+returns c =
+    λ sheet ok stack tall stacked enough known.
+    one-counted sheet ok (c .before .before .before .before .before .before .before .before .before .before .before .before .before .before .before .before .before .before .args .work .now) _ (c .before .before .before .before .before .before .before .before .before .before .before .before .before .before .before .before .before .before .args .counts .now) _ _ (record { low = c .before .before .before .before .before .before .before .before .before .before .before .before .before .before .before .before .before .before .pre .0 .low; few = c .before .before .before .before .before .before .before .before .before .before .before .before .before .before .before .before .before .before .pre .0 .few; slots = c .before .before .before .before .before .before .before .before .before .before .before .before .before .before .before .before .before .before .pre .0 .slots; wide = omega (arith, c .before .before .before .before .before .before .before .before .before .before .before .before .before .before .before .before .before .before .pre .0 .wide, c .before .before .before .before .before .before .before .before .before .before .apply-unary .kept .1 .1 .0); counted = c .before .before .before .before .before .before .before .before .before .before .before .before .before .before .before .before .before .before .pre .0 .counted }) _ stack tall stacked enough _ refl _ (c .before .before .before .before .before .before .before .before .before .before .apply-unary .ensures) _ (c .before .before .before .before .before .before .answer .given .1) _ (c .before .before .put-list .ensures)
+
+same-length-3 : tie.Need-same-length-3
+same-length-3 c = search needs
+
+same-length-4 : tie.Need-same-length-4
+same-length-4 c = search needs
+
+returns-2 : tie.Need-returns-2
+returns-2 c =
+    λ sheet ok stack tall stacked enough known.
+    one-refused sheet ok (c .before .before .before .before .before .before .before .before .before .before .before .before .before .args .work .now) _ (c .before .before .before .before .before .before .before .before .before .before .before .before .before .args .counts .now) _ _ (record { low = c .before .before .before .before .before .before .before .before .before .before .before .before .before .pre .0 .low; few = c .before .before .before .before .before .before .before .before .before .before .before .before .before .pre .0 .few; slots = c .before .before .before .before .before .before .before .before .before .before .before .before .before .pre .0 .slots; wide = omega (arith, c .before .before .before .before .before .before .before .before .before .before .before .before .before .pre .0 .wide, c .before .before .before .before .before .apply-unary .kept .1 .1 .0); counted = c .before .before .before .before .before .before .before .before .before .before .before .before .before .pre .0 .counted }) _ stack tall stacked enough _ refl _ (c .before .before .before .before .before .apply-unary .ensures) _ (c .before .answer2 .given .1) _
+
+pub on-one-spec : {M : Type 1} → statement M
+on-one-spec =
+    tie.close
+    (tie.spec
+    sub-top
+    add-at
+    mul-at
+    mul-end
+    shared-slice-read-end
+    add-end
+    mul-apply-unary
+    sub-apply-unary
+    part-apply-unary-start
+    part-apply-unary-end
+    apply-unary-requires
+    enum-known-answer
+    put-list-requires
+    enum-known-answer-2
+    same-length
+    same-length-2
+    returns
+    same-length-3
+    same-length-4
+    returns-2)
