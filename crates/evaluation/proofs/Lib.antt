@@ -6,4 +6,5 @@ pub mod PartCodes
 pub mod Leaves
 pub mod Applying
 pub mod Stepping
+pub mod Dispatch
 pub mod Tracing

@@ -20,7 +20,7 @@ use Rattle.calls.specs.OnSheet.{exactOn}
 use Rattle.calls.specs.Calls.{partFault}
 use Rattle.evaluation.specs.declared.Next.{Next}
 use Rattle.evaluation.specs.Machine.{InSlot, Stacked, Enough, Known, Stepped, Applied, Ready, Room, Loaded, unaryExact, binaryExact, worked}
-use Rattle.evaluation.proofs.SlotFacts.{short, push-slot}
+use Rattle.evaluation.proofs.SlotFacts.{short, push-slot, below}
 use Rattle.evaluation.proofs.Exact.{unary-exact, binary-exact, accepted-part}
 use Rattle.evaluation.proofs.Applying.{part-none}
 
@@ -105,15 +105,15 @@ module _ (sheet : List ℕ) (ok : sheetFault sheet ≡ 0) (work buffer counts : 
       let w = words-there work (exactOn sheet (private-top .tree)) (base + (height - 1)) (getD counts (height - 1) 0) at (private-top .slot) at-is in
       rw (unary-exact sheet ok o (private-top .tree) (private-top .slot .accepted)) at (rw w at h)
 
-  pub one-refused : Applied (unaryExact o (take (at + getD counts (height - 1) 0 - at) (drop at work))) buffer answer → (f : ℕ) → answer ≡ Refused f → (after : List ℕ)
-      → Stepped sheet after counts base (one o) st (record { fault = f; height = height; count = 0 })
-  one-refused h f e after =
+  pub one-refused : Applied (unaryExact o (take (at + getD counts (height - 1) 0 - at) (drop at work))) buffer answer → (f : ℕ) → answer ≡ Refused f → (after : List ℕ) → after ≡ work
+      → Stepped sheet work after counts base (one o) st (record { fault = f; height = height; count = 0 })
+  one-refused h f e after ea =
       let q = refused-by (partFault (exactOn sheet (unary o (private-top .tree)))) _ f (sym (did h .answer-is) ∙ e) in
       rw (private-top .stack-is)
-      (record { fault-is = sym (q .0); height-is = λ z. absurd (q .1 z); small = omega arith; stacked = λ z. absurd (q .1 z) })
+      (record { fault-is = sym (q .0); height-is = λ z. absurd (q .1 z); small = omega arith; kept = ap (λ l. take (256 * base) l) ea; stacked = λ z. absurd (q .1 z) })
 
   pub one-counted : Applied (unaryExact o (take (at + getD counts (height - 1) 0 - at) (drop at work))) buffer answer → (n : ℕ) → answer ≡ Count n → (after : List ℕ) → after ≡ paste work at buffer n
-      → Stepped sheet after counts base (one o) st (record { fault = 0; height = height; count = n })
+      → Stepped sheet work after counts base (one o) st (record { fault = 0; height = height; count = n })
   one-counted h n e after ea =
       let made = exactOn sheet (unary o (private-top .tree)) in
       let q = counted (partFault made) made n (sym (did h .answer-is) ∙ e) in
@@ -125,6 +125,7 @@ module _ (sheet : List ℕ) (ok : sheetFault sheet ≡ 0) (work buffer counts : 
         fault-is = sym (q .0);
         height-is = λ z. private-top .tall;
         small = omega (arith, q .1);
+        kept = rw ea (below work buffer at n 0 (256 * base) (omega (arith, r .low, r .few, r .slots, private-top .tall)) (omega arith));
         stacked = λ z. rw (ea, ← k) (on-top sheet ok work buffer counts base (unary o (private-top .tree)) (private-top .rest) (omega (arith, r .low, r .few)) (r .slots) (r .counted) (private-top .below) n at (rw k at-is) (q .0) (q .1) f (omega (arith, r .wide)));
       })
 
@@ -146,15 +147,15 @@ module _ (sheet : List ℕ) (ok : sheetFault sheet ≡ 0) (work buffer counts : 
       let w = words-there work (exactOn sheet (tops .second)) (base + (height - 1)) (getD counts (height - 1) 0) above (tops .second-slot) above-is in
       rw (binary-exact sheet ok o (tops .first) (tops .second) (tops .first-slot .accepted) (tops .second-slot .accepted)) at (rw (v, w) at h)
 
-  pub two-refused : TwoDid → (f : ℕ) → answer ≡ Refused f → (after : List ℕ)
-      → Stepped sheet after counts base (two o) st (record { fault = f; height = height - 1; count = 0 })
-  two-refused h f e after =
+  pub two-refused : TwoDid → (f : ℕ) → answer ≡ Refused f → (after : List ℕ) → after ≡ work
+      → Stepped sheet work after counts base (two o) st (record { fault = f; height = height - 1; count = 0 })
+  two-refused h f e after ea =
       let q = refused-by (partFault (exactOn sheet (binary o (tops .first) (tops .second)))) _ f (sym (did-two h .answer-is) ∙ e) in
       rw (tops .stack-is)
-      (record { fault-is = sym (q .0); height-is = λ z. absurd (q .1 z); small = omega arith; stacked = λ z. absurd (q .1 z) })
+      (record { fault-is = sym (q .0); height-is = λ z. absurd (q .1 z); small = omega arith; kept = ap (λ l. take (256 * base) l) ea; stacked = λ z. absurd (q .1 z) })
 
   pub two-counted : TwoDid → (n : ℕ) → answer ≡ Count n → (after : List ℕ) → after ≡ paste work at buffer n
-      → Stepped sheet after counts base (two o) st (record { fault = 0; height = height - 1; count = n })
+      → Stepped sheet work after counts base (two o) st (record { fault = 0; height = height - 1; count = n })
   two-counted h n e after ea =
       let made = exactOn sheet (binary o (tops .first) (tops .second)) in
       let q = counted (partFault made) made n (sym (did-two h .answer-is) ∙ e) in
@@ -167,6 +168,7 @@ module _ (sheet : List ℕ) (ok : sheetFault sheet ≡ 0) (work buffer counts : 
         fault-is = sym (q .0);
         height-is = λ z. omega (arith, tops .tall);
         small = omega (arith, q .1);
+        kept = rw ea (below work buffer at n 0 (256 * base) (omega (arith, r .low, r .few, r .slots, tops .tall)) (omega arith));
         stacked = λ z. rw (ea, ← k) (on-top sheet ok work buffer counts base (binary o (tops .first) (tops .second)) (tops .rest) (omega (arith, r .low, r .few, tops .tall)) (r .slots) (r .counted) (tops .below) n at (rw k2 at-is) (q .0) (q .1) f (omega (arith, r .wide)));
       })
 
@@ -174,7 +176,7 @@ module _ (sheet : List ℕ) (ok : sheetFault sheet ≡ 0) (work buffer counts : 
 pub leaf-pushed : (sheet : List ℕ) → sheetFault sheet ≡ 0 → (work after counts : List ℕ) (base height : ℕ) (l : Leaf) (n at : ℕ) → base ≤ 1 → height ≤ 16 → 8192 ≤ length work
     → 32 ≤ length counts → partFault (exactOn sheet (leaf l)) ≡ 0 → at ≡ (base + height) * 256 → Loaded sheet l work after at n
     → (st : List Tree) → length st ≡ height → Stacked sheet work counts base st
-    → Stepped sheet after counts base (operand l) st (record { fault = 0; height = height + 1; count = n })
+    → Stepped sheet work after counts base (operand l) st (record { fault = 0; height = height + 1; count = n })
 leaf-pushed sheet ok work after counts base height l n at low few slots room fault at-is loaded st tall stacked =
     let made = exactOn sheet (leaf l) in
     let s = short made (accepted-part sheet ok (leaf l) fault) in
@@ -184,6 +186,7 @@ leaf-pushed sheet ok work after counts base height l n at low few slots room fau
       fault-is = sym fault;
       height-is = λ z. omega arith;
       small = omega (arith, loaded .count-is);
+      kept = rw (loaded .work-is) (below work made at n 0 (256 * base) (omega arith) (omega arith));
       stacked = λ z. rw (loaded .work-is, ← k) (on-top sheet ok work made counts base (leaf l) st (omega arith) slots room stacked n at (rw tall at-is) fault (loaded .count-is) f (omega (arith, loaded .count-is)));
     }
 

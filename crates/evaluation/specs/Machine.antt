@@ -76,10 +76,12 @@ Stacked sheet work counts base (t ∷ st) =
     InSlot work (base + length st) (getD counts (length st) 0) (exactOn sheet t) × Stacked sheet work counts base st
 
 -- what a step says: the part's fault, and without one the stack after it
-pub record Stepped (sheet work counts : List ℕ) (base : ℕ) (p : Part) (st : List Tree) (next : Next) : Type 0 where
+pub record Stepped (sheet before work counts : List ℕ) (base : ℕ) (p : Part) (st : List Tree) (next : Next) : Type 0 where
   pub fault-is : next .fault ≡ partFault (exactOn sheet (top (worked p st)))
   pub height-is : next .fault ≡ 0 → next .height ≡ length (worked p st)
   pub small : next .count ≤ 256
+  -- the slots below base are as they were
+  pub kept : take (256 * base) work ≡ take (256 * base) before
   pub stacked : next .fault ≡ 0 → Stacked sheet work (set counts (next .height - 1) (next .count)) base (worked p st)
 
 -- the exact answers of the operators, from their operands' lists
@@ -141,4 +143,4 @@ pub record Room (work buffer counts : List ℕ) (base height : ℕ) : Type 0 whe
 abbrev pub Steps : List ℕ → List ℕ → List ℕ → List ℕ → ℕ → ℕ → Part → Next → Type 0
 Steps sheet before after counts base height p next =
     (stack : List Tree) → length stack ≡ height → Stacked sheet before counts base stack → Enough p stack → Known sheet p
-    → Stepped sheet after counts base p stack next
+    → Stepped sheet before after counts base p stack next

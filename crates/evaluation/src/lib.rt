@@ -248,3 +248,23 @@ fn on_two(
         },
     }
 }
+
+// One part worked out, by the kind of its code word.
+fn step(sheet: &[u8], text: &[u8], code: u64, work: &mut [u32], buffer: &mut [u32], counts: &[usize], height: usize, base: usize) -> Next
+    requires { ⌜ Room (now work) (now buffer) (now counts) base height ⌝ }
+    requires { ⌜ sheetFault (now sheet) ≡ 0 ⌝ }
+    requires { ⌜ Ready (now sheet) (now work) (now counts) base height (partOf (now text) code) ⌝ }
+    ensures { λ r. ⌜ Steps (now (sheet .entry)) (now (work .entry)) (now (work .exit)) (now (counts .entry)) base height (partOf (now (text .entry)) code) r ⌝ }
+{
+    let kind = code % 16;
+    if kind < 3 {
+        return push_leaf(sheet, text, code, work, height, base);
+    }
+    if kind < 8 {
+        return on_one(code, work, buffer, counts, height, base);
+    }
+    if kind < 12 {
+        return on_two(code, work, buffer, counts, height, base);
+    }
+    push_leaf(sheet, text, code, work, height, base)
+}

@@ -71,7 +71,7 @@ same-length-4 c = search needs
 returns-2 : tie.Need-returns-2
 returns-2 c =
     λ sheet ok stack tall stacked enough known.
-    one-refused sheet ok (c .before .before .before .before .before .before .before .before .before .before .before .before .before .args .work .now) _ (c .before .before .before .before .before .before .before .before .before .before .before .before .before .args .counts .now) _ _ (record { low = c .before .before .before .before .before .before .before .before .before .before .before .before .before .pre .0 .low; few = c .before .before .before .before .before .before .before .before .before .before .before .before .before .pre .0 .few; slots = c .before .before .before .before .before .before .before .before .before .before .before .before .before .pre .0 .slots; wide = omega (arith, c .before .before .before .before .before .before .before .before .before .before .before .before .before .pre .0 .wide, c .before .before .before .before .before .apply-unary .kept .1 .1 .0); counted = c .before .before .before .before .before .before .before .before .before .before .before .before .before .pre .0 .counted }) _ stack tall stacked enough _ refl _ (c .before .before .before .before .before .apply-unary .ensures) _ (c .before .answer2 .given .1) _
+    one-refused sheet ok (c .before .before .before .before .before .before .before .before .before .before .before .before .before .args .work .now) _ (c .before .before .before .before .before .before .before .before .before .before .before .before .before .args .counts .now) _ _ (record { low = c .before .before .before .before .before .before .before .before .before .before .before .before .before .pre .0 .low; few = c .before .before .before .before .before .before .before .before .before .before .before .before .before .pre .0 .few; slots = c .before .before .before .before .before .before .before .before .before .before .before .before .before .pre .0 .slots; wide = omega (arith, c .before .before .before .before .before .before .before .before .before .before .before .before .before .pre .0 .wide, c .before .before .before .before .before .apply-unary .kept .1 .1 .0); counted = c .before .before .before .before .before .before .before .before .before .before .before .before .before .pre .0 .counted }) _ stack tall stacked enough _ refl _ (c .before .before .before .before .before .apply-unary .ensures) _ (c .before .answer2 .given .1) _ refl
 
 pub on-one-spec : {M : Type 1} → statement M
 on-one-spec =
