@@ -7,4 +7,5 @@ pub mod Leaves
 pub mod Applying
 pub mod Stepping
 pub mod Dispatch
+pub mod Looping
 pub mod Tracing

@@ -2,7 +2,7 @@
 use Prim.Native.Nat.{ℕ, _+_, _*_, _-_, _/_, _%_, _≤_}
 use mathlib.Core.Path.{_≡_}
 use mathlib.Core.Bool.{Bool, true, false, cond, _&&_}
-use mathlib.Core.List.{List, [], _∷_}
+use mathlib.Core.List.{List, [], _∷_, map}
 use lib.Dec.{eqb}
 use lib.ListN.{length, take, drop, getD, set}
 use lib.Seq.{paste}
@@ -13,12 +13,13 @@ use Rattle.signals.specs.Signal.{Table, tableOf, NOT, rising, falling, SR, RS, 
 use Rattle.signals.specs.Words.{listFault}
 use Rattle.operations.specs.Calls.{exactOfOne, exactOfTwo, exactOfDelay}
 use Rattle.formulas.specs.Tree.{Tree, Leaf, Unary, Binary, leaf, unary, binary, down, up, name, invert, rise, fall, ton, tof, and, or, sr, rs}
-use Rattle.formulas.specs.Code.{Part, operand, one, two, ticksOf, top}
-use Rattle.formulas.specs.Formula.{nameAt}
+use Rattle.formulas.specs.Code.{Part, operand, one, two, ticksOf, top, code}
+use Rattle.formulas.specs.Formula.{nameAt, partOf}
 use Rattle.sheets.specs.Names.{wellNamed, among}
 use Rattle.sheets.specs.Reading.{signalsOn, names}
 use Rattle.calls.specs.OnSheet.{exactOn, leafFound}
-use Rattle.calls.specs.Calls.{partFault}
+use Rattle.calls.specs.Calls.{partFault, partsFault}
+use Rattle.laws.specs.Rewriting.{parts}
 use Rattle.evaluation.specs.declared.Next.{Next}
 
 -- the part that a code word stands for, by its kind in the low four bits: an operand below 3 and from 12 on, of one operand from 3 to 7,
@@ -144,3 +145,19 @@ abbrev pub Steps : List ℕ → List ℕ → List ℕ → List ℕ → ℕ → �
 Steps sheet before after counts base height p next =
     (stack : List Tree) → length stack ≡ height → Stacked sheet before counts base stack → Enough p stack → Known sheet p
     → Stepped sheet before after counts base p stack next
+
+-- the parts that n code words of a text stand for
+unfoldable pub partsIn : List ℕ → List ℕ → ℕ → List Part
+partsIn text codes n = map (partOf text) (take n codes)
+
+-- the code words stand for a tree whose names the sheet has and whose lengths are at most M
+pub record Plan (sheet text codes : List ℕ) (n : ℕ) : Type 0 where
+  pub tree : Tree
+  pub parts-are : partsIn text codes n ≡ code tree
+  pub all-known : AllKnown sheet (code tree)
+
+-- what working a formula out says: 5 or 6 of its first part that meets one, or its list in the slot at base
+pub record WorkedOut (sheet before after : List ℕ) (base : ℕ) (t : Tree) (answer : Written) : Type 0 where
+  pub answer-is : answer ≡ writtenOf (partsFault sheet (parts t)) (exactOn sheet t)
+  pub stands : partsFault sheet (parts t) ≡ 0 → InSlot after base (length (exactOn sheet t)) (exactOn sheet t)
+  pub kept : take (256 * base) after ≡ take (256 * base) before

@@ -10,8 +10,8 @@ ghost use Rattle.formulas.specs.Formula.{nameAt, partOf};
 ghost use Rattle.signals.specs.Moment.{M};
 ghost use Rattle.signals.specs.Words.{listFault};
 ghost use Rattle.formulas.specs.Tree.{Tree};
-ghost use Rattle.formulas.specs.Code.{ticksOf, operand, one, two};
-ghost use Rattle.evaluation.specs.Machine.{leafOf, unaryOf, binaryOf, leafKnown, Loaded, Applied, unaryExact, binaryExact, Room, Ready, Steps};
+ghost use Rattle.formulas.specs.Code.{ticksOf, operand, one, two, code};
+ghost use Rattle.evaluation.specs.Machine.{leafOf, unaryOf, binaryOf, leafKnown, Loaded, Applied, unaryExact, binaryExact, Room, Ready, Steps, Plan, partsIn, WorkedOut};
 use signals::Length;
 use signals::Written;
 
@@ -250,7 +250,16 @@ fn on_two(
 }
 
 // One part worked out, by the kind of its code word.
-fn step(sheet: &[u8], text: &[u8], code: u64, work: &mut [u32], buffer: &mut [u32], counts: &[usize], height: usize, base: usize) -> Next
+fn step(
+    sheet: &[u8],
+    text: &[u8],
+    code: u64,
+    work: &mut [u32],
+    buffer: &mut [u32],
+    counts: &[usize],
+    height: usize,
+    base: usize,
+) -> Next
     requires { ⌜ Room (now work) (now buffer) (now counts) base height ⌝ }
     requires { ⌜ sheetFault (now sheet) ≡ 0 ⌝ }
     requires { ⌜ Ready (now sheet) (now work) (now counts) base height (partOf (now text) code) ⌝ }
@@ -267,4 +276,45 @@ fn step(sheet: &[u8], text: &[u8], code: u64, work: &mut [u32], buffer: &mut [u3
         return on_two(code, work, buffer, counts, height, base);
     }
     push_leaf(sheet, text, code, work, height, base)
+}
+
+// A formula's parts worked out one after the other, on a stack whose slots begin at base; its list then stands there.
+fn work_out(
+    sheet: &[u8],
+    text: &[u8],
+    codes: &[u64],
+    n: usize,
+    work: &mut [u32],
+    base: usize,
+) -> Written
+    requires { ⌜ (n ≤ 32) × (n ≤ length (now codes)) × (base ≤ 1) × (8192 ≤ length (now work)) ⌝ }
+    requires { ⌜ sheetFault (now sheet) ≡ 0 ⌝ }
+    requires { ⌜ Plan (now sheet) (now text) (now codes) n ⌝ }
+    ensures { λ r. ⌜ ((t : Tree) → partsIn (now (text .entry)) (now (codes .entry)) n ≡ code t → WorkedOut (now (sheet .entry)) (now (work .entry)) (now (work .exit)) base t r) ⌝ }
+{
+    let mut counts = [0usize; 32];
+    let mut buffer = [0u32; 256];
+    let mut height: usize = 0;
+    let mut i: usize = 0;
+    while i < n {
+        let next = step(
+            sheet,
+            text,
+            codes[i],
+            work,
+            &mut buffer,
+            &counts,
+            height,
+            base,
+        );
+        let fault = next.fault;
+        if fault != 0 {
+            return Written::Refused(fault);
+        }
+        height = next.height;
+        let top = height - 1;
+        counts[top] = next.count;
+        i += 1;
+    }
+    Written::Count(counts[0])
 }
