@@ -1,2 +1,3 @@
 // The formula reader.
 mod mark;
+mod reader;
