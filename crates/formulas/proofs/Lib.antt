@@ -14,3 +14,5 @@ pub mod Marking
 pub mod Doing
 pub mod LeafPaths
 pub mod ReaderPaths
+pub mod Storing
+pub mod WholeRead

@@ -5,6 +5,7 @@ use mathlib.Core.Bool.{Bool, true, false, cond, _||_}
 use mathlib.Core.List.{List, [], _∷_}
 use lib.Dec.{leb, ltb, eqb}
 use lib.ListN.{length, getD, take, drop, set}
+use Rattle.signals.specs.Moment.{M}
 use Rattle.formulas.specs.Grammar.{isLower, isDigit, isNameByte}
 use Rattle.formulas.specs.Formula.{coded}
 use Rattle.formulas.specs.Reader.{State, run, leafAt, sumAt, sumsAt, productAt, productsAt, factorAt, latchAt, timerAt}
@@ -82,3 +83,9 @@ LatchRead text kind deep m old new r = Done (λ n. latchAt coded text n kind dee
 
 abbrev pub TimerRead : List ℕ → ℕ → ℕ → Mark → List ℕ → List ℕ → Mark → Type 0
 TimerRead text kind deep m old new r = Done (λ n. timerAt coded text n kind deep) 5 text m old new r
+
+-- the fault of a text of so many bytes whose reading ended at the mark
+unfoldable pub markFault : Mark → ℕ → ℕ
+markFault m bytes =
+    cond (m .ok)
+    (cond (ltb (m .at) bytes) 11 (cond (ltb M (m .longest)) 8 (cond (ltb 32 (m .parts)) 12 (cond (ltb 16 (m .deepest)) 12 0)))) 11
