@@ -1,0 +1,149 @@
+-- One turn of a loop over bytes: what the definitions say of the bytes from a place on.
+use Prim.Native.Nat.{ℕ, zero, suc, _+_, _-_, _≤_, _<_}
+use native.Mathlib.Numerals.{add-one}
+use native.Mathlib.Omega.{arith}
+use mathlib.Core.Path.{_≡_, refl, sym, ap, _∙_}
+use mathlib.Core.Bool.{Bool, true, false, cond, _&&_, _||_}
+use mathlib.Core.List.{List, [], _∷_, _++_}
+use lib.Dec.{eqb}
+use lib.ListN.{length, getD, take, drop, drop-of-length-le, length-drop}
+use lib.Seq.{drop-cons, take-all}
+use borrow.Author.Tests.{eq-eqb, ne-eqb, lt-leb, le-leb, eqb-true}
+use Rattle.sheets.proofs.Truth.{true-false, and-left, and-right, is-false}
+use Rattle.sheets.specs.Names.{same, zeros, letter, digit, lettersOrDigits, unpadded, wellNamed, fieldFits}
+
+pub drop-step : (l : List ℕ) (i : ℕ) → i < length l → drop i l ≡ getD l i 0 ∷ drop (i + 1) l
+drop-step l i h = rw (add-one, drop-cons l i 0)
+
+pub drop-end : (l : List ℕ) (i : ℕ) → length l ≤ i → drop i l ≡ []
+drop-end l i h = drop-of-length-le l {i = i} h
+
+module _ (a b : List ℕ) (i : ℕ) where
+  pub same-differ : i < length a → i < length b → (getD a i 0 ≡ getD b i 0 → ⊥) → same (drop i a) (drop i b) ≡ false
+  unfolding same
+  same-differ p q h = rw (drop-step a i p, drop-step b i q, ne-eqb _ _ h)
+
+  pub same-agree : i < length a → i < length b → getD a i 0 ≡ getD b i 0 → same (drop i a) (drop i b) ≡ same (drop (i + 1) a) (drop (i + 1) b)
+  unfolding same
+  same-agree p q h = rw (drop-step a i p, drop-step b i q, eq-eqb _ _ h)
+
+  pub same-end : length a ≤ i → length b ≤ i → same (drop i a) (drop i b) ≡ true
+  unfolding same
+  same-end p q = rw (drop-end a i p, drop-end b i q)
+
+pub same-length : (a b : List ℕ) → same a b ≡ true → length a ≡ length b
+unfolding same
+same-length [] [] h = refl
+same-length [] (y ∷ ys) h = true-false (sym h)
+same-length (x ∷ xs) [] h = true-false (sym h)
+same-length (x ∷ xs) (y ∷ ys) h = ap suc (same-length xs ys (and-right (eqb x y) (same xs ys) h))
+
+pub same-unequal : (a b : List ℕ) → (length a ≡ length b → ⊥) → same a b ≡ false
+same-unequal a b h = is-false (same a b) (λ e. h (same-length a b e))
+
+module _ (s : List ℕ) (i : ℕ) where
+  pub zeros-not : i < length s → (getD s i 0 ≡ 0 → ⊥) → zeros (drop i s) ≡ false
+  unfolding zeros
+  zeros-not p h = rw (drop-step s i p, ne-eqb _ _ h)
+
+  pub zeros-step : i < length s → getD s i 0 ≡ 0 → zeros (drop i s) ≡ zeros (drop (i + 1) s)
+  unfolding zeros
+  zeros-step p h = rw (drop-step s i p, eq-eqb _ _ h)
+
+  pub zeros-end : length s ≤ i → zeros (drop i s) ≡ true
+  unfolding zeros
+  zeros-end p = rw (drop-end s i p)
+
+  pub unpadded-stop : i < length s → getD s i 0 ≡ 0 → length (unpadded (drop i s)) ≡ 0
+  unfolding unpadded
+  unpadded-stop p h = rw (drop-step s i p, eq-eqb _ _ h)
+
+  pub unpadded-step : i < length s → (getD s i 0 ≡ 0 → ⊥) → length (unpadded (drop i s)) ≡ suc (length (unpadded (drop (i + 1) s)))
+  unfolding unpadded
+  unpadded-step p h = rw (drop-step s i p, ne-eqb _ _ h)
+
+  pub unpadded-end : length s ≤ i → length (unpadded (drop i s)) ≡ 0
+  unfolding unpadded
+  unpadded-end p = rw (drop-end s i p)
+
+  pub characters-letter : i < length s → letter (getD s i 0) ≡ true → lettersOrDigits (drop i s) ≡ lettersOrDigits (drop (i + 1) s)
+  unfolding lettersOrDigits
+  characters-letter p h = rw (drop-step s i p, h)
+
+  pub characters-digit : i < length s → letter (getD s i 0) ≡ false → digit (getD s i 0) ≡ true
+      → lettersOrDigits (drop i s) ≡ lettersOrDigits (drop (i + 1) s)
+  unfolding lettersOrDigits
+  characters-digit p h k = rw (drop-step s i p, h, k)
+
+  pub characters-not : i < length s → letter (getD s i 0) ≡ false → digit (getD s i 0) ≡ false → lettersOrDigits (drop i s) ≡ false
+  unfolding lettersOrDigits
+  characters-not p h k = rw (drop-step s i p, h, k)
+
+  pub characters-end : length s ≤ i → lettersOrDigits (drop i s) ≡ true
+  unfolding lettersOrDigits
+  characters-end p = rw (drop-end s i p)
+
+pub unpadded-within : (f : List ℕ) → length (unpadded f) ≤ length f
+unfolding unpadded
+unpadded-within [] = omega arith
+unpadded-within (b ∷ bs) = go (eqb b 0) (unpadded-within bs)
+  where
+    go : (t : Bool) → length (unpadded bs) ≤ length bs → length (cond t [] (b ∷ unpadded bs)) ≤ suc (length bs)
+    go true h = omega arith
+    go false h = omega arith
+
+pub take-unpadded : (f : List ℕ) → take (length (unpadded f)) f ≡ unpadded f
+unfolding unpadded
+take-unpadded [] = refl
+take-unpadded (b ∷ bs) = go (eqb b 0) (take-unpadded bs)
+  where
+    go : (t : Bool) → take (length (unpadded bs)) bs ≡ unpadded bs
+        → take (length (cond t [] (b ∷ unpadded bs))) (b ∷ bs) ≡ cond t [] (b ∷ unpadded bs)
+    go true h = refl
+    go false h = ap (λ (l : List ℕ). b ∷ l) h
+
+pub named-empty : (n : List ℕ) → length n ≡ 0 → wellNamed n ≡ false
+unfolding wellNamed
+named-empty [] h = refl
+named-empty (b ∷ bs) h = absurd (omega arith)
+
+pub named-long : (n : List ℕ) → 8 < length n → wellNamed n ≡ false
+unfolding wellNamed
+named-long [] h = refl
+named-long (b ∷ bs) h = simp (lt-leb (suc (length bs)) 8 h)
+
+pub named-fits : (n : List ℕ) → (length n ≡ 0 → ⊥) → length n ≤ 8
+    → wellNamed n ≡ letter (getD n 0 0) && lettersOrDigits (drop 1 n)
+unfolding wellNamed
+named-fits [] h k = absurd (h refl)
+named-fits (b ∷ bs) h k = simp (le-leb (suc (length bs)) 8 k)
+
+-- a part from a place to the end; a part of as many bytes as there are
+pub part-rest : (l : List ℕ) (a : ℕ) → take (length l - a) (drop a l) ≡ drop a l
+part-rest l a = take-all (length l - a) (drop a l) (rw length-drop (omega arith))
+
+module _ (f n : List ℕ) (w : Bool) (e : n ≡ unpadded f) (v : w ≡ wellNamed n) where
+  pub name-within : length n ≤ length f
+  name-within = rw e (unpadded-within f)
+
+  pub fits-if-zeros : w ≡ true → (z : Bool) → z ≡ zeros (take (length f - length n) (drop (length n) f)) → z ≡ fieldFits f
+  unfolding fieldFits
+  fits-if-zeros t z h = h ∙ rw (part-rest f (length n), ← e, ← v, t)
+
+  pub fits-not : w ≡ false → false ≡ fieldFits f
+  unfolding fieldFits
+  fits-not t = sym (rw (← e, ← v, t))
+
+pub same-equal : (a b : List ℕ) → same a b ≡ true → a ≡ b
+unfolding same
+same-equal [] [] h = refl
+same-equal [] (y ∷ ys) h = true-false (sym h)
+same-equal (x ∷ xs) [] h = true-false (sym h)
+same-equal (x ∷ xs) (y ∷ ys) h =
+    rw (eqb-true x y (and-left (eqb x y) (same xs ys) h))
+    (ap (λ (l : List ℕ). y ∷ l) (same-equal xs ys (and-right (eqb x y) (same xs ys) h)))
+
+pub same-refl : (a : List ℕ) → same a a ≡ true
+unfolding same
+same-refl [] = refl
+same-refl (x ∷ xs) = rw (eq-eqb x x refl) (same-refl xs)

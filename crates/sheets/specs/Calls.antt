@@ -1,0 +1,54 @@
+-- The calls on sheets, by document 01: begin, check, lookup with its sister, append.
+use Prim.Native.Nat.{ℕ, zero, suc, _+_, _*_}
+use mathlib.Core.Bool.{Bool, true, false, not, cond, _||_}
+use mathlib.Core.List.{List, [], _∷_, _++_}
+use lib.Dec.{leb, ltb, eqb}
+use lib.ListN.{length, take, drop}
+use Rattle.signals.specs.Words.{listFault}
+use Rattle.sheets.specs.Names.{wellNamed, same, among}
+use Rattle.sheets.specs.Reading.{orElse, nameAt, wordCount, signalSize, sheetFault, countOn, signalsOn, names, Entry, entry}
+use Rattle.sheets.specs.Writing.{sheetBytes}
+use Rattle.sheets.specs.declared.Place.{Place}
+use Rattle.sheets.specs.declared.Place.the-variants.{At, Refused}
+
+-- begin: the empty sheet; 7 when the output, of `room` bytes, is shorter
+unfoldable pub beginFault : ℕ → ℕ
+beginFault room = cond (ltb room (length (sheetBytes []))) 7 0
+
+-- A lookup takes sheet, 16, 13.
+unfoldable pub lookupFault : List ℕ → List ℕ → ℕ
+lookupFault sheet name =
+    orElse (sheetFault sheet) (cond (wellNamed name) (cond (among name (names (signalsOn sheet))) 0 13) 16)
+
+-- where the words of the signal with this name stand among n signals, of which the first starts at this place
+unfoldable pub placeFrom : List ℕ → ℕ → ℕ → List ℕ → Place
+placeFrom name at zero rest = Refused 13
+placeFrom name at (suc n) rest =
+    cond (same (nameAt rest) name) (At (at + 10) (4 * wordCount rest))
+    (placeFrom name (at + signalSize rest) n (drop (signalSize rest) rest))
+
+-- the place of a signal's words on a sheet: the first byte and the number of bytes
+unfoldable pub placeOf : List ℕ → List ℕ → Place
+placeOf sheet name =
+    cond (eqb (lookupFault sheet name) 0) (placeFrom name 7 (countOn sheet) (drop 7 sheet)) (Refused (lookupFault sheet name))
+
+abbrev pub partAt : List ℕ → Place → List ℕ
+partAt sheet (At start count) = take count (drop start sheet)
+partAt sheet (Refused fault) = []
+
+-- Looking up a name gives the part of the sheet's bytes that is that signal's words; refused, an empty part.
+unfoldable pub lookupOf : List ℕ → List ℕ → List ℕ
+lookupOf sheet name = partAt sheet (placeOf sheet name)
+
+-- Appending writes the sheet with one signal appended.
+unfoldable pub appended : List ℕ → List ℕ → List ℕ → List ℕ
+appended sheet name list = sheetBytes (signalsOn sheet ++ entry name list ∷ [])
+
+-- Appending takes sheet, 16, list, 15, 7.
+unfoldable pub appendFault : List ℕ → List ℕ → List ℕ → ℕ → ℕ
+appendFault sheet name list room =
+    orElse (sheetFault sheet)
+    (cond (not (wellNamed name) || among name (names (signalsOn sheet))) 16
+    (orElse (listFault list)
+    (cond (leb 32 (length (signalsOn sheet))) 15
+    (cond (ltb room (length (appended sheet name list))) 7 0))))

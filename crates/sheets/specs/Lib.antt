@@ -1,0 +1,9 @@
+-- Sheets as document 01 defines them, and the statements of the theorems about them.
+pub mod Names
+pub mod Bytes
+pub mod Reading
+pub mod Writing
+pub mod Calls
+pub mod Walk
+pub mod Theorems
+pub mod Sentences
