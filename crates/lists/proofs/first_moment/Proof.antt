@@ -77,7 +77,7 @@ turn c =
           _
           (dated-a (o .before))
           (dated-b (o .before))
-          (e .before .before .before .loop-test .taken)
+          (omega (arith, e .before .before .before .loop-test .taken, o .loop .inv .right .within))
           (o .loop .inv .left .within)
           (o .loop .inv .right .within)
           (rw (e .before .before .next-date .ensures) at (e .earlier .ensures .0))

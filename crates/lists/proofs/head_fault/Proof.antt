@@ -1,4 +1,5 @@
 -- `lists::head_fault` meets its contract: at each `return` the tests that led there say which clause of `headFault` holds.
+use native.Mathlib.Omega.{arith}
 use mathlib.Core.Path.{sym}
 use Rattle.lists.proofs.Judging.{empty-1, long-1, head-2, head-0}
 use borrow.Author.Needs.{needs}
@@ -15,7 +16,7 @@ shared-slice-read-if3 : tie.Need-shared-slice-read-if3
 shared-slice-read-if3 c = search needs
 
 returns-3 : tie.Need-returns-3
-returns-3 c = sym (head-2 _ (c .before .before .before .if1 .left) (c .before .before .if2 .left) (c .if3 .taken))
+returns-3 c = sym (head-2 _ (c .before .before .before .if1 .left) (c .before .before .if2 .left) (omega (arith, c .if3 .taken)))
 
 returns-4 : tie.Need-returns-4
 returns-4 c = sym (head-0 _ (c .before .before .before .if1 .left) (c .before .before .if2 .left) (c .if3 .left))
