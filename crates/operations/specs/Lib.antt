@@ -1,3 +1,6 @@
 -- The calls on lists, as document 01 defines them, and the definitions that only mirror the code.
 pub mod Calls
 pub mod Building
+pub mod Merging
+pub mod Slots
+pub mod Delay
