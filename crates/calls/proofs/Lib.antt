@@ -10,3 +10,5 @@ pub mod NamedFormula
 pub mod Demand2
 pub mod Demand3
 pub mod OneEngine
+pub mod SmallCases
+pub mod WrongEngines
