@@ -10,11 +10,12 @@ use lib.ListN.{length, take, drop, getD}
 use lib.Seq.{getD-drop}
 use borrow.Author.Tests.{leb-true, le-leb, ltb-true, ltb-false, le-ltb, eqb-true}
 use Rattle.signals.specs.Moment.{M}
-use Rattle.signals.specs.Words.{dateOf, listFault, signalOf, lastDate, listOf}
+use Rattle.signals.specs.Signal.{constant}
+use Rattle.signals.specs.Words.{dateOf, listFault, wordsOf, listOf}
 use Rattle.signals.proofs.Truth.{and-left, and-right, and-of, or-cases, down-of, not-both}
 use Rattle.signals.proofs.Normal.{acceptedNormal, readBack}
 use Rattle.operations.specs.Calls.{firstOf, changesAfterM}
-use Rattle.formulas.specs.Tree.{Tree, leaf, unary, binary, name}
+use Rattle.formulas.specs.Tree.{Tree, Leaf, leaf, unary, binary, down, up, name}
 use Rattle.formulas.specs.Code.{code}
 use Rattle.formulas.specs.Grammar.{Sum, Product, Factor, isLower, isDigit, isNameByte, allOf, isName}
 use Rattle.formulas.specs.Formula.{formulaTree, formulaFault}
@@ -24,7 +25,9 @@ use Rattle.laws.specs.Rewriting.{parts}
 use Rattle.sheets.specs.Bytes.{Bytes, low32, wordsIn}
 use Rattle.sheets.specs.Names.{letter, digit, lettersOrDigits, wellNamed, same, among}
 use Rattle.sheets.specs.Reading.{sheetFault, Entry, entry, nameOf, listOn, signalSize, wordCount, nameAt, signalsFrom, countOn, signalsOn, names, listNamed, environmentOn}
-use Rattle.calls.specs.OnSheet.{signalOn, settlingDate, exactOn, namesFound}
+use Rattle.calls.specs.OnSheet.{signalOn, settlingDate, exactOn, leafFound, namesFound}
+use Rattle.calls.specs.TreesOnSheets.{TreesOnSheets}
+use Rattle.calls.proofs.Settles.{settles, exact-for}
 use Rattle.calls.specs.Calls.{readingFault, partFault, partsFault, workingFault, wordsOn}
 use Rattle.calls.proofs.FirstFault.{first-none, first-with-none}
 use Rattle.calls.proofs.SheetLists.{Sound, AllSound, sheet-sound}
@@ -137,10 +140,6 @@ name-fault (b ∷ bs) e f =
           ⊎-elim (λ z. omega arith) (λ z. let k = q .1 in omega arith) (x .3),
     )
 
-pub record NameServed (sheet n : List ℕ) : Type 0 where
-  pub clear : Clear sheet n
-  pub same-words : wordsOn sheet n ≡ listNamed n (signalsOn sheet)
-
 -- the normal list of an accepted list's signal is that list
 name-exact : (sheet n : List ℕ) → listFault (listNamed n (signalsOn sheet)) ≡ 0 → exactOn sheet (leaf (name n)) ≡ listNamed n (signalsOn sheet)
 unfolding exactOn settlingDate environmentOn
@@ -162,6 +161,27 @@ text-clear : (sheet n : List ℕ) → formulaFault n ≡ 0 → formulaTree n ≡
 unfolding readingFault namesFound
 text-clear sheet n f t e = first-none (formulaFault n) (cond (namesFound sheet (formulaTree n)) 0 13) f ∙ rw (t, e) refl
 
+-- names and constants meet neither 5 nor 6
+name-fine : (sheet n : List ℕ) → Bytes sheet → sheetFault sheet ≡ 0 → among n (names (signalsOn sheet)) ≡ true → partFault (exactOn sheet (leaf (name n))) ≡ 0
+name-fine sheet n small ok e =
+    let l = listNamed n (signalsOn sheet) in
+    let a = named-sound n (signalsOn sheet) (sheet-sound sheet ok) e .1 in
+    ap partFault (name-exact sheet n a) ∙ accepted-fine l a (not-late l (list-small sheet n small))
+
+leaf-fine : (sheet : List ℕ) → Bytes sheet → sheetFault sheet ≡ 0 → (l : Leaf) → leafFound sheet l ≡ true → partFault (exactOn sheet (leaf l)) ≡ 0
+unfolding partFault changesAfterM dateOf exactOn settlingDate listOf wordsOf constant
+leaf-fine sheet small ok down e = refl
+leaf-fine sheet small ok up e = refl
+leaf-fine sheet small ok (name n) e = name-fine sheet n small ok e
+
+pub trees-on-sheets : TreesOnSheets
+trees-on-sheets = record { settles = settles; exact = exact-for; leaves = leaf-fine }
+
+-- a name of the sheet as a formula
+pub record NameServed (sheet n : List ℕ) : Type 0 where
+  pub clear : Clear sheet n
+  pub same-words : wordsOn sheet n ≡ listNamed n (signalsOn sheet)
+
 pub name-served : (sheet n : List ℕ) → Bytes sheet → sheetFault sheet ≡ 0 → among n (names (signalsOn sheet)) ≡ true → NameServed sheet n
 unfolding workingFault wordsOn
 name-served sheet n small ok e =
@@ -170,7 +190,7 @@ name-served sheet n small ok e =
     let f = is-name n (s .0) in
     let t : formulaTree n ≡ leaf (name n) = tree-of n (leaf (name n)) 0 (name-writes n f) in
     let x : exactOn sheet (leaf (name n)) ≡ l = name-exact sheet n (s .1) in
-    let z : partFault (exactOn sheet (leaf (name n))) ≡ 0 = ap partFault x ∙ accepted-fine l (s .1) (not-late l (list-small sheet n small)) in
+    let z = name-fine sheet n small ok e in
     record {
       clear = record {
         sheet-ok = ok;

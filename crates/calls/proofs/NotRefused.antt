@@ -187,9 +187,14 @@ pub enough-served : (sheet formula : List ℕ) → Answered sheet formula → (w
     → callFault sheet formula work (length old) ≡ 0
 enough-served sheet formula a work old n = clear-call sheet formula (answered-clear sheet formula a) work (length old) (n .area) (n .room)
 
+needed : (sheet : List ℕ) → neededWork sheet ≡ 8192
+unfolding neededWork
+needed sheet = refl
+
 pub not-refused : NotRefused
 not-refused =
     record {
+      needed = needed;
       enough = λ sheet formula a work old n. counted sheet formula work old (enough-served sheet formula a work old n);
       means = λ sheet formula work old e.
           clear-answered sheet formula (call-clear sheet formula work (length old) (no-fault sheet formula work old e) .0);

@@ -18,6 +18,7 @@ use Rattle.calls.specs.Calls.{wordsOn, callFault, callAnswer, callOutput
 use Rattle.calls.specs.Engine.{Engine, defined}
 use Rattle.calls.specs.Tabled.{Check, NoFault, ReadingChecks, WorkingChecks, CallFaultIs, ClaimFaultIs}
 use Rattle.calls.specs.Demand2.{GivesTheList, Demand2}
+use Rattle.calls.specs.OneFault.{OneFault}
 use Rattle.calls.specs.OneEngine.{Agrees, OneEngine}
 use Rattle.calls.proofs.FirstFault.{Single, check-single, zero-or-not}
 use Rattle.calls.proofs.ReadingFaults.{derived, text-fine}
@@ -45,6 +46,16 @@ claim-single sheet F G work =
     check-single
     (reading-single sheet F _ (reading-single sheet G _ (check-single (working-single sheet F _ (working-single sheet G _ none-single)))))
 
+pub one-fault : OneFault
+one-fault =
+    record {
+      call = call-fault;
+      claim = claim-fault;
+      oneOfCall = λ sheet formula work room fault h.
+          call-single sheet formula work room fault (callFault sheet formula work room) h (call-fault sheet formula work room);
+      oneOfClaim = λ sheet F G work fault h. claim-single sheet F G work fault (claimFault sheet F G work) h (claim-fault sheet F G work);
+    }
+
 -- an answer with a fault is that refusal
 refused : (a : Written) → (¬ (faultIn a ≡ 0)) → a ≡ written.Refused (faultIn a)
 refused (written.Count n) h = absurd (h refl)
@@ -69,7 +80,7 @@ module _ (E : Engine) (D : Demand2 E) where
 
   same-fault : (sheet formula : List ℕ) (work : ℕ) (old : List ℕ) → faultIn (E .answer sheet formula work old) ≡ callFault sheet formula work (length old)
   same-fault sheet formula work old =
-      call-single sheet formula work (length old) _ _ (D .callFaults sheet formula work old) (call-fault sheet formula work (length old))
+      one-fault .oneOfCall sheet formula work (length old) (faultIn (E .answer sheet formula work old)) (D .callFaults sheet formula work old)
 
   alike-given : (sheet formula : List ℕ) (work : ℕ) (old : List ℕ) → faultIn (E .answer sheet formula work old) ≡ 0 → Alike sheet formula work old
   alike-given sheet formula work old e =
@@ -100,7 +111,7 @@ module _ (E : Engine) (D : Demand2 E) where
       go (inr e) = alike-refused sheet formula work old e
 
   same-claim-fault : (sheet F G : List ℕ) (work : ℕ) → faultOfVerdict (E .claim sheet F G work) ≡ claimFault sheet F G work
-  same-claim-fault sheet F G work = claim-single sheet F G work _ _ (D .claimFaults sheet F G work) (claim-fault sheet F G work)
+  same-claim-fault sheet F G work = one-fault .oneOfClaim sheet F G work (faultOfVerdict (E .claim sheet F G work)) (D .claimFaults sheet F G work)
 
   same-claim : (sheet F G : List ℕ) (work : ℕ) → E .claim sheet F G work ≡ claimAnswer sheet F G work
   same-claim sheet F G work = go (zero-or-not (faultOfVerdict (E .claim sheet F G work)))

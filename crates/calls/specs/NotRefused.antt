@@ -14,6 +14,8 @@ use Rattle.calls.specs.Answered.{Answered, Enough}
 use Rattle.formulas.specs.Formula.{formulaTree}
 
 pub record NotRefused : Type 0 where
+  -- the needed work words are 8,192 on every sheet
+  pub needed : (sheet : List ℕ) → neededWork sheet ≡ 8192
   -- an answered formula's call with the needed work words and an output at least as long as its answer is not refused
   pub enough : (sheet formula : List ℕ) → Answered sheet formula → (work : ℕ) (old : List ℕ) → Enough sheet formula work old
       → callAnswer sheet formula work old ≡ Count (length (wordsOn sheet formula))
