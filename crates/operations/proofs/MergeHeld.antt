@@ -43,7 +43,7 @@ module _ (pick : Bool → Bool → Bool) (same : (v : Bool) → pick v v ≡ fal
         later = h .later;
         still = edge-still k (instant d) v (h .still);
         at = edge-at d (instant d) v a (omega (arith, h .later)) refl (h .at) (h .still (gap (d - 1)) (omega (arith, h .later)) (omega (arith, h .later)));
-        after = edge-in-gap d (gap d) refl
+        after = edge-in-gap d (gap d) refl;
       }
 
 rise-pick : Bool → Bool → Bool
@@ -70,7 +70,7 @@ connective-held table f g k d v1 a1 b1 v2 a2 b2 h i =
       later = h .later;
       still = λ t l u. ap₂ (cell table) (h .still t l u) (i .still t l u);
       at = ap₂ (cell table) (h .at) (i .at);
-      after = ap₂ (cell table) (h .after) (i .after)
+      after = ap₂ (cell table) (h .after) (i .after);
     }
 
 rising-held : (f : Signal) (k d : ℕ) (v a b : Bool) → Held f k d v a b → Held (rising f) k d false (a && not v) false

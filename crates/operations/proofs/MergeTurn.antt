@@ -1,12 +1,13 @@
 -- One turn of the merge's loop: the next date of either operand is passed in both, and what it shows is put into the slot.
-use Prim.Native.Nat.{ℕ, zero, suc, _+_, _-_, _≤_, _<_, min, max}
+use Prim.Native.Nat.{ℕ, zero, suc, _+_, _-_, _≤_, _<_, _^_, min, max}
 use native.Mathlib.Omega.{arith}
 use mathlib.Core.Path.{_≡_, refl, sym, _∙_, ap, ap₂}
 use mathlib.Core.Bool.{Bool, true, false, cond, _&&_}
 use mathlib.Core.List.{List, [], _∷_}
 use mathlib.Core.Logic.{_⊎_, inl, inr, ⊎-elim}
 use lib.Dec.{ltb, eqb}
-use lib.ListN.{length, getD, set}
+use lib.ListN.{length, getD, set, length-set}
+use lib.Seq.{set-set}
 use borrow.Author.Tests.{lt-ltb, le-ltb, ltb-true, ltb-false, eq-eqb}
 use Rattle.signals.specs.Moment.{gap, M}
 use Rattle.signals.specs.Signal.{Signal, Table, num}
@@ -14,15 +15,17 @@ use Rattle.signals.specs.Words.{dateOf, signalOf, lastDate, lastFrom, listOf, l
 use Rattle.signals.specs.Normal.{Normal, Accepted, Rising}
 use Rattle.signals.specs.Passing.{heldValue, isNext, atDate, afterDate, passedDate}
 use Rattle.signals.proofs.Operand.{At, Passed, at-pass, at-end, next-later, value-held}
-use Rattle.signals.proofs.Normal.{accepted-start, acceptedNormal, last-le}
-use Rattle.signals.proofs.WordFacts.{date-bounds}
+use Rattle.signals.proofs.Normal.{accepted-start, acceptedNormal, last-le, lastDate-bound}
+use Rattle.signals.proofs.WordFacts.{date-bounds, date-le}
 use Rattle.signals.proofs.Operand.{words-rise}
-use Rattle.lists.specs.Reading.{nextDate, NEVER}
+use Rattle.lists.specs.Reading.{nextDate, NEVER, stepPast}
+use Rattle.lists.specs.declared.Step.{Step}
 use Rattle.operations.specs.Building.{emitted, emittedIn, begun, Built}
 use Rattle.operations.specs.Merging.{merged, bitOf, firstShown, dateShown}
 use Rattle.operations.specs.declared.Made.{Made}
 use Rattle.operations.specs.declared.Operation.{Operation}
-use Rattle.operations.proofs.Scanning.{Scanning, scanning-begin, scanning-emit, scanning-done}
+use Rattle.operations.specs.declared.Shown.{Shown}
+use Rattle.operations.proofs.Scanning.{Scanning, scanning-begin, scanning-emit, scanning-done, built-over, count-bound}
 use Rattle.operations.proofs.MergeHeld.{heldBy, Turned, turned, first, still-for-good}
 
 -- no word of the list is dated after n
@@ -107,7 +110,7 @@ module _ (o : Operation) (table : Table) (a b : List ℕ) (n : ℕ) (old : List 
         left = sa;
         right = sb;
         bit-is = shows .1;
-        below = omega arith
+        below = omega arith;
       }
     where
       sa : At (signalOf a) a 1 0
@@ -192,7 +195,7 @@ module _ (o : Operation) (table : Table) (a b : List ℕ) (n : ℕ) (old : List 
           left = turn-left .on;
           right = turn-right .on;
           bit-is = turned-here .bit;
-          below = within
+          below = within;
         })
 
   pub merge-done : (k : ℕ) (slot : List ℕ) (made : Made) (bit : Bool) (i j : ℕ) → Merging k slot made bit i j → length a + length b ≤ i + j
@@ -202,3 +205,63 @@ module _ (o : Operation) (table : Table) (a b : List ℕ) (n : ℕ) (old : List 
       (still-for-good o table (signalOf a) (signalOf b) k (heldValue a i) (heldValue b j)
       (at-end (signalOf a) a i k (m .left) (omega (arith, m .left .within, m .right .within)))
       (at-end (signalOf b) b j k (m .right) (omega (arith, m .left .within, m .right .within))))
+
+-- the loop's start, from what the calls before it give; the slot where the loop begins stands for the old one
+pub merge-start : (o : Operation) (table : Table) (a b : List ℕ) (n : ℕ) (entry slot : List ℕ) (p q : Bool) (shown : Shown) (made : Made)
+    → Accepted a → Accepted b → 256 ≤ length entry → p ≡ heldValue a 1 → q ≡ heldValue b 1 → shown ≡ firstShown o table p q
+    → made ≡ begun (shown .after) → slot ≡ set entry 0 (num (shown .after)) → Merging o table a b n slot 0 slot made (shown .carried) 1 1
+merge-start o table a b n entry slot p q shown made ha hb room ep eq es em el =
+    rw (em, el, es, ep, eq)
+    (rw (set-set entry 0 v v) at (merge-begin o table a b n (set entry 0 v) ha hb (rw length-set room)))
+  where
+    v : ℕ
+    v = num ((firstShown o table (heldValue a 1) (heldValue b 1)) .after)
+
+pub merge-end : (o : Operation) (table : Table) (a b : List ℕ) (n : ℕ) (entry start slot : List ℕ) (x : ℕ) (made : Made) (bit : Bool) (i j k : ℕ)
+    → start ≡ set entry 0 x → Merging o table a b n start k slot made bit i j → length a + length b ≤ i + j
+    → Built (listOf (merged o table (signalOf a) (signalOf b)) n) entry slot made
+merge-end o table a b n entry start slot x made bit i j k e m done =
+    built-over (merged o table (signalOf a) (signalOf b)) n entry slot made x (rw e at (merge-done o table a b n start k slot made bit i j m done))
+
+-- what the loop knows of its two lists throughout
+pub record Operands (a b : List ℕ) : Type 0 where
+  pub first : Accepted a
+  pub second : Accepted b
+  pub first-small : lastDate a ≤ M
+  pub second-small : lastDate b ≤ M
+
+-- the words of a slice are below 2 ^ 32
+pub small-dates : (l : List ℕ) → ((i : ℕ) → getD l i 0 < 2 ^ 32) → lastDate l ≤ M
+small-dates l h = lastDate-bound M l (λ i u. date-le (getD l i 0) (h i))
+
+pub short : (l : List ℕ) → Accepted l → length l ≤ 256
+short l h = acceptedNormal l .0 h .1
+
+module _ (o : Operation) (table : Table) (a b old : List ℕ) (k : ℕ) (slot : List ℕ) (made : Made) (bit : Bool) (i j : ℕ)
+    (x : Operands a b) (m : Merging o table a b (max (lastDate a) (lastDate b)) old k slot made bit i j) (more : i + j < length a + length b) where
+  da : Dates a (max (lastDate a) (lastDate b))
+  da = dates-more a (lastDate a) (max (lastDate a) (lastDate b)) (accepted-dates a (x .first)) (omega arith)
+
+  db : Dates b (max (lastDate a) (lastDate b))
+  db = dates-more b (lastDate b) (max (lastDate a) (lastDate b)) (accepted-dates b (x .second)) (omega arith)
+
+  pub loop-turn : (na nb d : ℕ) (p q : Step) (s : Shown) → na ≡ nextDate a i → nb ≡ nextDate b j → d ≡ min na nb → p ≡ stepPast a i d → q ≡ stepPast b j d
+      → s ≡ dateShown o table bit (p .before) (p .at) (p .after) (q .at) (q .after)
+      → (slot′ : List ℕ) (made′ : Made) → made′ ≡ emitted made d (s .at) (s .after) → slot′ ≡ emittedIn slot made d (s .at) (s .after)
+      → Merging o table a b (max (lastDate a) (lastDate b)) old d slot′ made′ (s .carried) (p .passed) (q .passed)
+  unfolding nextOfBoth
+  loop-turn na nb d p q s ea eb ed ep eq es slot′ made′ em el =
+      rw (em, el, es, ep, eq)
+      (merge-turn o table a b (max (lastDate a) (lastDate b)) old da db (omega (arith, x .first-small, x .second-small)) i j k slot made bit m more d (ed ∙ rw (ea, eb)) _ _ _ refl refl refl)
+
+  pub loop-falls : (na nb d : ℕ) (p q : Step) → na ≡ nextDate a i → nb ≡ nextDate b j → d ≡ min na nb → p ≡ stepPast a i d → q ≡ stepPast b j d
+      → i + j < p .passed + q .passed
+  unfolding nextOfBoth
+  loop-falls na nb d p q ea eb ed ep eq =
+      rw (ep, eq, ed, ea, eb)
+      (progress o table a b (max (lastDate a) (lastDate b)) old da db (omega (arith, x .first-small, x .second-small)) i j k slot made bit m more)
+
+  pub loop-count : made .count < 4294967296
+  loop-count =
+      let c = count-bound (merged o table (signalOf a) (signalOf b)) (max (lastDate a) (lastDate b)) k old slot made (m .scan) in
+      omega (arith, x .first-small, x .second-small)

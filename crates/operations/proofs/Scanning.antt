@@ -6,12 +6,12 @@ use mathlib.Core.Bool.{Bool, true, false, cond, Bool·beq, _&&_, _||_}
 use lib.Dec.{ltb}
 use mathlib.Core.List.{List, [], _∷_, _++_}
 use lib.ListN.{length, take, drop, set, length-drop}
-use lib.Seq.{take-all}
+use lib.Seq.{take-all, drop-set-lt}
 use Rattle.signals.specs.Moment.{M, gap, instant}
 use Rattle.signals.specs.Signal.{Signal, num}
-use Rattle.signals.specs.Words.{wordsOf, listOf, word}
+use Rattle.signals.specs.Words.{wordsOf, listOf, word, dateOf}
 use Rattle.signals.proofs.Scan.{Held, scan-to, scan-settled}
-use Rattle.operations.specs.Building.{idle, emitted, emittedIn, begun, Building, Built}
+use Rattle.operations.specs.Building.{idle, emitted, emittedIn, begun, Building, Built, slotWith, fitting, upToM}
 use Rattle.operations.specs.declared.Made.{Made}
 use Rattle.operations.proofs.BuildingLaws.{building-begin, Advanced, advance}
 
@@ -85,3 +85,12 @@ words-length F k (suc n) = go (Bool·beq (F (gap k + 1)) (F (gap k)) && Bool·be
 pub count-bound : (F : Signal) (n k : ℕ) (old slot : List ℕ) (made : Made) → Scanning F n k old slot made → made .count ≤ n + 1
 unfolding listOf
 count-bound F n k old slot made s = let h = s .building .counted in let w = words-length F 0 n in omega arith
+
+-- what stood in the first place of the slot does not matter
+pub built-over : (F : Signal) (n : ℕ) (old slot : List ℕ) (made : Made) (x : ℕ) → Built (listOf F n) (set old 0 x) slot made → Built (listOf F n) old slot made
+unfolding listOf slotWith fitting upToM dateOf
+built-over F n old slot made x b = record { count-is = b .count-is; late-is = b .late-is; slot-is = b .slot-is ∙ over (F 0) }
+  where
+    over : (v : Bool) → slotWith (num v ∷ wordsOf F 0 n) (set old 0 x) ≡ slotWith (num v ∷ wordsOf F 0 n) old
+    over true = rw (drop-set-lt (length (fitting (1 ∷ wordsOf F 0 n))) old 0 x (omega arith))
+    over false = rw (drop-set-lt (length (fitting (0 ∷ wordsOf F 0 n))) old 0 x (omega arith))

@@ -1,16 +1,16 @@
 // Every operation of document 01 on lists.
 ghost use mathlib.Core.Path.{_≡_};
 ghost use mathlib.Core.List.{List, _++_};
-ghost use Prim.Native.Nat.{ℕ, _<_, _≤_, min};
+ghost use Prim.Native.Nat.{ℕ, _<_, _≤_, min, max};
 ghost use lib.ListN.{length, set, take, drop};
 ghost use mathlib.Core.Bool.{not, _&&_, _||_};
 ghost use Rattle.signals.specs.Signal.{num, cell};
 ghost use Rattle.signals.specs.LatchSteps.{atStep, gapStep, shown};
-ghost use Rattle.signals.specs.Words.{word};
+ghost use Rattle.signals.specs.Words.{word, listFault, listOf, signalOf, lastDate};
 ghost use Rattle.signals.specs.Answers.{writtenOf, outputOf};
 ghost use Rattle.operations.specs.Calls.{answerFault};
 ghost use Rattle.operations.specs.Building.{idle, emitted, emittedIn, begun, Built};
-ghost use Rattle.operations.specs.Merging.{latchFirst, latchShown, firstShown, dateShown};
+ghost use Rattle.operations.specs.Merging.{latchFirst, latchShown, firstShown, dateShown, merged};
 use lists::Step;
 use signals::Date;
 use signals::M;
@@ -286,4 +286,38 @@ fn earlier(a: Date, b: Date) -> Date
     ensures { λ r. ⌜ r .0 ≡ min (a .0) (b .0) ⌝ }
 {
     if a.0 < b.0 { a } else { b }
+}
+
+// The merge of two accepted lists: date by date, what the operation makes of both.
+fn merge(
+    operation: Operation,
+    table: [[bool; 2]; 2],
+    a: &[u32],
+    b: &[u32],
+    slot: &mut [u32],
+) -> Made
+    requires { ⌜ (listFault (now a) ≡ 0) × (listFault (now b) ≡ 0) × (256 ≤ length (now slot)) ⌝ }
+    ensures { λ r. ⌜ Built (listOf (merged operation table (signalOf (now (a .entry))) (signalOf (now (b .entry)))) (max (lastDate (now (a .entry))) (lastDate (now (b .entry))))) (now (slot .entry)) (now (slot .exit)) r ⌝ }
+{
+    let first = first_shown(
+        operation,
+        table,
+        lists::held_value(a, 1),
+        lists::held_value(b, 1),
+    );
+    let mut made = begin(slot, first.after);
+    let mut carried = first.carried;
+    let mut i: usize = 1;
+    let mut j: usize = 1;
+    while i + j < a.len() + b.len() {
+        let date = earlier(lists::next_date(a, i), lists::next_date(b, j));
+        let p = lists::past(a, i, date);
+        let q = lists::past(b, j, date);
+        let shown = date_shown(operation, table, carried, p, q);
+        made = emit(slot, made, date, shown.at, shown.after);
+        carried = shown.carried;
+        i = p.passed;
+        j = q.passed;
+    }
+    made
 }

@@ -8,8 +8,8 @@ use mathlib.Core.List.{List, [], _∷_, _++_}
 use lib.Dec.{eqb}
 use lib.ListN.{length, getD, take, drop, drop-of-length-le, length-drop}
 use lib.Seq.{drop-cons, take-all}
-use borrow.Author.Tests.{eq-eqb, ne-eqb, lt-leb, le-leb}
-use Rattle.sheets.proofs.Truth.{true-false, and-right, is-false}
+use borrow.Author.Tests.{eq-eqb, ne-eqb, lt-leb, le-leb, eqb-true}
+use Rattle.sheets.proofs.Truth.{true-false, and-left, and-right, is-false}
 use Rattle.sheets.specs.Names.{same, zeros, letter, digit, lettersOrDigits, unpadded, wellNamed, fieldFits}
 
 pub drop-step : (l : List ℕ) (i : ℕ) → i < length l → drop i l ≡ getD l i 0 ∷ drop (i + 1) l
@@ -133,3 +133,17 @@ module _ (f n : List ℕ) (w : Bool) (e : n ≡ unpadded f) (v : w ≡ wellNamed
   pub fits-not : w ≡ false → false ≡ fieldFits f
   unfolding fieldFits
   fits-not t = sym (rw (← e, ← v, t))
+
+pub same-equal : (a b : List ℕ) → same a b ≡ true → a ≡ b
+unfolding same
+same-equal [] [] h = refl
+same-equal [] (y ∷ ys) h = true-false (sym h)
+same-equal (x ∷ xs) [] h = true-false (sym h)
+same-equal (x ∷ xs) (y ∷ ys) h =
+    rw (eqb-true x y (and-left (eqb x y) (same xs ys) h))
+    (ap (λ (l : List ℕ). y ∷ l) (same-equal xs ys (and-right (eqb x y) (same xs ys) h)))
+
+pub same-refl : (a : List ℕ) → same a a ≡ true
+unfolding same
+same-refl [] = refl
+same-refl (x ∷ xs) = rw (eq-eqb x x refl) (same-refl xs)

@@ -11,9 +11,9 @@ use Rattle.sheets.specs.Writing.{sheetBytes}
 use Rattle.sheets.specs.declared.Place.{Place}
 use Rattle.sheets.specs.declared.Place.the-variants.{At, Refused}
 
--- begin: the empty sheet; 7 when the output is shorter
-unfoldable pub beginFault : List ℕ → ℕ
-beginFault out = cond (ltb (length out) (length (sheetBytes []))) 7 0
+-- begin: the empty sheet; 7 when the output, of `room` bytes, is shorter
+unfoldable pub beginFault : ℕ → ℕ
+beginFault room = cond (ltb room (length (sheetBytes []))) 7 0
 
 -- A lookup takes sheet, 16, 13.
 unfoldable pub lookupFault : List ℕ → List ℕ → ℕ
@@ -45,10 +45,10 @@ unfoldable pub appended : List ℕ → List ℕ → List ℕ → List ℕ
 appended sheet name list = sheetBytes (signalsOn sheet ++ entry name list ∷ [])
 
 -- Appending takes sheet, 16, list, 15, 7.
-unfoldable pub appendFault : List ℕ → List ℕ → List ℕ → List ℕ → ℕ
-appendFault sheet name list out =
+unfoldable pub appendFault : List ℕ → List ℕ → List ℕ → ℕ → ℕ
+appendFault sheet name list room =
     orElse (sheetFault sheet)
     (cond (not (wellNamed name) || among name (names (signalsOn sheet))) 16
     (orElse (listFault list)
     (cond (leb 32 (length (signalsOn sheet))) 15
-    (cond (ltb (length out) (length (appended sheet name list))) 7 0))))
+    (cond (ltb room (length (appended sheet name list))) 7 0))))

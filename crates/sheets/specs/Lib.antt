@@ -4,3 +4,5 @@ pub mod Bytes
 pub mod Reading
 pub mod Writing
 pub mod Calls
+pub mod Walk
+pub mod Theorems

@@ -1,8 +1,11 @@
 -- `sheets::read16` meets its contract.
 use borrow.Author.Needs.{needs}
 use native.Mathlib.Omega.{arith}
-use mathlib.Core.Path.{refl}
-use Rattle.sheets.specs.Bytes.{low16}
+use Prim.Native.Nat.{ℕ, _+_, _-_, _*_, _≤_, _/_, _%_}
+use mathlib.Core.Path.{_≡_, refl, sym, ap, _∙_}
+use lib.ListN.{length, getD, take, drop}
+use denote.Ref.{now}
+use Rattle.sheets.proofs.Walking.{low16-at}
 use Rattle.sheets.proofs.read16.Statement.{statement}
 use Rattle.sheets.proofs.read16.Tie as tie
 
@@ -10,23 +13,25 @@ shared-slice-read-result : tie.Need-shared-slice-read-result
 shared-slice-read-result c = search needs
 
 cast-result : tie.Need-cast-result
-cast-result c = omega (arith, c .shared-slice-known .given 0)
+cast-result c = omega (arith, c .shared-slice-known .given (c .before .args .at), c .shared-slice-known .given (c .before .args .at + 1), c .shared-slice-known .given (c .before .args .at + 2), c .shared-slice-known .given (c .before .args .at + 3))
+
+add-result : tie.Need-add-result
+add-result c = search needs
 
 shared-slice-read-result-2 : tie.Need-shared-slice-read-result-2
 shared-slice-read-result-2 c = search needs
 
 cast-result-2 : tie.Need-cast-result-2
-cast-result-2 c = omega (arith, c .shared-slice-known2 .given 1)
+cast-result-2 c = omega (arith, c .shared-slice-known2 .given (c .before .before .args .at), c .shared-slice-known2 .given (c .before .before .args .at + 1), c .shared-slice-known2 .given (c .before .before .args .at + 2), c .shared-slice-known2 .given (c .before .before .args .at + 3))
 
 mul-result : tie.Need-mul-result
-mul-result c = omega (arith, c .shared-slice-known2 .given 1)
+mul-result c = omega (arith, c .shared-slice-known2 .given (c .before .before .args .at), c .shared-slice-known2 .given (c .before .before .args .at + 1), c .shared-slice-known2 .given (c .before .before .args .at + 2), c .shared-slice-known2 .given (c .before .before .args .at + 3))
 
-add-result : tie.Need-add-result
-add-result c = omega (arith, c .shared-slice-known2 .given 0, c .shared-slice-known2 .given 1)
+add-result-2 : tie.Need-add-result-2
+add-result-2 c = omega (arith, c .shared-slice-known2 .given (c .before .before .args .at), c .shared-slice-known2 .given (c .before .before .args .at + 1), c .shared-slice-known2 .given (c .before .before .args .at + 2), c .shared-slice-known2 .given (c .before .before .args .at + 3))
 
 returns : tie.Need-returns
-unfolding low16
-returns c = refl
+returns c = (sym (low16-at (now (c .before .before .args .s)) (c .before .before .args .at)), omega (arith, c .shared-slice-known2 .given (c .before .before .args .at), c .shared-slice-known2 .given (c .before .before .args .at + 1), c .shared-slice-known2 .given (c .before .before .args .at + 2), c .shared-slice-known2 .given (c .before .before .args .at + 3)))
 
 pub read16-spec : {M : Type 1} → statement M
 read16-spec =
@@ -34,8 +39,9 @@ read16-spec =
     (tie.spec
     shared-slice-read-result
     cast-result
+    add-result
     shared-slice-read-result-2
     cast-result-2
     mul-result
-    add-result
+    add-result-2
     returns)

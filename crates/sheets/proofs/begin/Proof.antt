@@ -1,0 +1,43 @@
+-- `sheets::begin` meets its contract.
+use borrow.Author.Needs.{needs}
+use native.Mathlib.Omega.{arith}
+use Prim.Native.Nat.{ℕ, _+_, _-_, _*_, _≤_, _/_, _%_}
+use mathlib.Core.Path.{_≡_, refl, sym, ap, _∙_}
+use lib.ListN.{length, getD, take, drop}
+use denote.Ref.{now}
+use Rattle.sheets.proofs.Filling.{begin-short, begin-put}
+use Rattle.sheets.proofs.begin.Statement.{statement}
+use Rattle.sheets.proofs.begin.Tie as tie
+
+returns : tie.Need-returns
+returns c = begin-short (now (c .before .before .args .out)) (c .if1 .taken)
+
+slice-aggregate-put : tie.Need-slice-aggregate-put
+slice-aggregate-put c = search needs
+
+put-requires : tie.Need-put-requires
+put-requires c κs = search needs
+
+put16-requires : tie.Need-put16-requires
+put16-requires c κs = search needs
+
+put16-requires-2 : tie.Need-put16-requires-2
+put16-requires-2 c κs = search needs
+
+same-length : tie.Need-same-length
+same-length c = search needs
+
+returns-2 : tie.Need-returns-2
+returns-2 c = begin-put (now (c .before .before .before .before .before .before .before .before .before .before .before .before .before .before .before .args .out)) (c .before .before .before .before .before .before .before .before .before .before .put .last .0) (c .before .before .before .before .before .before .put16 .last .0) (c .before .before .put162 .last .0) (c .before .before .before .before .before .before .before .before .before .before .before .before .before .if1 .left) (c .before .before .before .before .before .before .before .before .before .before .put .ensures) (c .before .before .before .before .before .before .put16 .ensures) (c .before .before .put162 .ensures)
+
+pub begin-spec : {M : Type 1} → statement M
+begin-spec =
+    tie.close
+    (tie.spec
+    returns
+    slice-aggregate-put
+    put-requires
+    put16-requires
+    put16-requires-2
+    same-length
+    returns-2)

@@ -1,0 +1,29 @@
+-- `sheets::field_at` meets its contract.
+use borrow.Author.Needs.{needs}
+use native.Mathlib.Omega.{arith}
+use Prim.Native.Nat.{ℕ, _+_, _-_, _*_, _≤_, _/_, _%_}
+use mathlib.Core.Path.{_≡_, refl, sym, ap, _∙_}
+use lib.ListN.{length, getD, take, drop}
+use denote.Ref.{now}
+use Rattle.sheets.proofs.Walking.{field-is}
+use Rattle.sheets.proofs.field_at.Statement.{statement}
+use Rattle.sheets.proofs.field_at.Tie as tie
+
+add-result : tie.Need-add-result
+add-result c = search needs
+
+sub-result : tie.Need-sub-result
+sub-result c = search needs
+
+part-result-start : tie.Need-part-result-start
+part-result-start c = search needs
+
+part-result-end : tie.Need-part-result-end
+part-result-end c = search needs
+
+returns : tie.Need-returns
+returns c = field-is (now (c .before .args .sheet)) (c .before .args .at)
+
+pub field-at-spec : {M : Type 1} → statement M
+field-at-spec =
+    tie.close (tie.spec add-result sub-result part-result-start part-result-end returns)

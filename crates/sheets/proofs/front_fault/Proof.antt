@@ -1,0 +1,64 @@
+-- `sheets::front_fault` meets its contract: the tests that led to each return say which case of the definition holds.
+use borrow.Author.Needs.{needs}
+use native.Mathlib.Omega.{arith}
+use Prim.Native.Nat.{ℕ, _+_, _-_, _*_, _≤_, _/_, _%_}
+use mathlib.Core.Path.{_≡_, refl, sym, ap, _∙_}
+use lib.ListN.{length, getD, take, drop}
+use denote.Ref.{now}
+use lib.Seq.{length-take-le}
+use Rattle.sheets.proofs.Judging.{front-short, front-mark, front-cut, front-version, front-no-count, front-many, front-fine}
+use Rattle.sheets.proofs.front_fault.Statement.{statement}
+use Rattle.sheets.proofs.front_fault.Tie as tie
+
+returns : tie.Need-returns
+returns c = sym (front-short (now (c .before .before .args .sheet)) (c .if1 .taken))
+
+slice-aggregate-alike : tie.Need-slice-aggregate-alike
+slice-aggregate-alike c = sym (length-take-le 3 (now (c .before .before .before .args .sheet)) (c .before .if1 .left))
+
+slice-aggregate-alike-2 : tie.Need-slice-aggregate-alike-2
+slice-aggregate-alike-2 c = search needs
+
+alike-requires : tie.Need-alike-requires
+alike-requires c κs = search needs
+
+returns-2 : tie.Need-returns-2
+returns-2 c = sym (front-cut (now (c .before .before .before .before .before .before .before .args .sheet)) (c .before .before .before .before .before .if1 .left) (c .before .before .alike .result) (c .before .before .alike .ensures) (c .before .if2 .taken) (c .if3 .taken))
+
+read16-requires : tie.Need-read16-requires
+read16-requires c κs = search needs
+
+returns-3 : tie.Need-returns-3
+returns-3 c = sym (front-version (now (c .before .before .before .before .before .before .before .before .before .args .sheet)) (c .before .before .before .before .before .before .before .if1 .left) (c .before .before .before .before .alike .result) (c .before .before .before .before .alike .ensures) (c .before .before .before .if2 .taken) (c .before .before .if3 .left) (c .before .read16 .result) (c .before .read16 .ensures .0) (c .if4 .taken))
+
+returns-4 : tie.Need-returns-4
+returns-4 c = sym (front-no-count (now (c .before .before .before .before .before .before .before .before .before .before .args .sheet)) (c .before .before .before .before .before .before .before .before .if1 .left) (c .before .before .before .before .before .alike .result) (c .before .before .before .before .before .alike .ensures) (c .before .before .before .before .if2 .taken) (c .before .before .before .if3 .left) (c .before .before .read16 .result) (c .before .before .read16 .ensures .0) (c .before .if4 .left) (c .if5 .taken))
+
+read16-requires-2 : tie.Need-read16-requires-2
+read16-requires-2 c κs = search needs
+
+returns-5 : tie.Need-returns-5
+returns-5 c = sym (front-many (now (c .before .before .before .before .before .before .before .before .before .before .before .before .args .sheet)) (c .before .before .before .before .before .before .before .before .before .before .if1 .left) (c .before .before .before .before .before .before .before .alike .result) (c .before .before .before .before .before .before .before .alike .ensures) (c .before .before .before .before .before .before .if2 .taken) (c .before .before .before .before .before .if3 .left) (c .before .before .before .before .read16 .result) (c .before .before .before .before .read16 .ensures .0) (c .before .before .before .if4 .left) (c .before .before .if5 .left) (c .before .read162 .result) (c .before .read162 .ensures .0) (c .if6 .taken))
+
+returns-6 : tie.Need-returns-6
+returns-6 c = sym (front-fine (now (c .before .before .before .before .before .before .before .before .before .before .before .before .args .sheet)) (c .before .before .before .before .before .before .before .before .before .before .if1 .left) (c .before .before .before .before .before .before .before .alike .result) (c .before .before .before .before .before .before .before .alike .ensures) (c .before .before .before .before .before .before .if2 .taken) (c .before .before .before .before .before .if3 .left) (c .before .before .before .before .read16 .result) (c .before .before .before .before .read16 .ensures .0) (c .before .before .before .if4 .left) (c .before .before .if5 .left) (c .before .read162 .result) (c .before .read162 .ensures .0) (c .if6 .left))
+
+returns-7 : tie.Need-returns-7
+returns-7 c = sym (front-mark (now (c .before .before .before .before .before .before .args .sheet)) (c .before .before .before .before .if1 .left) (c .before .alike .result) (c .before .alike .ensures) (c .if2 .left))
+
+pub front-fault-spec : {M : Type 1} → statement M
+front-fault-spec =
+    tie.close
+    (tie.spec
+    returns
+    slice-aggregate-alike
+    slice-aggregate-alike-2
+    alike-requires
+    returns-2
+    read16-requires
+    returns-3
+    returns-4
+    read16-requires-2
+    returns-5
+    returns-6
+    returns-7)

@@ -1,0 +1,47 @@
+-- `sheets::put_name` meets its contract.
+use borrow.Author.Needs.{needs}
+use native.Mathlib.Omega.{arith}
+use Prim.Native.Nat.{ℕ, _+_, _-_, _*_, _≤_, _/_, _%_}
+use mathlib.Core.Path.{_≡_, refl, sym, ap, _∙_}
+use lib.ListN.{length, getD, take, drop}
+use denote.Ref.{now}
+use Rattle.sheets.proofs.Filling.{length-pad, name-put}
+use Rattle.sheets.proofs.put_name.Statement.{statement}
+use Rattle.sheets.proofs.put_name.Tie as tie
+
+put-requires : tie.Need-put-requires
+put-requires c κs = search needs
+
+add-put : tie.Need-add-put
+add-put c = search needs
+
+sub-pad : tie.Need-sub-pad
+sub-pad c = search needs
+
+array-share-prefix-pad : tie.Need-array-share-prefix-pad
+array-share-prefix-pad c = search needs
+
+slice-aggregate-put : tie.Need-slice-aggregate-put
+slice-aggregate-put c = sym (length-pad (8 - length (now (c .before .before .before .before .before .before .before .before .args .name))) (omega arith))
+
+put-requires-2 : tie.Need-put-requires-2
+put-requires-2 c κs = omega (arith, length-pad (8 - length (now (c .before .before .before .before .before .before .before .before .args .name))) (omega arith), c .before .before .before .before .put .kept .0)
+
+same-length : tie.Need-same-length
+same-length c = search needs
+
+returns : tie.Need-returns
+returns c = name-put (now (c .before .before .before .before .before .before .before .before .before .before .before .args .out)) (c .before .before .before .before .before .before .before .put .last .0) (c .before .before .put2 .last .0) (c .before .before .before .before .before .before .before .before .before .before .before .args .at) (now (c .before .before .before .before .before .before .before .before .before .before .before .args .name)) (c .before .before .before .before .before .before .before .before .before .before .before .pre .1) (c .before .before .before .before .before .before .before .before .before .before .before .pre .0) (c .before .before .before .before .before .before .before .put .ensures) (c .before .before .put2 .ensures)
+
+pub put-name-spec : {M : Type 1} → statement M
+put-name-spec =
+    tie.close
+    (tie.spec
+    put-requires
+    add-put
+    sub-pad
+    array-share-prefix-pad
+    slice-aggregate-put
+    put-requires-2
+    same-length
+    returns)

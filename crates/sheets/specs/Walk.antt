@@ -1,0 +1,19 @@
+-- What private functions assume while they walk a sheet. No rule of document 01 rests on it.
+use Prim.Native.Nat.{ℕ, zero, suc, _+_, _≤_}
+use mathlib.Core.List.{List, _++_}
+use lib.ListN.{length, take, drop}
+use Rattle.sheets.specs.Reading.{signalSize}
+
+-- n whole signals stand at the front
+abbrev pub Whole : ℕ → List ℕ → Type 0
+Whole zero rest = Unit
+Whole (suc n) rest = (signalSize rest ≤ length rest) × Whole n (drop (signalSize rest) rest)
+
+-- the number of bytes of n signals
+unfoldable pub sizeOf : ℕ → List ℕ → ℕ
+sizeOf zero rest = 0
+sizeOf (suc n) rest = signalSize rest + sizeOf n (drop (signalSize rest) rest)
+
+-- the output with these bytes written at a place
+abbrev pub placed : List ℕ → ℕ → List ℕ → List ℕ
+placed out at bytes = take at out ++ bytes ++ drop (at + length bytes) out
