@@ -9,7 +9,7 @@ use lib.Dec.{leb, ltb, eqb}
 use lib.ListN.{length, getD, drop, drop-of-length-le}
 use lib.Seq.{drop-cons}
 use borrow.Author.Tests.{eqb-true, eqb-false, eq-eqb, ne-eqb, le-leb, lt-leb, lt-ltb, le-ltb}
-use Rattle.signals.specs.Words.{dateOf, valueAt, valueAfter, headValue, changesNothing, wordsFault, listFault}
+use Rattle.signals.specs.Words.{dateOf, valueAt, valueAfter, headValue, changesNothing, wordsFault, listFault, datesFault, tidyFault}
 
 pub both-up : (w : ℕ) → eqb (w % 4) 3 ≡ changesNothing true w
 unfolding changesNothing valueAt valueAfter
@@ -71,3 +71,37 @@ pub words-3-4 : (l : List ℕ) → (length l ≡ 0 → ⊥) → length l ≤ 256
 unfolding listFault
 words-3-4 [] n s h = absurd (n refl)
 words-3-4 (w ∷ ws) n s h = rw (le-ltb 256 (length (w ∷ ws)) s, le-ltb 1 w h)
+
+-- the same for a list to be tidied
+module _ (l : List ℕ) (passed last : ℕ) (h : passed < length l) where
+  pub dates-3 : (d : ℕ) → d ≡ dateOf (getD l passed 0) → d ≤ last → datesFault last (drop passed l) ≡ 3
+  unfolding datesFault
+  dates-3 d q e = rw (drop-cons l passed 0 h, le-leb (dateOf (getD l passed 0)) last (omega arith))
+
+  pub dates-on : (d : ℕ) → d ≡ dateOf (getD l passed 0) → last < d → datesFault last (drop passed l) ≡ datesFault d (drop (passed + 1) l)
+  unfolding datesFault
+  dates-on d q e = rw (add-one, drop-cons l passed 0 h, lt-leb (dateOf (getD l passed 0)) last (omega arith), ← q)
+
+pub dates-done : (l : List ℕ) (passed last : ℕ) → length l ≤ passed → datesFault last (drop passed l) ≡ 0
+unfolding datesFault
+dates-done l passed last h = rw (drop-of-length-le l {i = passed} h)
+
+pub tidy-empty : (l : List ℕ) → length l ≡ 0 → tidyFault l ≡ 1
+unfolding tidyFault
+tidy-empty [] e = refl
+tidy-empty (w ∷ ws) e = absurd (omega arith)
+
+pub tidy-long : (l : List ℕ) → 256 < length l → tidyFault l ≡ 1
+unfolding tidyFault
+tidy-long [] e = refl
+tidy-long (w ∷ ws) e = rw (lt-ltb 256 (length (w ∷ ws)) e)
+
+pub tidy-head : (l : List ℕ) → (length l ≡ 0 → ⊥) → length l ≤ 256 → 1 < getD l 0 0 → tidyFault l ≡ 2
+unfolding tidyFault
+tidy-head [] n s h = absurd (n refl)
+tidy-head (w ∷ ws) n s h = rw (le-ltb 256 (length (w ∷ ws)) s, lt-ltb 1 w h)
+
+pub tidy-dates : (l : List ℕ) → (length l ≡ 0 → ⊥) → length l ≤ 256 → getD l 0 0 ≤ 1 → tidyFault l ≡ datesFault 0 (drop 1 l)
+unfolding tidyFault
+tidy-dates [] n s h = absurd (n refl)
+tidy-dates (w ∷ ws) n s h = rw (le-ltb 256 (length (w ∷ ws)) s, le-ltb 1 w h)
