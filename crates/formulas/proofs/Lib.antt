@@ -8,3 +8,6 @@ pub mod Working
 pub mod Reading
 pub mod Segments
 pub mod Writing
+pub mod Carried
+pub mod Coding
+pub mod Marking

@@ -78,7 +78,7 @@ pub one-tree : OneTree
 one-tree w t u d e x y = (sym (tree-of w t d x) ∙ tree-of w u e y, sym (depth-of w t d x) ∙ depth-of w u e y)
 
 -- the longest length is one of the tree's
-longest-in : (m : ℕ) (t : Tree) → m < longest t → (n : ℕ) × LengthIn n t × (m < n)
+pub longest-in : (m : ℕ) (t : Tree) → m < longest t → (n : ℕ) × LengthIn n t × (m < n)
 unfolding longest
 longest-in m (leaf l) h = absurd (omega arith)
 longest-in m (unary o t) h = go o (ltb m (longest t)) refl (longest-in m t) h
@@ -96,7 +96,7 @@ longest-in m (binary o t u) h = go (ltb m (longest t)) refl (longest-in m t) (lo
     go true z f g = let r = f (ltb-true m (longest t) z) in (r .0, first (r .1), r .2)
     go false z f g = let k = ltb-false m (longest t) z in let r = g (omega arith) in (r .0, second (r .1), r .2)
 
-in-longest : (n : ℕ) (t : Tree) → LengthIn n t → n ≤ longest t
+pub in-longest : (n : ℕ) (t : Tree) → LengthIn n t → n ≤ longest t
 unfolding longest
 in-longest n t of-ton = omega arith
 in-longest n t of-tof = omega arith

@@ -13,7 +13,7 @@ use Rattle.formulas.specs.Grammar.{Sum, Product, Factor, isDigit, allOf,
 use Rattle.formulas.specs.Exactness.{Writable, EveryTreeWritten}
 use Rattle.formulas.proofs.Bytes.{and-both}
 
-value-more : (k c : ℕ) (w : List ℕ) → valueFrom k (w ++ (c ∷ [])) ≡ valueFrom k w * 10 + (c - 48)
+pub value-more : (k c : ℕ) (w : List ℕ) → valueFrom k (w ++ (c ∷ [])) ≡ valueFrom k w * 10 + (c - 48)
 unfolding valueFrom
 value-more k c [] = refl
 value-more k c (b ∷ w) = value-more (k * 10 + (b - 48)) c w

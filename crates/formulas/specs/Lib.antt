@@ -6,3 +6,4 @@ pub mod Reader
 pub mod Formula
 pub mod Exactness
 pub mod Places
+pub mod Marks
