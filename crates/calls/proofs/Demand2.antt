@@ -27,15 +27,23 @@ use Rattle.formulas.specs.Grammar.{Writes}
 use Rattle.formulas.specs.Formula.{formulaTree}
 use Rattle.formulas.proofs.Reading.{tree-of}
 use Rattle.laws.specs.Rewriting.{parts}
-use Rattle.sheets.specs.Reading.{sheetFault, signalsOn, listNamed, environmentOn}
+use Rattle.sheets.specs.Bytes.{Bytes, Words}
+use Rattle.sheets.specs.Names.{among}
+use Rattle.sheets.specs.Reading.{sheetFault, signalsOn, names, listNamed, environmentOn, entry}
+use Rattle.sheets.specs.Calls.{appendFault, appended}
+use Rattle.sheets.proofs.Steps.{same-refl}
+use Rattle.sheets.proofs.Named.{among-snoc, named-new}
+use Rattle.sheets.proofs.Appending.{appends}
+use Rattle.sheets.proofs.Theorems.{append-keeps-sheet}
 use Rattle.calls.specs.OnSheet.{signalOn, settlingDate, exactOn}
-use Rattle.calls.specs.Calls.{partFault, workingFault, wordsOn, callFault, callAnswer, callOutput, claimFault, claimVerdict, claimAnswer}
+use Rattle.calls.specs.Calls.{neededWork, partFault, workingFault, wordsOn, callFault, callAnswer, callOutput, claimFault, claimVerdict, claimAnswer}
 use Rattle.calls.specs.NormalLists.{ListFor, TheList, JudgedAs}
 use Rattle.calls.specs.Engine.{Engine, defined}
 use Rattle.calls.specs.Tabled.{CallFaultIs, ClaimFaultIs}
 use Rattle.calls.specs.Demand2.{Delivered, GivesTheList, ReadsBack, Demand2}
 use Rattle.calls.specs.Demand3.{wordsGiven}
 use Rattle.calls.proofs.FirstFault.{passed}
+use Rattle.calls.proofs.SheetLists.{named-words}
 use Rattle.calls.proofs.Settles.{settles, exact-for, one-for}
 use Rattle.calls.proofs.PartFaults.{of-late, whole-none}
 use Rattle.calls.proofs.ReadingFaults.{derived, text-fine}
@@ -148,14 +156,33 @@ written-back sheet formula work old words e h tree depth w later name q t =
           ∙ words-given defined sheet formula work old (wordsOn sheet formula) (delivered sheet formula work old z) in
     ap (λ (l : List ℕ). signalOf l t) (q ∙ s) ∙ clear-list sheet formula c tree depth w .listed .denotes t
 
+name-back : (sheet name list : List ℕ) → listNamed name (signalsOn sheet) ≡ list → Words list → sheetFault sheet ≡ 0
+    → among name (names (signalsOn sheet)) ≡ true → (work : ℕ) (old : List ℕ) → neededWork sheet ≤ work → length list ≤ length old
+    → Delivered defined sheet name work old list
+name-back sheet name list q k ok e work old l m =
+    let s = name-served sheet name (rw q k) ok e in
+    let r = s .same-words ∙ q in
+    rw (← r) (delivered sheet name work old (clear-call sheet name (s .clear) work (length old) l (rw r m)))
+
+append-back : (sheet name list : List ℕ) (room : ℕ) → Bytes sheet → Words list → appendFault sheet name list room ≡ 0
+    → (work : ℕ) (old : List ℕ) → neededWork (appended sheet name list) ≤ work → length list ≤ length old
+    → Delivered defined (appended sheet name list) name work old list
+append-back sheet name list room b k z work old l m =
+    let s = append-keeps-sheet sheet name list room b k z in
+    let a = appends sheet name list room z in
+    let q : listNamed name (signalsOn (appended sheet name list)) ≡ list =
+          rw (s .1) (named-new name (signalsOn sheet) (entry name list) (a .new) (same-refl name)) in
+    let e : among name (names (signalsOn (appended sheet name list))) ≡ true =
+          rw (s .1, among-snoc name (signalsOn sheet) (entry name list), a .new) (same-refl name) in
+    name-back (appended sheet name list) name list q k (s .0) e work old l m
+
 reads-back : ReadsBack defined
 reads-back =
     record {
       written = written-back;
       named = λ sheet name small ok e work old l m.
-          let s = name-served sheet name small ok e in
-          subst (λ (words : List ℕ). Delivered defined sheet name work old words) (s .same-words)
-          (delivered sheet name work old (clear-call sheet name (s .clear) work (length old) l (rw (s .same-words) m)));
+          name-back sheet name (listNamed name (signalsOn sheet)) refl (named-words sheet name small) ok e work old l m;
+      appends = append-back;
     }
 
 pub demand2 : Demand2 defined

@@ -11,9 +11,10 @@ use Rattle.signals.specs.Words.{signalOf}
 use Rattle.signals.specs.declared.Written.the-variants.{Count}
 use Rattle.formulas.specs.Tree.{Tree}
 use Rattle.formulas.specs.Grammar.{Writes}
-use Rattle.sheets.specs.Bytes.{Bytes}
+use Rattle.sheets.specs.Bytes.{Bytes, Words}
 use Rattle.sheets.specs.Names.{among}
 use Rattle.sheets.specs.Reading.{sheetFault, signalsOn, names, listNamed, environmentOn}
+use Rattle.sheets.specs.Calls.{appendFault, appended}
 use Rattle.calls.specs.OnSheet.{signalOn}
 use Rattle.calls.specs.Calls.{neededWork}
 use Rattle.calls.specs.Engine.{Engine}
@@ -46,6 +47,10 @@ pub record ReadsBack (E : Engine) : Type 0 where
   pub named : (sheet name : List ℕ) → Bytes sheet → sheetFault sheet ≡ 0 → among name (names (signalsOn sheet)) ≡ true
       → (work : ℕ) (old : List ℕ) → neededWork sheet ≤ work → length (listNamed name (signalsOn sheet)) ≤ length old
       → Delivered E sheet name work old (listNamed name (signalsOn sheet))
+  -- so does a list that append wrote to a sheet
+  pub appends : (sheet name list : List ℕ) (room : ℕ) → Bytes sheet → Words list → appendFault sheet name list room ≡ 0
+      → (work : ℕ) (old : List ℕ) → neededWork (appended sheet name list) ≤ work → length list ≤ length old
+      → Delivered E (appended sheet name list) name work old list
 
 pub record Demand2 (E : Engine) : Type 0 where
   pub lists : (sheet formula : List ℕ) (work : ℕ) (old : List ℕ) → faultIn (E .answer sheet formula work old) ≡ 0
