@@ -6,7 +6,7 @@ use mathlib.Core.Bool.{Bool, true, false, cond}
 use mathlib.Core.Logic.{_⊎_, inl, inr}
 use mathlib.Core.List.{List}
 use lib.Dec.{ltb}
-use lib.ListN.{length, getD}
+use lib.ListN.{length}
 use borrow.Author.Tests.{ltb-true, ltb-false}
 use Rattle.operations.specs.Calls.{firstOf}
 use Rattle.formulas.specs.Tree.{Tree}
@@ -21,7 +21,7 @@ use Rattle.calls.specs.NormalLists.{ListFor}
 use Rattle.calls.specs.Tabled.{Check, NoFault, SheetBreaks, Breaks18, Meets5, Meets6, FineBefore, Breaks5, Breaks6, Breaks7, ReadingChecks, WorkingChecks, CallFaultIs, ClaimFaultIs}
 use Rattle.calls.proofs.FirstFault.{first-none, first-some, first-with-none, zero-or-not, check-by}
 use Rattle.calls.proofs.Settles.{exact-for, one-for}
-use Rattle.calls.proofs.PartFaults.{First5, First6, PartsFaultIs, parts-fault}
+use Rattle.calls.proofs.PartFaults.{parts-fault}
 use Rattle.calls.proofs.ReadingFaults.{derived, text-fine, reading-fault}
 
 -- the part found first
@@ -90,10 +90,10 @@ room-fault sheet formula room ok t d w =
     check-by 7 0 (Breaks7 sheet formula room) NoFault (ltb room (length l))
     (λ e. (t, d, w, (l, rw (← same) (exact-for sheet ok (formulaTree formula)), ltb-true room (length l) e)))
     (λ e h.
-        let q : h .0 ≡ formulaTree formula = sym (tree-of formula (h .0) (h .1) (h .2)) in
-        let k : ListFor (signalOn sheet (formulaTree formula)) (h .3 .0) = rw (← q) (h .3 .1) in
-        let z : length (h .3 .0) ≡ length l = ap length (one-for k (exact-for sheet ok (formulaTree formula))) in
-        omega (arith, ltb-false room (length l) e, h .3 .2))
+    let q : h .0 ≡ formulaTree formula = sym (tree-of formula (h .0) (h .1) (h .2)) in
+    let k : ListFor (signalOn sheet (formulaTree formula)) (h .3 .0) = rw (← q) (h .3 .1) in
+    let z : length (h .3 .0) ≡ length l = ap length (one-for k (exact-for sheet ok (formulaTree formula))) in
+    omega (arith, ltb-false room (length l) e, h .3 .2))
     (λ e. refl)
   where
     l : List ℕ
@@ -121,23 +121,23 @@ call-fault sheet formula work room =
     (ReadingChecks sheet formula (AfterText sheet formula work room))
     (firstOf (readingFault sheet formula) (afterText sheet formula work room))
     (λ ok.
-        reading-fault sheet formula (AfterText sheet formula work room) (afterText sheet formula work room) (λ r.
-            let w = derived formula (text-fine sheet formula r) in
-            work-fault
-            sheet
-            work
-            (WorkingChecks sheet formula (Check 7 (Breaks7 sheet formula room) NoFault))
-            (firstOf (workingFault sheet formula) (roomOf sheet formula room))
-            (working-fault
-            sheet
-            formula
-            (Check 7 (Breaks7 sheet formula room) NoFault)
-            (roomOf sheet formula room)
-            ok
-            (w .0)
-            (w .1)
-            (w .2)
-            (λ z. room-fault sheet formula room ok (w .0) (w .1) (w .2)))))
+    reading-fault sheet formula (AfterText sheet formula work room) (afterText sheet formula work room) (λ r.
+    let w = derived formula (text-fine sheet formula r) in
+    work-fault
+    sheet
+    work
+    (WorkingChecks sheet formula (Check 7 (Breaks7 sheet formula room) NoFault))
+    (firstOf (workingFault sheet formula) (roomOf sheet formula room))
+    (working-fault
+    sheet
+    formula
+    (Check 7 (Breaks7 sheet formula room) NoFault)
+    (roomOf sheet formula room)
+    ok
+    (w .0)
+    (w .1)
+    (w .2)
+    (λ z. room-fault sheet formula room ok (w .0) (w .1) (w .2)))))
 
 -- the same for a claim
 abbrev AfterTexts : List ℕ → List ℕ → List ℕ → ℕ → ℕ → Type 0
@@ -158,27 +158,27 @@ claim-fault sheet F G work =
     (ReadingChecks sheet F (ReadingChecks sheet G (AfterTexts sheet F G work)))
     (firstOf (readingFault sheet F) (firstOf (readingFault sheet G) (afterTexts sheet F G work)))
     (λ ok.
-        reading-fault
-        sheet
-        F
-        (ReadingChecks sheet G (AfterTexts sheet F G work))
-        (firstOf (readingFault sheet G) (afterTexts sheet F G work))
-        (λ r.
-            let w = derived F (text-fine sheet F r) in
-            reading-fault sheet G (AfterTexts sheet F G work) (afterTexts sheet F G work) (λ s.
-                let v = derived G (text-fine sheet G s) in
-                work-fault
-                sheet
-                work
-                (WorkingChecks sheet F (WorkingChecks sheet G NoFault))
-                (firstOf (workingFault sheet F) (workingFault sheet G))
-                (working-fault
-                sheet
-                F
-                (WorkingChecks sheet G NoFault)
-                (workingFault sheet G)
-                ok
-                (w .0)
-                (w .1)
-                (w .2)
-                (λ z. last-parts sheet G ok (v .0) (v .1) (v .2))))))
+    reading-fault
+    sheet
+    F
+    (ReadingChecks sheet G (AfterTexts sheet F G work))
+    (firstOf (readingFault sheet G) (afterTexts sheet F G work))
+    (λ r.
+    let w = derived F (text-fine sheet F r) in
+    reading-fault sheet G (AfterTexts sheet F G work) (afterTexts sheet F G work) (λ s.
+    let v = derived G (text-fine sheet G s) in
+    work-fault
+    sheet
+    work
+    (WorkingChecks sheet F (WorkingChecks sheet G NoFault))
+    (firstOf (workingFault sheet F) (workingFault sheet G))
+    (working-fault
+    sheet
+    F
+    (WorkingChecks sheet G NoFault)
+    (workingFault sheet G)
+    ok
+    (w .0)
+    (w .1)
+    (w .2)
+    (λ z. last-parts sheet G ok (v .0) (v .1) (v .2))))))

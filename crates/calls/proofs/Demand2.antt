@@ -1,32 +1,26 @@
 -- The defined calls meet demand 2.
-use Prim.Native.Nat.{ℕ, zero, suc, _+_, _*_, _≤_, _<_, max}
+use Prim.Native.Nat.{ℕ, _≤_, _<_, max}
 use native.Mathlib.Omega.{arith}
-use mathlib.Core.Path.{_≡_, refl, sym, _∙_, ap, subst}
+use mathlib.Core.Path.{_≡_, refl, sym, _∙_, ap}
 use mathlib.Core.Bool.{Bool, true, false, cond}
-use mathlib.Core.Logic.{_⊎_, inl, inr, _↔_}
-use mathlib.Core.List.{List, [], _∷_, _++_}
-use lib.Dec.{ltb, eqb}
-use lib.ListN.{length, take, drop, getD}
+use mathlib.Core.List.{List, _++_}
+use lib.Dec.{ltb}
+use lib.ListN.{length, drop, getD}
 use lib.Seq.{take-append-seam}
-use borrow.Author.Tests.{ltb-true, ltb-false, le-ltb, eqb-true, eqb-false, eq-eqb, ne-eqb}
+use borrow.Author.Tests.{ltb-true, ltb-false, eq-eqb, ne-eqb}
 use Rattle.signals.specs.Moment.{M}
 use Rattle.signals.specs.Signal.{Signal}
 use Rattle.signals.specs.Words.{dateOf, signalOf}
-use Rattle.signals.specs.Settled.{SettledFrom, Same}
-use Rattle.signals.specs.Normal.{Normal}
-use Rattle.signals.specs.Answers.{faultIn, countIn, outputOf}
-use Rattle.signals.specs.Implication.{verdictOf, faultOfVerdict}
+use Rattle.signals.specs.Settled.{Same}
+use Rattle.signals.specs.Answers.{faultIn, outputOf}
 use Rattle.signals.proofs.Normal.{acceptedNormal}
 use Rattle.signals.proofs.Implication.{verdict-judged}
 use Rattle.signals.proofs.Settling.{settled-later}
 use Rattle.signals.proofs.Truth.{not-both}
-use Rattle.signals.specs.declared.Written.the-variants as written
 use Rattle.operations.specs.Calls.{changesAfterM}
 use Rattle.formulas.specs.Tree.{Tree}
 use Rattle.formulas.specs.Grammar.{Writes}
-use Rattle.formulas.specs.Formula.{formulaTree}
 use Rattle.formulas.proofs.Reading.{tree-of}
-use Rattle.laws.specs.Rewriting.{parts}
 use Rattle.sheets.specs.Bytes.{Bytes, Words}
 use Rattle.sheets.specs.Names.{among}
 use Rattle.sheets.specs.Reading.{sheetFault, signalsOn, names, listNamed, environmentOn, entry}
@@ -39,7 +33,7 @@ use Rattle.calls.specs.OnSheet.{signalOn, settlingDate, exactOn}
 use Rattle.calls.specs.Calls.{neededWork, partFault, workingFault, wordsOn, callFault, callAnswer, callOutput, claimFault, claimVerdict, claimAnswer}
 use Rattle.calls.specs.NormalLists.{ListFor, TheList, JudgedAs}
 use Rattle.calls.specs.Engine.{Engine, defined}
-use Rattle.calls.specs.Tabled.{CallFaultIs, ClaimFaultIs}
+use Rattle.calls.specs.Tabled.{CallFaultIs}
 use Rattle.calls.specs.Demand2.{Delivered, GivesTheList, ReadsBack, Demand2}
 use Rattle.calls.specs.Demand3.{wordsGiven}
 use Rattle.calls.proofs.FirstFault.{passed}
@@ -134,8 +128,8 @@ unfolding claimVerdict
 judged-as sheet ok f g =
     let n = max (settlingDate sheet f) (settlingDate sheet g) in
     let j = verdict-judged (signalOn sheet f) (signalOn sheet g) n
-          (settled-later (signalOn sheet f) (settlingDate sheet f) n (settles sheet ok f) (omega arith))
-          (settled-later (signalOn sheet g) (settlingDate sheet g) n (settles sheet ok g) (omega arith)) in
+    (settled-later (signalOn sheet f) (settlingDate sheet f) n (settles sheet ok f) (omega arith))
+    (settled-later (signalOn sheet g) (settlingDate sheet g) n (settles sheet ok g) (omega arith)) in
     record { holds = j .holds; fails = j .fails; either = j .either }
 
 pub claim-judged : (sheet F G : List ℕ) (work : ℕ) → claimFault sheet F G work ≡ 0 → (f g : Tree) (d e : ℕ) → Writes F f d → Writes G g e
@@ -152,8 +146,8 @@ written-back sheet formula work old words e h tree depth w later name q t =
     let z = no-fault sheet formula work old e in
     let c = call-clear sheet formula work (length old) z .0 in
     let s : words ≡ wordsOn sheet formula =
-          sym (words-given defined sheet formula work old words h)
-          ∙ words-given defined sheet formula work old (wordsOn sheet formula) (delivered sheet formula work old z) in
+    sym (words-given defined sheet formula work old words h)
+    ∙ words-given defined sheet formula work old (wordsOn sheet formula) (delivered sheet formula work old z) in
     ap (λ (l : List ℕ). signalOf l t) (q ∙ s) ∙ clear-list sheet formula c tree depth w .listed .denotes t
 
 name-back : (sheet name list : List ℕ) → listNamed name (signalsOn sheet) ≡ list → Words list → sheetFault sheet ≡ 0
@@ -171,9 +165,9 @@ append-back sheet name list room b k z work old l m =
     let s = append-keeps-sheet sheet name list room b k z in
     let a = appends sheet name list room z in
     let q : listNamed name (signalsOn (appended sheet name list)) ≡ list =
-          rw (s .1) (named-new name (signalsOn sheet) (entry name list) (a .new) (same-refl name)) in
+    rw (s .1) (named-new name (signalsOn sheet) (entry name list) (a .new) (same-refl name)) in
     let e : among name (names (signalsOn (appended sheet name list))) ≡ true =
-          rw (s .1, among-snoc name (signalsOn sheet) (entry name list), a .new) (same-refl name) in
+    rw (s .1, among-snoc name (signalsOn sheet) (entry name list), a .new) (same-refl name) in
     name-back (appended sheet name list) name list q k (s .0) e work old l m
 
 reads-back : ReadsBack defined

@@ -1,7 +1,6 @@
 -- The defined calls meet demand 3.
-use Prim.Native.Nat.{ℕ, _≤_, _<_}
-use native.Mathlib.Omega.{arith}
-use mathlib.Core.Path.{_≡_, refl, sym, _∙_, ap, subst, fun-ext}
+use Prim.Native.Nat.{ℕ, _≤_}
+use mathlib.Core.Path.{_≡_, refl, sym, _∙_, ap}
 use mathlib.Core.Bool.{Bool, true, false}
 use mathlib.Core.Logic.{_⊎_, inl, inr, _↔_}
 use mathlib.Core.List.{List}
@@ -17,15 +16,14 @@ use Rattle.signals.specs.declared.Verdict.{Verdict}
 use Rattle.signals.specs.declared.Verdict.the-variants.{Holds}
 use Rattle.formulas.specs.Tree.{Tree}
 use Rattle.formulas.specs.Grammar.{Writes}
-use Rattle.formulas.specs.Formula.{formulaTree}
 use Rattle.formulas.proofs.Reading.{tree-of}
 use Rattle.laws.specs.Rewriting.{Rewrites}
 use Rattle.laws.proofs.Soundness.{same-signal}
 use Rattle.sheets.specs.Reading.{environmentOn}
 use Rattle.calls.specs.OnSheet.{signalOn}
-use Rattle.calls.specs.Calls.{neededWork, wordsOn, claimVerdict, claimAnswer}
-use Rattle.calls.specs.Answered.{Answered, Enough}
-use Rattle.calls.specs.NormalLists.{ListFor, TheList, JudgedAs}
+use Rattle.calls.specs.Calls.{neededWork, wordsOn, claimAnswer}
+use Rattle.calls.specs.Answered.{Answered}
+use Rattle.calls.specs.NormalLists.{JudgedAs}
 use Rattle.calls.specs.Engine.{defined}
 use Rattle.calls.specs.Demand3.{Served, wordsGiven, SameWords, SameVerdicts, Demand3}
 use Rattle.calls.proofs.NotRefused.{Clear, answered-clear, counted, no-fault, enough-served, given-claim, short-claim}
@@ -104,9 +102,9 @@ third : (F G H : List ℕ) (f g h : Tree) (d e k : ℕ) → Writes F f d → Wri
 third F G H f g h d e k w v x r sheet a b c =
     record {
       asFirst = one-answer sheet H F H G c a c b (signalOn sheet h) (signalOn sheet f)
-        (judged sheet H F h f k d x w c a) (λ work l. rw s (judged sheet H G h g k e x v c b work l));
+          (judged sheet H F h f k d x w c a) (λ work l. rw s (judged sheet H G h g k e x v c b work l));
       asSecond = one-answer sheet F H G H a c b c (signalOn sheet f) (signalOn sheet h)
-        (judged sheet F H f h d k w x a c) (λ work l. rw s (judged sheet G H g h e k v x b c work l));
+          (judged sheet F H f h d k w x a c) (λ work l. rw s (judged sheet G H g h e k v x b c work l));
       firstWithF = judged sheet H F h f k d x w c a;
       firstWithG = judged sheet H G h g k e x v c b;
       secondWithF = judged sheet F H f h d k w x a c;
@@ -124,8 +122,7 @@ exactly sheetF sheetG F G f g d e w v a b workF workG oldF oldG x y =
     let p = served-words sheetF F workF oldF x in
     let q = served-words sheetG G workG oldG y in
     let m = answered-clear sheetF F a in
-    let n = answered-clear sheetG G b in
-    (
+    let n = answered-clear sheetG G b in (
       λ z. same-of-words sheetF sheetG F G m n f g d e w v (sym p ∙ z ∙ q),
       λ s. p ∙ words-of-same sheetF sheetG F G m n f g d e w v s ∙ sym q,
     )

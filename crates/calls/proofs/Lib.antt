@@ -12,3 +12,4 @@ pub mod Demand3
 pub mod OneEngine
 pub mod SmallCases
 pub mod WrongEngines
+pub mod Printed

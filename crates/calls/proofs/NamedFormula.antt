@@ -1,31 +1,30 @@
 -- A name of an accepted sheet, as a formula: it is answered, and its words are the sheet's.
-use Prim.Native.Nat.{ℕ, zero, suc, _+_, _*_, _≤_, _<_}
+use Prim.Native.Nat.{ℕ}
 use native.Mathlib.Omega.{arith}
-use mathlib.Core.Path.{_≡_, refl, sym, _∙_, ap, subst}
-use mathlib.Core.Bool.{Bool, true, false, cond, _&&_, _||_}
-use mathlib.Core.Logic.{_⊎_, inl, inr, ⊎-elim}
-use mathlib.Core.List.{List, [], _∷_, _++_}
-use lib.Dec.{leb, ltb, eqb}
-use lib.ListN.{length, take, drop, getD}
-use lib.Seq.{getD-drop}
-use borrow.Author.Tests.{leb-true, le-leb, ltb-true, ltb-false, le-ltb, eqb-true}
+use mathlib.Core.Path.{_≡_, refl, _∙_, ap, subst}
+use mathlib.Core.Bool.{true, false, cond, _&&_, _||_}
+use mathlib.Core.Logic.{⊎-elim}
+use mathlib.Core.List.{List, [], _∷_}
+use lib.Dec.{leb}
+use lib.ListN.{length}
+use borrow.Author.Tests.{leb-true, le-leb, le-ltb}
 use Rattle.signals.specs.Moment.{M}
 use Rattle.signals.specs.Signal.{constant}
 use Rattle.signals.specs.Words.{dateOf, listFault, wordsOf, listOf}
-use Rattle.signals.proofs.Truth.{and-left, and-right, and-of, or-cases, down-of, not-both}
+use Rattle.signals.proofs.Truth.{and-left, and-right, and-of, down-of, not-both}
 use Rattle.signals.proofs.Normal.{acceptedNormal, readBack}
-use Rattle.operations.specs.Calls.{firstOf, changesAfterM}
+use Rattle.operations.specs.Calls.{changesAfterM}
 use Rattle.formulas.specs.Tree.{Tree, Leaf, leaf, unary, binary, down, up, name}
 use Rattle.formulas.specs.Code.{code}
 use Rattle.formulas.specs.Grammar.{Sum, Product, Factor, isLower, isDigit, isNameByte, allOf, isName}
 use Rattle.formulas.specs.Formula.{formulaTree, formulaFault}
-use Rattle.formulas.specs.Exactness.{Ten, Eleven, Eight, Twelve, LengthIn}
+use Rattle.formulas.specs.Exactness.{LengthIn}
 use Rattle.formulas.proofs.Reading.{tree-of, one-tree, faults-exact}
 use Rattle.laws.specs.Rewriting.{parts}
 use Rattle.sheets.specs.Bytes.{Bytes, Words}
 use Rattle.sheets.specs.Names.{letter, digit, lettersOrDigits, wellNamed, among}
 use Rattle.sheets.specs.Reading.{sheetFault, signalsOn, names, listNamed, environmentOn}
-use Rattle.calls.specs.OnSheet.{signalOn, settlingDate, exactOn, leafFound, namesFound}
+use Rattle.calls.specs.OnSheet.{settlingDate, exactOn, leafFound, namesFound}
 use Rattle.calls.specs.TreesOnSheets.{TreesOnSheets}
 use Rattle.calls.proofs.Settles.{settles, exact-for}
 use Rattle.calls.specs.Calls.{readingFault, partFault, partsFault, workingFault, wordsOn}

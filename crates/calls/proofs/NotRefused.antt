@@ -3,17 +3,15 @@ use Prim.Native.Nat.{ℕ, _+_, _≤_, _<_, max}
 use native.Mathlib.Omega.{arith}
 use mathlib.Core.Path.{_≡_, refl, sym, _∙_, ap}
 use mathlib.Core.Bool.{Bool, true, false, cond}
-use mathlib.Core.Logic.{_⊎_, inl, inr, _↔_}
 use mathlib.Core.List.{List}
 use lib.Dec.{leb, ltb, eqb}
 use lib.ListN.{length}
-use borrow.Author.Tests.{ltb-true, ltb-false, le-ltb, lt-ltb, eqb-true, eqb-false, eq-eqb, ne-eqb}
+use borrow.Author.Tests.{ltb-false, le-ltb, lt-ltb, eqb-true, eq-eqb, ne-eqb}
 use Rattle.signals.specs.Signal.{Signal, refuted}
 use Rattle.signals.specs.Answers.{faultIn, writtenOf}
 use Rattle.signals.specs.Implication.{earliest, verdictOf, failsIn, faultOfVerdict}
 use Rattle.signals.specs.Moment.{gap, isGap, tick}
 use Rattle.signals.specs.declared.Written.the-variants as written
-use Rattle.signals.specs.declared.Verdict.{Verdict}
 use Rattle.signals.specs.declared.Verdict.the-variants as verdict
 use Rattle.operations.specs.Calls.{firstOf}
 use Rattle.formulas.specs.Tree.{Tree}
@@ -60,8 +58,7 @@ call-clear sheet formula work room e =
     let a = both-none (sheetFault sheet) (firstOf (readingFault sheet formula) (firstOf (workFault sheet work) (firstOf (workingFault sheet formula) r))) e in
     let b = both-none (readingFault sheet formula) (firstOf (workFault sheet work) (firstOf (workingFault sheet formula) r)) (a .1) in
     let c = both-none (workFault sheet work) (firstOf (workingFault sheet formula) r) (b .1) in
-    let d = both-none (workingFault sheet formula) r (c .1) in
-    (
+    let d = both-none (workingFault sheet formula) r (c .1) in (
       record { sheet-ok = a .0; text-ok = b .0; parts-ok = d .0 },
       work-from sheet work (c .0),
       room-from (wordsOn sheet formula) room (d .1),
@@ -113,8 +110,7 @@ claim-clear sheet F G work e =
     let b = both-none (readingFault sheet F) (firstOf (readingFault sheet G) w) (a .1) in
     let c = both-none (readingFault sheet G) w (b .1) in
     let d = both-none (workFault sheet work) p (c .1) in
-    let f = both-none (workingFault sheet F) (workingFault sheet G) (d .1) in
-    (
+    let f = both-none (workingFault sheet F) (workingFault sheet G) (d .1) in (
       record { sheet-ok = a .0; text-ok = b .0; parts-ok = f .0 },
       record { sheet-ok = a .0; text-ok = c .0; parts-ok = f .1 },
       work-from sheet work (d .0),

@@ -1,11 +1,8 @@
 -- An engine that meets demand 2 is the defined one at every input.
 use Prim.Native.Nat.{ℕ}
-use native.Mathlib.Omega.{arith}
 use mathlib.Core.Path.{_≡_, refl, sym, _∙_, ap}
-use mathlib.Core.Bool.{Bool, true, false, cond}
 use mathlib.Core.Logic.{_⊎_, inl, inr}
 use mathlib.Core.List.{List, _++_}
-use lib.Dec.{eqb}
 use lib.ListN.{length, drop}
 use borrow.Author.Tests.{ne-eqb}
 use Rattle.signals.specs.Answers.{faultIn, writtenOf}
@@ -16,10 +13,10 @@ use Rattle.signals.specs.declared.Verdict.{Verdict}
 use Rattle.signals.specs.declared.Verdict.the-variants as verdict
 use Rattle.calls.specs.Calls.{wordsOn, callFault, callAnswer, callOutput, claimFault, claimAnswer}
 use Rattle.calls.specs.Engine.{Engine, defined}
-use Rattle.calls.specs.Tabled.{Check, NoFault, ReadingChecks, WorkingChecks, CallFaultIs, ClaimFaultIs}
-use Rattle.calls.specs.Demand2.{GivesTheList, Demand2}
+use Rattle.calls.specs.Tabled.{NoFault, ReadingChecks, WorkingChecks, CallFaultIs, ClaimFaultIs}
+use Rattle.calls.specs.Demand2.{Demand2}
 use Rattle.calls.specs.OneFault.{OneFault}
-use Rattle.calls.specs.OneEngine.{Agrees, OneEngine}
+use Rattle.calls.specs.OneEngine.{OneEngine}
 use Rattle.calls.proofs.FirstFault.{Single, check-single, zero-or-not}
 use Rattle.calls.proofs.ReadingFaults.{derived, text-fine}
 use Rattle.calls.proofs.CallFaults.{call-fault, claim-fault}
@@ -88,8 +85,7 @@ module _ (E : Engine) (D : Demand2 E) where
       let z = sym (same-fault sheet formula work old) ∙ e in
       let c = call-clear sheet formula work (length old) z .0 in
       let q : g .words ≡ wordsOn sheet formula = clear-list sheet formula c (g .tree) (g .depth) (g .writes) .only (g .words) (g .theList .listed) in
-      let h = delivered sheet formula work old z in
-      (
+      let h = delivered sheet formula work old z in (
         g .delivered .count ∙ ap (λ (l : List ℕ). written.Count (length l)) q ∙ sym (h .count),
         g .delivered .output ∙ ap (λ (l : List ℕ). l ++ drop (length l) old) q ∙ sym (h .output),
       )
@@ -97,8 +93,7 @@ module _ (E : Engine) (D : Demand2 E) where
   alike-refused : (sheet formula : List ℕ) (work : ℕ) (old : List ℕ) → (¬ (faultIn (E .answer sheet formula work old) ≡ 0)) → Alike sheet formula work old
   alike-refused sheet formula work old e =
       let s = same-fault sheet formula work old in
-      let z : ¬ (callFault sheet formula work (length old) ≡ 0) = λ k. e (s ∙ k) in
-      (
+      let z : ¬ (callFault sheet formula work (length old) ≡ 0) = λ k. e (s ∙ k) in (
         refused (E .answer sheet formula work old) e ∙ ap written.Refused s ∙ sym (answer-refused sheet formula work old z),
         D .refusedKeeps sheet formula work old e ∙ sym (output-kept sheet formula work old z),
       )

@@ -1,11 +1,11 @@
 -- 5 and 6 at the first part worked out that meets one, as tabled.
-use Prim.Native.Nat.{ℕ, zero, suc, _≤_, _<_}
+use Prim.Native.Nat.{ℕ, zero, suc, _<_}
 use native.Mathlib.Omega.{arith}
-use mathlib.Core.Path.{_≡_, refl, sym, _∙_, ap}
-use mathlib.Core.Bool.{Bool, true, false, cond, _||_}
-use mathlib.Core.Logic.{_⊎_, inl, inr, ⊎-elim}
+use mathlib.Core.Path.{_≡_, refl, _∙_, ap}
+use mathlib.Core.Bool.{true, cond}
+use mathlib.Core.Logic.{_⊎_, inl, inr}
 use mathlib.Core.List.{List, [], _∷_, _++_}
-use lib.Dec.{ltb, eqb}
+use lib.Dec.{ltb}
 use lib.ListN.{length, getD}
 use borrow.Author.Tests.{ltb-true, ltb-false, lt-ltb}
 use Rattle.signals.specs.Moment.{M}
@@ -53,13 +53,13 @@ part-fault s l h =
     (λ e. (l, h, ltb-true 256 (length l) e))
     (λ e m. let q : m .0 ≡ l = one-for (m .1) h in let z : length (m .0) ≡ length l = ap length q in omega (arith, ltb-false 256 (length l) e, m .2))
     (λ e.
-        check-by 6 0 (Meets6 s) NoFault (changesAfterM l)
-        (λ a. (l, h, late-of l a))
-        (λ a m.
-            let q : m .0 ≡ l = one-for (m .1) h in
-            let z : changesAfterM (m .0) ≡ true = of-late (m .0) (m .2 .0) (m .2 .1) (m .2 .2) in
-            not-both z (ap changesAfterM q ∙ a))
-        (λ a. refl))
+    check-by 6 0 (Meets6 s) NoFault (changesAfterM l)
+    (λ a. (l, h, late-of l a))
+    (λ a m.
+    let q : m .0 ≡ l = one-for (m .1) h in
+    let z : changesAfterM (m .0) ≡ true = of-late (m .0) (m .2 .0) (m .2 .1) (m .2 .2) in
+    not-both z (ap changesAfterM q ∙ a))
+    (λ a. refl))
 
 -- parts in order, the one at a place being found with any default
 module _ (sheet : List ℕ) (ok : sheetFault sheet ≡ 0) (other : Tree) where

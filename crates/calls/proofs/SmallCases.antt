@@ -1,11 +1,10 @@
 -- Small cases worked out: the formulas 1, 0, !1 and 1.1 on the empty sheet.
-use Prim.Native.Nat.{ℕ, _≤_, max}
+use Prim.Native.Nat.{ℕ}
 use native.Mathlib.Omega.{arith}
-use mathlib.Core.Path.{_≡_, refl, sym, _∙_, ap}
+use mathlib.Core.Path.{_≡_, refl, _∙_, ap}
 use mathlib.Core.Bool.{true, cond}
 use mathlib.Core.List.{List, [], _∷_}
-use lib.ListN.{length}
-use Rattle.signals.specs.Moment.{gap, isGap, tick}
+use Rattle.signals.specs.Moment.{isGap, tick}
 use Rattle.signals.specs.Signal.{constant, NOT, AND, refuted}
 use Rattle.signals.specs.Words.{dateOf, word, wordsOf, listOf}
 use Rattle.signals.specs.Implication.{earliest, failsIn, verdictOf}
@@ -13,10 +12,9 @@ use Rattle.signals.specs.declared.Verdict.the-variants.{FailsAfter}
 use Rattle.operations.specs.Calls.{firstOf, changesAfterM}
 use Rattle.formulas.specs.Tree as tree
 use Rattle.formulas.specs.Tree.{Tree}
-use Rattle.formulas.specs.Code.{code, treeOf, work}
-use Rattle.formulas.specs.Grammar.{Writes, Sum, Product, Factor, isLower, isDigit, isNameByte, value}
-use Rattle.formulas.specs.Reader.{run, next, bad, stepped, expect, put, passLength, valueBetween, prefixKind, leafAt, timed, sumAt, sumsAt, productAt, productsAt, factorAt, latchAt, timerAt, readText}
-use Rattle.formulas.specs.Formula.{timedPart, nameAt, accepted, partsOf, formulaTree, depthOf, longestOf, formulaFault}
+use Rattle.formulas.specs.Grammar.{Writes, Sum, Product, Factor, isLower, isDigit, isNameByte}
+use Rattle.formulas.specs.Reader.{run, next, bad, stepped, expect, put, prefixKind, leafAt, sumAt, sumsAt, productAt, productsAt, factorAt, readText}
+use Rattle.formulas.specs.Formula.{accepted, partsOf, formulaTree, depthOf, longestOf, formulaFault}
 use Rattle.formulas.proofs.Reading.{tree-of}
 use Rattle.laws.specs.Rewriting.{parts}
 use Rattle.sheets.specs.Bytes.{low16}
@@ -83,36 +81,36 @@ oneAndOne-fine : formulaFault oneAndOne ≡ 0
 unfolding formulaFault accepted longestOf partsOf depthOf readText sumAt sumsAt productAt productsAt factorAt leafAt next stepped put bad expect prefixKind isLower isDigit isNameByte run
 oneAndOne-fine = refl
 
--- a formula is clear when its tree is
-clear : (formula : List ℕ) (t : Tree) (d : ℕ) → Writes formula t d → formulaFault formula ≡ 0 → namesFound emptySheet t ≡ true
-    → partsFault emptySheet (parts t) ≡ 0 → Clear emptySheet formula
+-- a formula is clear when its tree is, and its words are its tree's list
+pub tree-clear : (sheet formula : List ℕ) (t : Tree) (d : ℕ) → sheetFault sheet ≡ 0 → Writes formula t d → formulaFault formula ≡ 0
+    → namesFound sheet t ≡ true → partsFault sheet (parts t) ≡ 0 → Clear sheet formula
 unfolding readingFault workingFault
-clear formula t d w f n p =
+tree-clear sheet formula t d ok w f n p =
     record {
-      sheet-ok = empty-fine;
-      text-ok = first-none (formulaFault formula) (cond (namesFound emptySheet (formulaTree formula)) 0 13) f ∙ rw (tree-of formula t d w, n) refl;
+      sheet-ok = ok;
+      text-ok = first-none (formulaFault formula) (cond (namesFound sheet (formulaTree formula)) 0 13) f ∙ rw (tree-of formula t d w, n) refl;
       parts-ok = rw (tree-of formula t d w) p;
     }
 
-words-of : (formula : List ℕ) (t : Tree) (d : ℕ) → Writes formula t d → wordsOn emptySheet formula ≡ exactOn emptySheet t
+pub tree-words : (sheet formula : List ℕ) (t : Tree) (d : ℕ) → Writes formula t d → wordsOn sheet formula ≡ exactOn sheet t
 unfolding wordsOn
-words-of formula t d w = ap (exactOn emptySheet) (tree-of formula t d w)
+tree-words sheet formula t d w = ap (exactOn sheet) (tree-of formula t d w)
 
 one-clear : Clear emptySheet one
 unfolding namesFound partsFault parts partFault firstOf changesAfterM dateOf exactOn settlingDate listOf wordsOf constant
-one-clear = clear one up 0 one-writes one-fine refl refl
+one-clear = tree-clear emptySheet one up 0 empty-fine one-writes one-fine refl refl
 
 none-clear : Clear emptySheet none
 unfolding namesFound partsFault parts partFault firstOf changesAfterM dateOf exactOn settlingDate listOf wordsOf constant
-none-clear = clear none down 0 none-writes none-fine refl refl
+none-clear = tree-clear emptySheet none down 0 empty-fine none-writes none-fine refl refl
 
 notOne-clear : Clear emptySheet notOne
 unfolding namesFound partsFault parts partFault firstOf changesAfterM dateOf exactOn settlingDate listOf wordsOf constant NOT
-notOne-clear = clear notOne (tree.Tree.unary tree.Unary.invert up) 1 notOne-writes notOne-fine refl refl
+notOne-clear = tree-clear emptySheet notOne (tree.Tree.unary tree.Unary.invert up) 1 empty-fine notOne-writes notOne-fine refl refl
 
 oneAndOne-clear : Clear emptySheet oneAndOne
 unfolding namesFound partsFault parts partFault firstOf changesAfterM dateOf exactOn settlingDate listOf wordsOf constant AND
-oneAndOne-clear = clear oneAndOne (tree.Tree.binary tree.Binary.and up up) 0 oneAndOne-writes oneAndOne-fine refl refl
+oneAndOne-clear = tree-clear emptySheet oneAndOne (tree.Tree.binary tree.Binary.and up up) 0 empty-fine oneAndOne-writes oneAndOne-fine refl refl
 
 -- they are answered
 pub one-answered : Answered emptySheet one
@@ -130,11 +128,11 @@ oneAndOne-answered = clear-answered emptySheet oneAndOne oneAndOne-clear
 -- 1 gives [1], !1 gives [0] and its operand [1]
 pub one-words : wordsOn emptySheet one ≡ 1 ∷ []
 unfolding exactOn settlingDate listOf wordsOf constant
-one-words = words-of one up 0 one-writes
+one-words = tree-words emptySheet one up 0 one-writes
 
 pub notOne-words : wordsOn emptySheet notOne ≡ 0 ∷ []
 unfolding exactOn settlingDate listOf wordsOf constant NOT
-notOne-words = words-of notOne (tree.Tree.unary tree.Unary.invert up) 1 notOne-writes
+notOne-words = tree-words emptySheet notOne (tree.Tree.unary tree.Unary.invert up) 1 notOne-writes
 
 pub up-words : exactOn emptySheet up ≡ 1 ∷ []
 unfolding exactOn settlingDate listOf wordsOf constant

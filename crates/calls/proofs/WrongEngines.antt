@@ -1,33 +1,26 @@
 -- Demands 2 and 3 shut out each of the six wrong engines, by what both say of 1, !1 and the claim 1 to 0 on the empty sheet.
-use Prim.Native.Nat.{ℕ, _+_, _≤_, _<_}
+use Prim.Native.Nat.{ℕ, _≤_}
 use native.Mathlib.Omega.{arith}
 use mathlib.Core.Path.{_≡_, refl, sym, _∙_, ap}
-use mathlib.Core.Bool.{cond}
 use mathlib.Core.List.{List, [], _∷_, _++_}
-use lib.Dec.{eqb}
-use lib.ListN.{length, drop, getD}
+use lib.ListN.{length, drop}
 use borrow.Author.Tests.{eq-eqb}
-use Rattle.signals.specs.Answers.{faultIn, countIn, writtenOf, outputOf}
-use Rattle.signals.specs.declared.Written.{Written}
+use Rattle.signals.specs.Answers.{countIn, writtenOf, outputOf}
 use Rattle.signals.specs.declared.Written.the-variants as written
-use Rattle.signals.specs.declared.Verdict.{Verdict}
 use Rattle.signals.specs.declared.Verdict.the-variants as verdict
 use Rattle.formulas.specs.Tree as tree
 use Rattle.formulas.specs.Tree.{Tree}
 use Rattle.formulas.specs.Grammar.{Writes}
-use Rattle.formulas.specs.Formula.{formulaTree}
 use Rattle.formulas.proofs.Reading.{tree-of}
-use Rattle.operations.specs.Calls.{firstOf}
 use Rattle.laws.specs.Scheme.{Substitution}
 use Rattle.laws.specs.Laws.{table, equation}
 use Rattle.laws.specs.Rewriting.{parts, partAt, replaceAt, Rewrites, backward}
-use Rattle.calls.specs.OnSheet.{exactOn}
-use Rattle.calls.specs.Calls.{neededWork, wordsOn, roomFault, callFault, callAnswer, callOutput, claimFault, claimVerdict, claimAnswer}
+use Rattle.calls.specs.Calls.{neededWork, wordsOn, roomFault, callFault, callAnswer, callOutput, claimFault, claimAnswer}
 use Rattle.calls.specs.Answered.{Answered, Enough}
 use Rattle.calls.specs.Engine.{Engine, defined}
-use Rattle.calls.specs.Demand2.{Delivered, GivesTheList, Demand2}
+use Rattle.calls.specs.Demand2.{Delivered, Demand2}
 use Rattle.calls.specs.Demand3.{Served, wordsGiven, Demand3}
-use Rattle.calls.specs.WrongEngines.{zeroAnswer, zeroOutput, givesZero, trueClaim, claimsTrue, faultsAs5, leavesOld, operandOf, operandWords, copyFault, copyOutput, copiesOperand, oneMore, inventsCount, ShutOut, ObeysEveryLaw, SixShutOut}
+use Rattle.calls.specs.WrongEngines.{zeroAnswer, zeroOutput, givesZero, trueClaim, claimsTrue, faultsAs5, leavesOld, operandWords, copyFault, copyOutput, copiesOperand, oneMore, inventsCount, ShutOut, ObeysEveryLaw, SixShutOut}
 use Rattle.calls.proofs.FirstFault.{first-none}
 use Rattle.calls.proofs.NotRefused.{fault-shown, answered-clear, work-ok, answered-claim, given-claim, enough-served}
 use Rattle.calls.proofs.Demand2.{clear-list, delivered, judged-as}
@@ -117,7 +110,7 @@ given3 E D formula old t d w a n =
 says3 : (E : Engine) → Demand3 E → Says E
 says3 E D =
     let v = D .third one oneAndOne none up (tree.Tree.binary tree.Binary.and up up) down 0 0 0 one-writes oneAndOne-writes none-writes rewrites
-          emptySheet one-answered oneAndOne-answered none-answered in
+    emptySheet one-answered oneAndOne-answered none-answered in
     says E
     (given3 E D one (0 ∷ []) up 0 one-writes one-answered (enough-of one 1 0 one-words))
     (given3 E D notOne (1 ∷ []) (tree.Tree.unary tree.Unary.invert up) 1 notOne-writes notOne-answered (enough-of notOne 0 1 notOne-words))

@@ -7,7 +7,6 @@ use lib.ListN.{length, drop}
 use Rattle.signals.specs.Answers.{faultIn}
 use Rattle.signals.specs.Implication.{faultOfVerdict}
 use Rattle.signals.specs.Settled.{Same}
-use Rattle.signals.specs.Words.{signalOf}
 use Rattle.signals.specs.declared.Written.the-variants.{Count}
 use Rattle.formulas.specs.Tree.{Tree}
 use Rattle.formulas.specs.Grammar.{Writes}

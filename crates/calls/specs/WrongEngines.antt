@@ -16,7 +16,7 @@ use Rattle.formulas.specs.Formula.{formulaTree}
 use Rattle.laws.specs.Rewriting.{Rewrites}
 use Rattle.operations.specs.Calls.{firstOf}
 use Rattle.calls.specs.OnSheet.{exactOn}
-use Rattle.calls.specs.Calls.{callFault, roomFault, wordsOn, claimFault, callAnswer, callOutput, claimAnswer}
+use Rattle.calls.specs.Calls.{callFault, roomFault, claimFault, callAnswer, callOutput, claimAnswer}
 use Rattle.calls.specs.Engine.{Engine}
 use Rattle.calls.specs.Demand2.{Demand2}
 use Rattle.calls.specs.Answered.{Answered}
@@ -45,7 +45,7 @@ faultsAs5 =
     record {
       answer = λ sheet formula work old. written.Refused 5;
       output = λ sheet formula work old. old;
-      claim = λ sheet F G work. verdict.Refused 5
+      claim = λ sheet F G work. verdict.Refused 5;
     }
 
 -- leaves the output words old
