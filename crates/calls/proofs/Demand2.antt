@@ -13,6 +13,7 @@ use Rattle.signals.specs.Signal.{Signal}
 use Rattle.signals.specs.Words.{dateOf, signalOf}
 use Rattle.signals.specs.Settled.{Same}
 use Rattle.signals.specs.Answers.{faultIn, outputOf}
+use Rattle.signals.specs.Implication.{faultOfVerdict}
 use Rattle.signals.proofs.Normal.{acceptedNormal}
 use Rattle.signals.proofs.Implication.{verdict-judged}
 use Rattle.signals.proofs.Settling.{settled-later}
@@ -34,7 +35,7 @@ use Rattle.calls.specs.Calls.{neededWork, partFault, workingFault, words
 use Rattle.calls.specs.NormalLists.{ListFor, TheList, JudgedAs}
 use Rattle.calls.specs.Engine.{Engine, defined}
 use Rattle.calls.specs.Tabled.{CallFaultIs}
-use Rattle.calls.specs.Demand2.{Delivered, GivesTheList, ReadsBack, Demand2}
+use Rattle.calls.specs.Demand2.{Delivered, GivesTheList, GivesTheVerdict, ReadsBack, Demand2}
 use Rattle.calls.specs.Demand3.{wordsGiven}
 use Rattle.calls.proofs.FirstFault.{passed}
 use Rattle.calls.proofs.SheetLists.{named-words}
@@ -137,6 +138,22 @@ pub claim-judged : (sheet F G : List ℕ) (work : ℕ) → claimFault sheet F G 
 claim-judged sheet F G work z f g d e w v =
     rw (claim-given sheet F G work z, tree-of F f d w, tree-of G g e v) (judged-as sheet (claim-clear sheet F G work z .0 .sheet-ok) f g)
 
+pub says : (sheet F G : List ℕ) (work : ℕ) → faultOfVerdict (claimAnswer sheet F G work) ≡ 0 → GivesTheVerdict defined sheet F G work
+says sheet F G work e =
+    let z = sym (claim-fault-shown sheet F G work) ∙ e in
+    let c = claim-clear sheet F G work z in
+    let w = derived F (text-fine sheet F (c .0 .text-ok)) in
+    let v = derived G (text-fine sheet G (c .1 .text-ok)) in
+    record {
+      treeF = w .0;
+      treeG = v .0;
+      depthF = w .1;
+      depthG = v .1;
+      writesF = w .2;
+      writesG = v .2;
+      judged = claim-judged sheet F G work z (w .0) (v .0) (w .1) (v .1) (w .2) (v .2);
+    }
+
 -- reading back
 written-back : (sheet formula : List ℕ) (work : ℕ) (old words : List ℕ) → faultIn (callAnswer sheet formula work old) ≡ 0
     → Delivered defined sheet formula work old words → (tree : Tree) (depth : ℕ) → Writes formula tree depth
@@ -184,8 +201,7 @@ demand2 =
     record {
       lists = gives;
       readBack = reads-back;
-      claims = λ sheet F G work e f g d k w v.
-          claim-judged sheet F G work (sym (claim-fault-shown sheet F G work) ∙ e) f g d k w v;
+      claims = says;
       callFaults = λ sheet formula work old. call-faults sheet formula work old;
       claimFaults = λ sheet F G work. rw (claim-fault-shown sheet F G work) (claim-fault sheet F G work);
       refusedKeeps = λ sheet formula work old e. output-kept sheet formula work old (λ z. e (shown sheet formula work old ∙ z));

@@ -26,7 +26,7 @@ use Rattle.calls.specs.Answered.{Answered}
 use Rattle.calls.specs.NormalLists.{JudgedAs}
 use Rattle.calls.specs.Engine.{defined}
 use Rattle.calls.specs.Demand3.{Served, wordsGiven, SameWords, SameVerdicts, Demand3}
-use Rattle.calls.proofs.NotRefused.{Clear, answered-clear, counted, no-fault, enough-served, given-claim, short-claim}
+use Rattle.calls.proofs.NotRefused.{Clear, answered-clear, counted, no-fault, enough-served, given-claim, short-claim, not-refused}
 use Rattle.calls.proofs.Demand2.{clear-list, delivered, words-given, shown, gives, judged-as}
 
 -- one verdict for two signals
@@ -131,6 +131,7 @@ pub demand3 : Demand3 defined
 demand3 =
     record {
       served = λ sheet F a work old n. shown sheet F work old ∙ enough-served sheet F a work old n;
+      answered = not-refused .means;
       rewritten = rewritten;
       third = third;
       lists = λ sheet F a work old e. gives sheet F work old e;

@@ -51,14 +51,21 @@ pub record ReadsBack (E : Engine) : Type 0 where
       → (work : ℕ) (old : List ℕ) → neededWork (appended sheet name list) ≤ work → length list ≤ length old
       → Delivered E (appended sheet name list) name work old list
 
+-- "a claim holds exactly when no instant or gap refutes it, and otherwise the earliest one is shown": what a claim without a fault says
+pub record GivesTheVerdict (E : Engine) (sheet F G : List ℕ) (work : ℕ) : Type 0 where
+  pub treeF : Tree
+  pub treeG : Tree
+  pub depthF : ℕ
+  pub depthG : ℕ
+  pub writesF : Writes F treeF depthF
+  pub writesG : Writes G treeG depthG
+  pub judged : JudgedAs (signalOn sheet treeF) (signalOn sheet treeG) (E .claim sheet F G work)
+
 pub record Demand2 (E : Engine) : Type 0 where
   pub lists : (sheet formula : List ℕ) (work : ℕ) (old : List ℕ) → faultIn (E .answer sheet formula work old) ≡ 0
       → GivesTheList E sheet formula work old
   pub readBack : ReadsBack E
-  -- "a claim holds exactly when no instant or gap refutes it, and otherwise the earliest one is shown"
-  pub claims : (sheet F G : List ℕ) (work : ℕ) → faultOfVerdict (E .claim sheet F G work) ≡ 0
-      → (f g : Tree) (d e : ℕ) → Writes F f d → Writes G g e
-      → JudgedAs (signalOn sheet f) (signalOn sheet g) (E .claim sheet F G work)
+  pub claims : (sheet F G : List ℕ) (work : ℕ) → faultOfVerdict (E .claim sheet F G work) ≡ 0 → GivesTheVerdict E sheet F G work
   -- "each fault being given only as tabled"
   pub callFaults : (sheet formula : List ℕ) (work : ℕ) (old : List ℕ)
       → CallFaultIs sheet formula work (length old) (faultIn (E .answer sheet formula work old))
