@@ -74,16 +74,16 @@ clear-list sheet formula c t d w =
     (part-accepted (signalOn sheet t) (exactOn sheet t) (exact-for sheet (c .sheet-ok) t)
     (whole-none sheet t (rw (tree-of formula t d w) at (c .parts-ok))))
 
--- what a call without a fault gives
-output-given : (sheet formula : List ℕ) (work : ℕ) (old : List ℕ) → callFault sheet formula work (length old) ≡ 0
-    → callOutput sheet formula work old ≡ wordsOn sheet formula ++ drop (length (wordsOn sheet formula)) old
-unfolding callOutput outputOf
-output-given sheet formula work old e = rw (eq-eqb (callFault sheet formula work (length old)) 0 e) refl
-
+-- a refused call keeps the output, one without a fault gives the words
 pub output-kept : (sheet formula : List ℕ) (work : ℕ) (old : List ℕ) → (¬ (callFault sheet formula work (length old) ≡ 0))
     → callOutput sheet formula work old ≡ old
 unfolding callOutput outputOf
 output-kept sheet formula work old e = rw (ne-eqb (callFault sheet formula work (length old)) 0 e) refl
+
+output-given : (sheet formula : List ℕ) (work : ℕ) (old : List ℕ) → callFault sheet formula work (length old) ≡ 0
+    → callOutput sheet formula work old ≡ wordsOn sheet formula ++ drop (length (wordsOn sheet formula)) old
+unfolding callOutput outputOf
+output-given sheet formula work old e = rw (eq-eqb (callFault sheet formula work (length old)) 0 e) refl
 
 pub delivered : (sheet formula : List ℕ) (work : ℕ) (old : List ℕ) → callFault sheet formula work (length old) ≡ 0
     → Delivered defined sheet formula work old (wordsOn sheet formula)

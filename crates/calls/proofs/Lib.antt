@@ -12,4 +12,5 @@ pub mod Demand3
 pub mod OneEngine
 pub mod SmallCases
 pub mod WrongEngines
+pub mod ZeroObeys
 pub mod Printed

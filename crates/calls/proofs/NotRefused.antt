@@ -1,5 +1,5 @@
 -- Which calls are not refused: those of answered formulas with enough work words and room, and claims of them.
-use Prim.Native.Nat.{ℕ, _+_, _≤_, _<_, max}
+use Prim.Native.Nat.{ℕ, _+_, _≤_, _<_}
 use native.Mathlib.Omega.{arith}
 use mathlib.Core.Path.{_≡_, refl, sym, _∙_, ap}
 use mathlib.Core.Bool.{Bool, true, false, cond}
@@ -17,7 +17,6 @@ use Rattle.operations.specs.Calls.{firstOf}
 use Rattle.formulas.specs.Tree.{Tree}
 use Rattle.formulas.specs.Formula.{formulaTree}
 use Rattle.sheets.specs.Reading.{sheetFault}
-use Rattle.calls.specs.OnSheet.{signalOn, settlingDate}
 use Rattle.calls.specs.Calls.{neededWork, readingFault, workFault, workingFault, wordsOn, roomFault, callFault, callAnswer, claimFault, claimVerdict, claimAnswer}
 use Rattle.calls.specs.Answered.{Answered, Enough}
 use Rattle.calls.specs.NotRefused.{NotRefused}
@@ -154,7 +153,7 @@ verdict-no-fault f g n = go (leb (earliest (refuted f g) 0 (gap n + 1)) (gap n))
 
 pub claim-no-fault : (sheet : List ℕ) (f g : Tree) → faultOfVerdict (claimVerdict sheet f g) ≡ 0
 unfolding claimVerdict
-claim-no-fault sheet f g = verdict-no-fault (signalOn sheet f) (signalOn sheet g) (max (settlingDate sheet f) (settlingDate sheet g))
+claim-no-fault sheet f g = verdict-no-fault _ _ _
 
 -- the fault that a claim's answer shows
 pub claim-fault-shown : (sheet F G : List ℕ) (work : ℕ) → faultOfVerdict (claimAnswer sheet F G work) ≡ claimFault sheet F G work

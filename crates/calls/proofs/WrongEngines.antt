@@ -1,11 +1,11 @@
 -- Demands 2 and 3 shut out each of the six wrong engines, by what both say of 1, !1 and the claim 1 to 0 on the empty sheet.
 use Prim.Native.Nat.{ℕ, _≤_}
 use native.Mathlib.Omega.{arith}
-use mathlib.Core.Path.{_≡_, refl, sym, _∙_, ap}
+use mathlib.Core.Path.{_≡_, refl, _∙_, ap}
 use mathlib.Core.List.{List, [], _∷_, _++_}
 use lib.ListN.{length, drop}
 use borrow.Author.Tests.{eq-eqb}
-use Rattle.signals.specs.Answers.{countIn, writtenOf, outputOf}
+use Rattle.signals.specs.Answers.{outputOf}
 use Rattle.signals.specs.declared.Written.the-variants as written
 use Rattle.signals.specs.declared.Verdict.the-variants as verdict
 use Rattle.formulas.specs.Tree as tree
@@ -19,12 +19,12 @@ use Rattle.calls.specs.Calls.{neededWork, wordsOn, roomFault, callFault,
 use Rattle.calls.specs.Answered.{Answered, Enough}
 use Rattle.calls.specs.Engine.{Engine, defined}
 use Rattle.calls.specs.Demand2.{Delivered, Demand2}
-use Rattle.calls.specs.Demand3.{Served, wordsGiven, Demand3}
-use Rattle.calls.specs.WrongEngines.{zeroAnswer, zeroOutput, givesZero, trueClaim, claimsTrue, faultsAs5, leavesOld, operandWords, copyFault, copyOutput, copiesOperand, oneMore, inventsCount, ShutOut, ObeysEveryLaw, SixShutOut}
+use Rattle.calls.specs.Demand3.{Demand3}
+use Rattle.calls.specs.WrongEngines.{zeroOutput, givesZero, trueClaim, claimsTrue, faultsAs5, leavesOld, operandWords, copyFault, copyOutput, copiesOperand, oneMore, inventsCount, ShutOut, SixShutOut}
 use Rattle.calls.proofs.FirstFault.{first-none}
-use Rattle.calls.proofs.NotRefused.{fault-shown, answered-clear, work-ok, answered-claim, given-claim, enough-served}
+use Rattle.calls.proofs.NotRefused.{answered-clear, work-ok, answered-claim, given-claim, enough-served}
 use Rattle.calls.proofs.Demand2.{clear-list, delivered, judged-as}
-use Rattle.calls.proofs.Demand3.{one-verdict, demand3}
+use Rattle.calls.proofs.Demand3.{one-verdict}
 use Rattle.calls.proofs.OneEngine.{one-engine}
 use Rattle.calls.proofs.SmallCases.{emptySheet, one, none, notOne, oneAndOne, up, down, one-writes, none-writes, notOne-writes, oneAndOne-writes, one-answered, none-answered, notOne-answered, oneAndOne-answered, one-words, notOne-words, up-words, enough-of, one-to-none}
 
@@ -119,31 +119,6 @@ says3 E D =
 shut-out : (E : Engine) → (¬ Says E) → ShutOut E
 shut-out E h = record { byDemand2 = λ D. h (says2 E D); byDemand3 = λ D. h (says3 E D) }
 
--- the engine that gives [0] obeys every law
-zero-count : (sheet F : List ℕ) (work : ℕ) (old : List ℕ) → Served givesZero sheet F work old → countIn (zeroAnswer sheet F work old) ≡ 1
-unfolding zeroAnswer writtenOf
-zero-count sheet F work old e =
-    let z : callFault sheet F work (length old) ≡ 0 = sym (fault-shown (callFault sheet F work (length old)) (0 ∷ [])) ∙ e in
-    rw (eq-eqb (callFault sheet F work (length old)) 0 z) refl
-
-zero-given : (sheet F : List ℕ) (work : ℕ) (old : List ℕ) → Served givesZero sheet F work old → wordsGiven givesZero sheet F work old ≡ 0 ∷ []
-unfolding zeroAnswer zeroOutput writtenOf outputOf
-zero-given sheet F work old e =
-    let z : callFault sheet F work (length old) ≡ 0 = sym (fault-shown (callFault sheet F work (length old)) (0 ∷ [])) ∙ e in
-    rw (eq-eqb (callFault sheet F work (length old)) 0 z) refl
-
-zero-obeys : ObeysEveryLaw givesZero
-zero-obeys =
-    record {
-      words = λ F G f g d e w v r sheet a b.
-          record {
-            count = λ workF workG oldF oldG x y. zero-count sheet F workF oldF x ∙ sym (zero-count sheet G workG oldG y);
-            words = λ workF workG oldF oldG x y. zero-given sheet F workF oldF x ∙ sym (zero-given sheet G workG oldG y);
-          };
-      asFirst = λ F G H f g h d e k w v x r sheet a b c. demand3 .third F G H f g h d e k w v x r sheet a b c .asFirst;
-      asSecond = λ F G H f g h d e k w v x r sheet a b c. demand3 .third F G H f g h d e k w v x r sheet a b c .asSecond;
-    }
-
 -- each of the six
 zero-writes : zeroOutput emptySheet one 8192 (0 ∷ []) ≡ 0 ∷ []
 unfolding zeroOutput outputOf
@@ -194,7 +169,6 @@ not-count h =
 pub six-shut-out : SixShutOut
 six-shut-out =
     record {
-      zeroObeys = zero-obeys;
       zero = shut-out givesZero not-zero;
       true = shut-out claimsTrue not-true;
       five = shut-out faultsAs5 not-five;

@@ -88,7 +88,15 @@ pub record ShutOut (E : Engine) : Type 0 where
   pub byDemand2 : ¬ Demand2 E
   pub byDemand3 : ¬ Demand3 E
 
--- the first obeys every law: F and G of demand 3 give the same words, and have the same verdicts with a third formula
+pub record SixShutOut : Type 0 where
+  pub zero : ShutOut givesZero
+  pub true : ShutOut claimsTrue
+  pub five : ShutOut faultsAs5
+  pub old : ShutOut leavesOld
+  pub copy : ShutOut copiesOperand
+  pub count : ShutOut inventsCount
+
+-- F and G of demand 3 give the same words, and have the same verdicts with a third formula
 pub record ObeysEveryLaw (E : Engine) : Type 0 where
   pub words : (F G : List ℕ) (f g : Tree) (d e : ℕ) → Writes F f d → Writes G g e → Rewrites f g
       → (sheet : List ℕ) → Answered sheet F → Answered sheet G → SameWords E sheet F G
@@ -97,11 +105,6 @@ pub record ObeysEveryLaw (E : Engine) : Type 0 where
   pub asSecond : (F G H : List ℕ) (f g h : Tree) (d e k : ℕ) → Writes F f d → Writes G g e → Writes H h k → Rewrites f g
       → (sheet : List ℕ) → Answered sheet F → Answered sheet G → Answered sheet H → (work : ℕ) → E .claim sheet F H work ≡ E .claim sheet G H work
 
-pub record SixShutOut : Type 0 where
-  pub zeroObeys : ObeysEveryLaw givesZero
-  pub zero : ShutOut givesZero
-  pub true : ShutOut claimsTrue
-  pub five : ShutOut faultsAs5
-  pub old : ShutOut leavesOld
-  pub copy : ShutOut copiesOperand
-  pub count : ShutOut inventsCount
+-- The engine that gives [0] for all formulas obeys every law, and is shut out all the same.
+abbrev pub ZeroObeysEveryLaw : Type 0
+ZeroObeysEveryLaw = ObeysEveryLaw givesZero
