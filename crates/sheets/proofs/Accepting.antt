@@ -34,7 +34,7 @@ words-listed (suc n) b z m h =
     rw (le-ltb 256 (suc (length (wordsIn n (drop 4 b)))) (rw length-wordsIn m), g .0)
     (later-listed 0 (headValue (low32 b)) n (drop 4 b) (rw k at (g .1)))
 
-four-more : (w : ℕ) (rest : List ℕ) → 4 ≤ length (bytes32 w ++ rest)
+pub four-more : (w : ℕ) (rest : List ℕ) → 4 ≤ length (bytes32 w ++ rest)
 four-more w rest = rw length-append (omega (arith, four w))
 
 later-accepted : (last : ℕ) (before : Bool) (ws rest : List ℕ) → Words ws → wordsFault last before ws ≡ 0

@@ -14,3 +14,8 @@ pub mod ReadBack
 pub mod Appending
 pub mod Named
 pub mod Theorems
+pub mod NameRule
+pub mod WordCuts
+pub mod Exactly
+pub mod ExactSheets
+pub mod ExactCalls

@@ -6,3 +6,4 @@ pub mod Writing
 pub mod Calls
 pub mod Walk
 pub mod Theorems
+pub mod Sentences
