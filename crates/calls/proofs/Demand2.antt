@@ -42,6 +42,7 @@ use Rattle.calls.proofs.SheetLists.{named-words}
 use Rattle.calls.proofs.Settles.{settles, exact-for, one-for}
 use Rattle.calls.proofs.PartFaults.{of-late, whole-none}
 use Rattle.calls.proofs.ReadingFaults.{derived, text-fine}
+use Rattle.calls.proofs.SheetNumbers.{call-sheet, claim-sheet}
 use Rattle.calls.proofs.CallFaults.{call-fault, claim-fault}
 use Rattle.calls.proofs.NamedFormula.{name-served}
 use Rattle.calls.proofs.NotRefused.{Clear, call-clear, clear-call, claim-clear, fault-shown, no-fault, counted, claim-given, claim-fault-shown}
@@ -204,5 +205,9 @@ demand2 =
       claims = says;
       callFaults = λ sheet formula work old. call-faults sheet formula work old;
       claimFaults = λ sheet F G work. rw (claim-fault-shown sheet F G work) (claim-fault sheet F G work);
+      sheetFaults = λ sheet formula work old b n l m.
+          call-sheet sheet formula work (length old) (faultIn (callAnswer sheet formula work old)) n (call-faults sheet formula work old) b l m;
+      claimSheetFaults = λ sheet F G work b n l m.
+          rw (claim-fault-shown sheet F G work) (claim-sheet sheet F G work (claimFault sheet F G work) n (claim-fault sheet F G work) b l m);
       refusedKeeps = λ sheet formula work old e. output-kept sheet formula work old (λ z. e (shown sheet formula work old ∙ z));
     }

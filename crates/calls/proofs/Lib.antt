@@ -5,6 +5,7 @@ pub mod Settles
 pub mod PartFaults
 pub mod ReadingFaults
 pub mod CallFaults
+pub mod SheetNumbers
 pub mod NotRefused
 pub mod NamedFormula
 pub mod Demand2

@@ -3,6 +3,7 @@ use Prim.Native.Nat.{ℕ, _≤_}
 use mathlib.Core.Path.{_≡_}
 use mathlib.Core.Bool.{true}
 use mathlib.Core.List.{List, _++_}
+use mathlib.Core.Logic.{_↔_}
 use lib.ListN.{length, drop}
 use Rattle.signals.specs.Answers.{faultIn}
 use Rattle.signals.specs.Implication.{faultOfVerdict}
@@ -13,6 +14,7 @@ use Rattle.formulas.specs.Grammar.{Writes}
 use Rattle.sheets.specs.Bytes.{Bytes, Words}
 use Rattle.sheets.specs.Names.{among}
 use Rattle.sheets.specs.Reading.{sheetFault, signalsOn, names, listNamed, environmentOn}
+use Rattle.sheets.specs.Sentences.{SheetFaulty}
 use Rattle.sheets.specs.Calls.{appendFault, appended}
 use Rattle.calls.specs.OnSheet.{signalOn}
 use Rattle.calls.specs.Calls.{neededWork}
@@ -70,6 +72,11 @@ pub record Demand2 (E : Engine) : Type 0 where
   pub callFaults : (sheet formula : List ℕ) (work : ℕ) (old : List ℕ)
       → CallFaultIs sheet formula work (length old) (faultIn (E .answer sheet formula work old))
   pub claimFaults : (sheet F G : List ℕ) (work : ℕ) → ClaimFaultIs sheet F G work (faultOfVerdict (E .claim sheet F G work))
+  -- 14 to 17 on a sheet of bytes, by their sentences
+  pub sheetFaults : (sheet formula : List ℕ) (work : ℕ) (old : List ℕ) → Bytes sheet → (n : ℕ) → 14 ≤ n → n ≤ 17
+      → (faultIn (E .answer sheet formula work old) ≡ n) ↔ SheetFaulty sheet n
+  pub claimSheetFaults : (sheet F G : List ℕ) (work : ℕ) → Bytes sheet → (n : ℕ) → 14 ≤ n → n ≤ 17
+      → (faultOfVerdict (E .claim sheet F G work) ≡ n) ↔ SheetFaulty sheet n
   -- a refused call writes nothing to the caller's output
   pub refusedKeeps : (sheet formula : List ℕ) (work : ℕ) (old : List ℕ) → ¬ (faultIn (E .answer sheet formula work old) ≡ 0)
       → E .output sheet formula work old ≡ old
