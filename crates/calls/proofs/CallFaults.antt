@@ -6,7 +6,7 @@ use mathlib.Core.Bool.{Bool, true, false, cond}
 use mathlib.Core.Logic.{_⊎_, inl, inr}
 use mathlib.Core.List.{List}
 use lib.Dec.{ltb}
-use lib.ListN.{length, getD}
+use lib.ListN.{length}
 use borrow.Author.Tests.{ltb-true, ltb-false}
 use Rattle.operations.specs.Calls.{firstOf}
 use Rattle.formulas.specs.Tree.{Tree}
@@ -21,7 +21,7 @@ use Rattle.calls.specs.NormalLists.{ListFor}
 use Rattle.calls.specs.Tabled.{Check, NoFault, SheetBreaks, Breaks18, Meets5, Meets6, FineBefore, Breaks5, Breaks6, Breaks7, ReadingChecks, WorkingChecks, CallFaultIs, ClaimFaultIs}
 use Rattle.calls.proofs.FirstFault.{first-none, first-some, first-with-none, zero-or-not, check-by}
 use Rattle.calls.proofs.Settles.{exact-for, one-for}
-use Rattle.calls.proofs.PartFaults.{First5, First6, PartsFaultIs, parts-fault}
+use Rattle.calls.proofs.PartFaults.{parts-fault}
 use Rattle.calls.proofs.ReadingFaults.{derived, text-fine, reading-fault}
 
 -- the part found first

@@ -1,7 +1,6 @@
 -- The defined calls meet demand 3.
-use Prim.Native.Nat.{ℕ, _≤_, _<_}
-use native.Mathlib.Omega.{arith}
-use mathlib.Core.Path.{_≡_, refl, sym, _∙_, ap, subst, fun-ext}
+use Prim.Native.Nat.{ℕ, _≤_}
+use mathlib.Core.Path.{_≡_, refl, sym, _∙_, ap}
 use mathlib.Core.Bool.{Bool, true, false}
 use mathlib.Core.Logic.{_⊎_, inl, inr, _↔_}
 use mathlib.Core.List.{List}
@@ -17,18 +16,17 @@ use Rattle.signals.specs.declared.Verdict.{Verdict}
 use Rattle.signals.specs.declared.Verdict.the-variants.{Holds}
 use Rattle.formulas.specs.Tree.{Tree}
 use Rattle.formulas.specs.Grammar.{Writes}
-use Rattle.formulas.specs.Formula.{formulaTree}
 use Rattle.formulas.proofs.Reading.{tree-of}
 use Rattle.laws.specs.Rewriting.{Rewrites}
 use Rattle.laws.proofs.Soundness.{same-signal}
 use Rattle.sheets.specs.Reading.{environmentOn}
 use Rattle.calls.specs.OnSheet.{signalOn}
-use Rattle.calls.specs.Calls.{neededWork, wordsOn, claimVerdict, claimAnswer}
-use Rattle.calls.specs.Answered.{Answered, Enough}
-use Rattle.calls.specs.NormalLists.{ListFor, TheList, JudgedAs}
+use Rattle.calls.specs.Calls.{neededWork, wordsOn, claimAnswer}
+use Rattle.calls.specs.Answered.{Answered}
+use Rattle.calls.specs.NormalLists.{JudgedAs}
 use Rattle.calls.specs.Engine.{defined}
 use Rattle.calls.specs.Demand3.{Served, wordsGiven, SameWords, SameVerdicts, Demand3}
-use Rattle.calls.proofs.NotRefused.{Clear, answered-clear, counted, no-fault, enough-served, given-claim, short-claim}
+use Rattle.calls.proofs.NotRefused.{Clear, answered-clear, counted, no-fault, enough-served, given-claim, short-claim, not-refused}
 use Rattle.calls.proofs.Demand2.{clear-list, delivered, words-given, shown, gives, judged-as}
 
 -- one verdict for two signals
@@ -133,6 +131,7 @@ pub demand3 : Demand3 defined
 demand3 =
     record {
       served = λ sheet F a work old n. shown sheet F work old ∙ enough-served sheet F a work old n;
+      answered = not-refused .means;
       rewritten = rewritten;
       third = third;
       lists = λ sheet F a work old e. gives sheet F work old e;

@@ -1,33 +1,35 @@
 -- A name of an accepted sheet, as a formula: it is answered, and its words are the sheet's.
-use Prim.Native.Nat.{ℕ, zero, suc, _+_, _*_, _≤_, _<_}
+use Prim.Native.Nat.{ℕ}
 use native.Mathlib.Omega.{arith}
-use mathlib.Core.Path.{_≡_, refl, sym, _∙_, ap, subst}
-use mathlib.Core.Bool.{Bool, true, false, cond, _&&_, _||_}
-use mathlib.Core.Logic.{_⊎_, inl, inr, ⊎-elim}
-use mathlib.Core.List.{List, [], _∷_, _++_}
-use lib.Dec.{leb, ltb, eqb}
-use lib.ListN.{length, take, drop, getD}
-use lib.Seq.{getD-drop}
-use borrow.Author.Tests.{leb-true, le-leb, ltb-true, ltb-false, le-ltb, eqb-true}
+use mathlib.Core.Path.{_≡_, refl, _∙_, ap, subst}
+use mathlib.Core.Bool.{true, false, cond, _&&_, _||_}
+use mathlib.Core.Logic.{⊎-elim}
+use mathlib.Core.List.{List, [], _∷_}
+use lib.Dec.{leb}
+use lib.ListN.{length}
+use borrow.Author.Tests.{leb-true, le-leb, le-ltb}
 use Rattle.signals.specs.Moment.{M}
-use Rattle.signals.specs.Words.{dateOf, listFault, signalOf, lastDate, listOf}
-use Rattle.signals.proofs.Truth.{and-left, and-right, and-of, or-cases, down-of, not-both}
+use Rattle.signals.specs.Signal.{constant}
+use Rattle.signals.specs.Words.{dateOf, listFault, wordsOf, listOf}
+use Rattle.signals.proofs.Truth.{and-left, and-right, and-of, down-of, not-both}
 use Rattle.signals.proofs.Normal.{acceptedNormal, readBack}
-use Rattle.operations.specs.Calls.{firstOf, changesAfterM}
-use Rattle.formulas.specs.Tree.{Tree, leaf, unary, binary, name}
+use Rattle.operations.specs.Calls.{changesAfterM}
+use Rattle.formulas.specs.Tree.{Tree, Leaf, leaf, unary, binary, down, up, name}
 use Rattle.formulas.specs.Code.{code}
 use Rattle.formulas.specs.Grammar.{Sum, Product, Factor, isLower, isDigit, isNameByte, allOf, isName}
 use Rattle.formulas.specs.Formula.{formulaTree, formulaFault}
-use Rattle.formulas.specs.Exactness.{Ten, Eleven, Eight, Twelve, LengthIn}
+use Rattle.formulas.specs.Exactness.{LengthIn}
 use Rattle.formulas.proofs.Reading.{tree-of, one-tree, faults-exact}
 use Rattle.laws.specs.Rewriting.{parts}
-use Rattle.sheets.specs.Bytes.{Bytes, low32, wordsIn}
-use Rattle.sheets.specs.Names.{letter, digit, lettersOrDigits, wellNamed, same, among}
-use Rattle.sheets.specs.Reading.{sheetFault, Entry, entry, nameOf, listOn, signalSize, wordCount, nameAt, signalsFrom, countOn, signalsOn, names, listNamed, environmentOn}
-use Rattle.calls.specs.OnSheet.{signalOn, settlingDate, exactOn, namesFound}
+use Rattle.sheets.specs.Bytes.{Bytes, Words}
+use Rattle.sheets.specs.Names.{letter, digit, lettersOrDigits, wellNamed, among}
+use Rattle.sheets.specs.Reading.{sheetFault, signalsOn, names, listNamed, environmentOn}
+use Rattle.calls.specs.OnSheet.{settlingDate, exactOn, leafFound, namesFound}
+use Rattle.calls.specs.TreesOnSheets.{TreesOnSheets}
+use Rattle.calls.proofs.Settles.{settles, exact-for}
 use Rattle.calls.specs.Calls.{readingFault, partFault, partsFault, workingFault, wordsOn}
 use Rattle.calls.proofs.FirstFault.{first-none, first-with-none}
-use Rattle.calls.proofs.SheetLists.{Sound, AllSound, sheet-sound}
+use Rattle.calls.proofs.SheetLists.{sheet-sound, named-sound, named-words}
 use Rattle.calls.proofs.PartFaults.{late-of}
 use Rattle.calls.proofs.NotRefused.{Clear}
 
@@ -48,59 +50,8 @@ is-name (b ∷ bs) e =
     and-of (letter b) (allOf isNameByte bs && leb (length bs) 7) (and-left (letter b) (lettersOrDigits bs) r)
     (and-of (allOf isNameByte bs) (leb (length bs) 7) (rest-named bs (and-right (letter b) (lettersOrDigits bs) r)) (le-leb (length bs) 7 (omega arith)))
 
-same-equal : (a b : List ℕ) → same a b ≡ true → a ≡ b
-unfolding same
-same-equal [] [] e = refl
-same-equal [] (y ∷ ys) e = absurd (not-both {A = ⊥} e refl)
-same-equal (x ∷ xs) [] e = absurd (not-both {A = ⊥} e refl)
-same-equal (x ∷ xs) (y ∷ ys) e =
-    let p = eqb-true x y (and-left (eqb x y) (same xs ys) e) in
-    let q = same-equal xs ys (and-right (eqb x y) (same xs ys) e) in
-    cc
-
--- a name among an accepted sheet's is a name, and its list is accepted
-named-sound : (n : List ℕ) (es : List Entry) → AllSound es → among n (names es) ≡ true → (wellNamed n ≡ true) × (listFault (listNamed n es) ≡ 0)
-unfolding among names listNamed
-named-sound n [] h e = absurd (not-both {A = ⊥} e refl)
-named-sound n (x ∷ es) h e = go (same (nameOf x) n) refl (named-sound n es (h .1))
-  where
-    go : (b : Bool) → same (nameOf x) n ≡ b → (among n (names es) ≡ true → (wellNamed n ≡ true) × (listFault (listNamed n es) ≡ 0))
-        → (wellNamed n ≡ true) × (listFault (cond b (listOn x) (listNamed n es)) ≡ 0)
-    go true q r = (ap wellNamed (sym (same-equal (nameOf x) n q)) ∙ h .0 .named, h .0 .listed)
-    go false q r = r (rw q at e)
-
--- the words of bytes are below 2^32
-bytes-drop : (k : ℕ) (l : List ℕ) → Bytes l → Bytes (drop k l)
-bytes-drop k l h i = rw (getD-drop k l i 0) (h (k + i))
-
-word-small : (l : List ℕ) → Bytes l → low32 l < 4294967296
-unfolding low32
-word-small l h = omega (arith, h 0, h 1, h 2, h 3)
-
-words-small : (n : ℕ) (l : List ℕ) → Bytes l → (i : ℕ) → getD (wordsIn n l) i 0 < 4294967296
-unfolding wordsIn
-words-small zero l h i = omega arith
-words-small (suc n) l h zero = word-small l h
-words-small (suc n) l h (suc i) = words-small n (drop 4 l) (bytes-drop 4 l h) i
-
-abbrev Small : List ℕ → Type 0
-Small l = (i : ℕ) → getD l i 0 < 4294967296
-
-none-small : Small []
-none-small i = omega arith
-
-lists-small : (x : List ℕ) (n : ℕ) (rest : List ℕ) → Bytes rest → Small (listNamed x (signalsFrom n rest))
-unfolding listNamed signalsFrom
-lists-small x zero rest h = none-small
-lists-small x (suc n) rest h =
-    go (same (nameAt rest) x) (lists-small x n (drop (signalSize rest) rest) (bytes-drop (signalSize rest) rest h))
-  where
-    go : (b : Bool) → Small (listNamed x (signalsFrom n (drop (signalSize rest) rest)))
-        → Small (cond b (wordsIn (wordCount rest) (drop 10 rest)) (listNamed x (signalsFrom n (drop (signalSize rest) rest))))
-    go true r = words-small (wordCount rest) (drop 10 rest) (bytes-drop 10 rest h)
-    go false r = r
-
-not-late : (l : List ℕ) → Small l → changesAfterM l ≡ false
+-- words below 2^32 have no date past M
+not-late : (l : List ℕ) → Words l → changesAfterM l ≡ false
 unfolding dateOf
 not-late l h = down-of (changesAfterM l) (λ e. let w = late-of l e in omega (arith, w .2, h (w .0)))
 
@@ -137,10 +88,6 @@ name-fault (b ∷ bs) e f =
           ⊎-elim (λ z. omega arith) (λ z. let k = q .1 in omega arith) (x .3),
     )
 
-pub record NameServed (sheet n : List ℕ) : Type 0 where
-  pub clear : Clear sheet n
-  pub same-words : wordsOn sheet n ≡ listNamed n (signalsOn sheet)
-
 -- the normal list of an accepted list's signal is that list
 name-exact : (sheet n : List ℕ) → listFault (listNamed n (signalsOn sheet)) ≡ 0 → exactOn sheet (leaf (name n)) ≡ listNamed n (signalsOn sheet)
 unfolding exactOn settlingDate environmentOn
@@ -154,15 +101,32 @@ name-parts : (sheet n : List ℕ) → partFault (exactOn sheet (leaf (name n))) 
 unfolding partsFault parts
 name-parts sheet n e = first-with-none (partFault (exactOn sheet (leaf (name n)))) ∙ e
 
-list-small : (sheet n : List ℕ) → Bytes sheet → Small (listNamed n (signalsOn sheet))
-unfolding signalsOn
-list-small sheet n small = lists-small n (countOn sheet) (drop 7 sheet) (bytes-drop 7 sheet small)
-
 text-clear : (sheet n : List ℕ) → formulaFault n ≡ 0 → formulaTree n ≡ leaf (name n) → among n (names (signalsOn sheet)) ≡ true → readingFault sheet n ≡ 0
 unfolding readingFault namesFound
 text-clear sheet n f t e = first-none (formulaFault n) (cond (namesFound sheet (formulaTree n)) 0 13) f ∙ rw (t, e) refl
 
-pub name-served : (sheet n : List ℕ) → Bytes sheet → sheetFault sheet ≡ 0 → among n (names (signalsOn sheet)) ≡ true → NameServed sheet n
+-- names and constants meet neither 5 nor 6
+name-fine : (sheet n : List ℕ) → Words (listNamed n (signalsOn sheet)) → sheetFault sheet ≡ 0 → among n (names (signalsOn sheet)) ≡ true → partFault (exactOn sheet (leaf (name n))) ≡ 0
+name-fine sheet n small ok e =
+    let l = listNamed n (signalsOn sheet) in
+    let a = named-sound n (signalsOn sheet) (sheet-sound sheet ok) e .1 in
+    ap partFault (name-exact sheet n a) ∙ accepted-fine l a (not-late l small)
+
+leaf-fine : (sheet : List ℕ) → Bytes sheet → sheetFault sheet ≡ 0 → (l : Leaf) → leafFound sheet l ≡ true → partFault (exactOn sheet (leaf l)) ≡ 0
+unfolding partFault changesAfterM dateOf exactOn settlingDate listOf wordsOf constant
+leaf-fine sheet small ok down e = refl
+leaf-fine sheet small ok up e = refl
+leaf-fine sheet small ok (name n) e = name-fine sheet n (named-words sheet n small) ok e
+
+pub trees-on-sheets : TreesOnSheets
+trees-on-sheets = record { settles = settles; exact = exact-for; leaves = leaf-fine }
+
+-- a name of the sheet as a formula
+pub record NameServed (sheet n : List ℕ) : Type 0 where
+  pub clear : Clear sheet n
+  pub same-words : wordsOn sheet n ≡ listNamed n (signalsOn sheet)
+
+pub name-served : (sheet n : List ℕ) → Words (listNamed n (signalsOn sheet)) → sheetFault sheet ≡ 0 → among n (names (signalsOn sheet)) ≡ true → NameServed sheet n
 unfolding workingFault wordsOn
 name-served sheet n small ok e =
     let l = listNamed n (signalsOn sheet) in
@@ -170,7 +134,7 @@ name-served sheet n small ok e =
     let f = is-name n (s .0) in
     let t : formulaTree n ≡ leaf (name n) = tree-of n (leaf (name n)) 0 (name-writes n f) in
     let x : exactOn sheet (leaf (name n)) ≡ l = name-exact sheet n (s .1) in
-    let z : partFault (exactOn sheet (leaf (name n))) ≡ 0 = ap partFault x ∙ accepted-fine l (s .1) (not-late l (list-small sheet n small)) in
+    let z = name-fine sheet n small ok e in
     record {
       clear = record {
         sheet-ok = ok;

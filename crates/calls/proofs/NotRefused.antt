@@ -1,25 +1,22 @@
 -- Which calls are not refused: those of answered formulas with enough work words and room, and claims of them.
-use Prim.Native.Nat.{ℕ, _+_, _≤_, _<_, max}
+use Prim.Native.Nat.{ℕ, _+_, _≤_, _<_}
 use native.Mathlib.Omega.{arith}
 use mathlib.Core.Path.{_≡_, refl, sym, _∙_, ap}
 use mathlib.Core.Bool.{Bool, true, false, cond}
-use mathlib.Core.Logic.{_⊎_, inl, inr, _↔_}
 use mathlib.Core.List.{List}
 use lib.Dec.{leb, ltb, eqb}
 use lib.ListN.{length}
-use borrow.Author.Tests.{ltb-true, ltb-false, le-ltb, lt-ltb, eqb-true, eqb-false, eq-eqb, ne-eqb}
+use borrow.Author.Tests.{ltb-false, le-ltb, lt-ltb, eqb-true, eq-eqb, ne-eqb}
 use Rattle.signals.specs.Signal.{Signal, refuted}
 use Rattle.signals.specs.Answers.{faultIn, writtenOf}
 use Rattle.signals.specs.Implication.{earliest, verdictOf, failsIn, faultOfVerdict}
 use Rattle.signals.specs.Moment.{gap, isGap, tick}
 use Rattle.signals.specs.declared.Written.the-variants as written
-use Rattle.signals.specs.declared.Verdict.{Verdict}
 use Rattle.signals.specs.declared.Verdict.the-variants as verdict
 use Rattle.operations.specs.Calls.{firstOf}
 use Rattle.formulas.specs.Tree.{Tree}
 use Rattle.formulas.specs.Formula.{formulaTree}
 use Rattle.sheets.specs.Reading.{sheetFault}
-use Rattle.calls.specs.OnSheet.{signalOn, settlingDate}
 use Rattle.calls.specs.Calls.{neededWork, readingFault, workFault, workingFault, wordsOn, roomFault, callFault, callAnswer, claimFault, claimVerdict, claimAnswer}
 use Rattle.calls.specs.Answered.{Answered, Enough}
 use Rattle.calls.specs.NotRefused.{NotRefused}
@@ -156,7 +153,7 @@ verdict-no-fault f g n = go (leb (earliest (refuted f g) 0 (gap n + 1)) (gap n))
 
 pub claim-no-fault : (sheet : List ℕ) (f g : Tree) → faultOfVerdict (claimVerdict sheet f g) ≡ 0
 unfolding claimVerdict
-claim-no-fault sheet f g = verdict-no-fault (signalOn sheet f) (signalOn sheet g) (max (settlingDate sheet f) (settlingDate sheet g))
+claim-no-fault sheet f g = verdict-no-fault _ _ _
 
 -- the fault that a claim's answer shows
 pub claim-fault-shown : (sheet F G : List ℕ) (work : ℕ) → faultOfVerdict (claimAnswer sheet F G work) ≡ claimFault sheet F G work
@@ -185,9 +182,14 @@ pub enough-served : (sheet formula : List ℕ) → Answered sheet formula → (w
     → callFault sheet formula work (length old) ≡ 0
 enough-served sheet formula a work old n = clear-call sheet formula (answered-clear sheet formula a) work (length old) (n .area) (n .room)
 
+needed : (sheet : List ℕ) → neededWork sheet ≡ 8192
+unfolding neededWork
+needed sheet = refl
+
 pub not-refused : NotRefused
 not-refused =
     record {
+      needed = needed;
       enough = λ sheet formula a work old n. counted sheet formula work old (enough-served sheet formula a work old n);
       means = λ sheet formula work old e.
           clear-answered sheet formula (call-clear sheet formula work (length old) (no-fault sheet formula work old e) .0);

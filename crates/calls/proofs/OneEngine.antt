@@ -1,11 +1,8 @@
 -- An engine that meets demand 2 is the defined one at every input.
 use Prim.Native.Nat.{ℕ}
-use native.Mathlib.Omega.{arith}
-use mathlib.Core.Path.{_≡_, refl, sym, _∙_, ap}
-use mathlib.Core.Bool.{Bool, true, false, cond}
+use mathlib.Core.Path.{_≡_, refl, sym, _∙_, ap, fun-ext}
 use mathlib.Core.Logic.{_⊎_, inl, inr}
 use mathlib.Core.List.{List, _++_}
-use lib.Dec.{eqb}
 use lib.ListN.{length, drop}
 use borrow.Author.Tests.{ne-eqb}
 use Rattle.signals.specs.Answers.{faultIn, writtenOf}
@@ -16,15 +13,16 @@ use Rattle.signals.specs.declared.Verdict.{Verdict}
 use Rattle.signals.specs.declared.Verdict.the-variants as verdict
 use Rattle.calls.specs.Calls.{wordsOn, callFault, callAnswer, callOutput, claimFault, claimAnswer}
 use Rattle.calls.specs.Engine.{Engine, defined}
-use Rattle.calls.specs.Tabled.{Check, NoFault, ReadingChecks, WorkingChecks, CallFaultIs, ClaimFaultIs}
-use Rattle.calls.specs.Demand2.{GivesTheList, Demand2}
-use Rattle.calls.specs.OneEngine.{Agrees, OneEngine}
+use Rattle.calls.specs.Tabled.{NoFault, ReadingChecks, WorkingChecks, CallFaultIs, ClaimFaultIs}
+use Rattle.calls.specs.Demand2.{Demand2}
+use Rattle.calls.specs.OneFault.{OneFault}
+use Rattle.calls.specs.OneEngine.{Agrees, OneEngine, AgreeingMeets}
 use Rattle.calls.proofs.FirstFault.{Single, check-single, zero-or-not}
-use Rattle.calls.proofs.ReadingFaults.{derived, text-fine}
+use Rattle.calls.proofs.SheetLists.{sheet-of}
 use Rattle.calls.proofs.CallFaults.{call-fault, claim-fault}
-use Rattle.calls.proofs.NotRefused.{call-clear, claim-clear, claim-fault-shown}
-use Rattle.calls.proofs.Demand2.{clear-list, delivered, output-kept, claim-judged}
-use Rattle.calls.proofs.Demand3.{one-verdict}
+use Rattle.calls.proofs.NotRefused.{call-clear, claim-fault-shown}
+use Rattle.calls.proofs.Demand2.{demand2, clear-list, delivered, output-kept, claim-judged}
+use Rattle.calls.proofs.Demand3.{demand3, one-verdict}
 
 -- the checks give one fault
 none-single : Single NoFault
@@ -44,6 +42,17 @@ claim-single : (sheet F G : List ℕ) (work : ℕ) → Single (ClaimFaultIs shee
 claim-single sheet F G work =
     check-single
     (reading-single sheet F _ (reading-single sheet G _ (check-single (working-single sheet F _ (working-single sheet G _ none-single)))))
+
+pub one-fault : OneFault
+one-fault =
+    record {
+      call = call-fault;
+      claim = claim-fault;
+      oneOfCall = λ sheet formula work room fault h.
+          call-single sheet formula work room fault (callFault sheet formula work room) h (call-fault sheet formula work room);
+      oneOfClaim = λ sheet F G work fault h. claim-single sheet F G work fault (claimFault sheet F G work) h (claim-fault sheet F G work);
+      sheets = sheet-of;
+    }
 
 -- an answer with a fault is that refusal
 refused : (a : Written) → (¬ (faultIn a ≡ 0)) → a ≡ written.Refused (faultIn a)
@@ -69,7 +78,7 @@ module _ (E : Engine) (D : Demand2 E) where
 
   same-fault : (sheet formula : List ℕ) (work : ℕ) (old : List ℕ) → faultIn (E .answer sheet formula work old) ≡ callFault sheet formula work (length old)
   same-fault sheet formula work old =
-      call-single sheet formula work (length old) _ _ (D .callFaults sheet formula work old) (call-fault sheet formula work (length old))
+      one-fault .oneOfCall sheet formula work (length old) (faultIn (E .answer sheet formula work old)) (D .callFaults sheet formula work old)
 
   alike-given : (sheet formula : List ℕ) (work : ℕ) (old : List ℕ) → faultIn (E .answer sheet formula work old) ≡ 0 → Alike sheet formula work old
   alike-given sheet formula work old e =
@@ -98,7 +107,7 @@ module _ (E : Engine) (D : Demand2 E) where
       go (inr e) = alike-refused sheet formula work old e
 
   same-claim-fault : (sheet F G : List ℕ) (work : ℕ) → faultOfVerdict (E .claim sheet F G work) ≡ claimFault sheet F G work
-  same-claim-fault sheet F G work = claim-single sheet F G work _ _ (D .claimFaults sheet F G work) (claim-fault sheet F G work)
+  same-claim-fault sheet F G work = one-fault .oneOfClaim sheet F G work (faultOfVerdict (E .claim sheet F G work)) (D .claimFaults sheet F G work)
 
   same-claim : (sheet F G : List ℕ) (work : ℕ) → E .claim sheet F G work ≡ claimAnswer sheet F G work
   same-claim sheet F G work = go (zero-or-not (faultOfVerdict (E .claim sheet F G work)))
@@ -108,13 +117,10 @@ module _ (E : Engine) (D : Demand2 E) where
 
       go : (faultOfVerdict (E .claim sheet F G work) ≡ 0) ⊎ (¬ (faultOfVerdict (E .claim sheet F G work) ≡ 0)) → E .claim sheet F G work ≡ claimAnswer sheet F G work
       go (inl e) =
-          let z = sym s ∙ e in
-          let c = claim-clear sheet F G work z in
-          let w = derived F (text-fine sheet F (c .0 .text-ok)) in
-          let v = derived G (text-fine sheet G (c .1 .text-ok)) in
+          let g = D .claims sheet F G work e in
           one-verdict
-          (D .claims sheet F G work e (w .0) (v .0) (w .1) (v .1) (w .2) (v .2))
-          (claim-judged sheet F G work z (w .0) (v .0) (w .1) (v .1) (w .2) (v .2))
+          (g .judged)
+          (claim-judged sheet F G work (sym s ∙ e) (g .treeF) (g .treeG) (g .depthF) (g .depthG) (g .writesF) (g .writesG))
       go (inr e) =
           refused-claim (E .claim sheet F G work) e
           ∙ ap verdict.Refused (s ∙ sym (claim-fault-shown sheet F G work))
@@ -127,3 +133,15 @@ one-engine E D =
       output = λ sheet formula work old. alike E D sheet formula work old .1;
       claim = same-claim E D;
     }
+
+-- an engine that agrees with the defined one everywhere is it
+same-engine : (E : Engine) → Agrees E → E ≡ defined
+same-engine E h = λ i.
+    record {
+      answer = fun-ext (λ sheet. fun-ext (λ formula. fun-ext (λ work. fun-ext (λ old. h .answer sheet formula work old)))) i;
+      output = fun-ext (λ sheet. fun-ext (λ formula. fun-ext (λ work. fun-ext (λ old. h .output sheet formula work old)))) i;
+      claim = fun-ext (λ sheet. fun-ext (λ F. fun-ext (λ G. fun-ext (λ work. h .claim sheet F G work)))) i;
+    }
+
+pub agreeing-meets : AgreeingMeets
+agreeing-meets E h = rw (same-engine E h) (demand2, demand3)

@@ -2,18 +2,17 @@
 use Prim.Native.Nat.{ℕ, _<_}
 use native.Mathlib.Omega.{arith}
 use mathlib.Core.Path.{_≡_, refl, sym, _∙_, ap}
-use mathlib.Core.Bool.{Bool, true, false, cond, not, _&&_, _||_}
-use mathlib.Core.Logic.{_⊎_, inl, inr, ⊎-elim}
+use mathlib.Core.Bool.{Bool, true, false, cond, not, _||_}
+use mathlib.Core.Logic.{inl, inr}
 use mathlib.Core.List.{List}
 use lib.Dec.{ltb, eqb}
 use lib.ListN.{length}
 use Rattle.signals.specs.Moment.{M}
-use Rattle.signals.proofs.Truth.{and-left, and-right, and-of, not-both}
+use Rattle.signals.proofs.Truth.{and-left, and-right, not-both}
 use Rattle.operations.specs.Calls.{firstOf}
 use Rattle.formulas.specs.Tree.{Tree, leaf, unary, binary, down, up, name}
 use Rattle.formulas.specs.Grammar.{Writes}
 use Rattle.formulas.specs.Formula.{accepted, partsOf, depthOf, longestOf, formulaTree, formulaFault}
-use Rattle.formulas.specs.Exactness.{Ten, Eleven, Eight, Twelve}
 use Rattle.formulas.proofs.Reading.{tree-of, refused-of, faults-exact}
 use Rattle.sheets.specs.Names.{among}
 use Rattle.sheets.specs.Reading.{signalsOn, names}

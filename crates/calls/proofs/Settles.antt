@@ -1,21 +1,20 @@
 -- On an accepted sheet every tree's signal is constant from its settling date on, so it has a normal list, and one only.
-use Prim.Native.Nat.{ℕ, _+_, _≤_, max}
+use Prim.Native.Nat.{ℕ}
 use native.Mathlib.Omega.{arith}
-use mathlib.Core.Path.{_≡_, refl, sym, _∙_, ap}
+use mathlib.Core.Path.{_≡_, refl, sym, _∙_}
 use mathlib.Core.Bool.{Bool, true, false, cond}
 use mathlib.Core.List.{List, [], _∷_}
 use Rattle.signals.specs.Signal.{Signal}
-use Rattle.signals.specs.Words.{signalOf, lastDate, listOf}
-use Rattle.signals.specs.Settled.{SettledFrom, Same}
-use Rattle.signals.specs.Normal.{Accepted}
+use Rattle.signals.specs.Words.{signalOf, lastDate}
+use Rattle.signals.specs.Settled.{SettledFrom}
 use Rattle.signals.proofs.Settling.{settling, settled-later}
 use Rattle.signals.proofs.Normal.{accepted-settled, listOfSignal, unique}
-use Rattle.formulas.specs.Tree.{Tree, Leaf, Unary, Binary, leaf, unary, binary, down, up, name, invert, rise, fall, ton, tof, and, or, sr, rs}
+use Rattle.formulas.specs.Tree.{Tree, leaf, unary, binary, down, up, name, invert, rise, fall, ton, tof, and, or, sr, rs}
 use Rattle.sheets.specs.Names.{same}
 use Rattle.sheets.specs.Reading.{sheetFault, Entry, nameOf, listOn, signalsOn, listNamed, environmentOn}
 use Rattle.calls.specs.OnSheet.{signalOn, settlingDate, exactOn}
 use Rattle.calls.specs.NormalLists.{ListFor}
-use Rattle.calls.proofs.SheetLists.{Sound, AllSound, sheet-sound}
+use Rattle.calls.proofs.SheetLists.{AllSound, sheet-sound}
 
 none-settles : SettledFrom (signalOf []) (lastDate [])
 unfolding signalOf

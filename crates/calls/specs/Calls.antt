@@ -1,6 +1,6 @@
 -- The formula call and the claim of two formulas: their faults in document 01's order, the words, the output at exit and the verdict.
 use Prim.Native.Nat.{ℕ, max}
-use mathlib.Core.Bool.{Bool, cond}
+use mathlib.Core.Bool.{cond}
 use mathlib.Core.List.{List, [], _∷_}
 use lib.Dec.{ltb, eqb}
 use lib.ListN.{length}

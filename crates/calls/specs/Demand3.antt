@@ -41,8 +41,10 @@ pub record SameVerdicts (E : Engine) (sheet F G H : List ℕ) (f g h : Tree) : T
   pub secondWithG : (work : ℕ) → neededWork sheet ≤ work → JudgedAs (signalOn sheet g) (signalOn sheet h) (E .claim sheet G H work)
 
 pub record Demand3 (E : Engine) : Type 0 where
-  -- with the needed work words and an output at least as long as the answer, an answered formula's call meets no fault
+  -- its answered formulas are those defined: with the needed work words and an output at least as long as the answer, an answered formula's
+  -- call meets no fault, and a call without a fault is of an answered formula
   pub served : (sheet F : List ℕ) → Answered sheet F → (work : ℕ) (old : List ℕ) → Enough sheet F work old → Served E sheet F work old
+  pub answered : (sheet F : List ℕ) (work : ℕ) (old : List ℕ) → Served E sheet F work old → Answered sheet F
   -- "Take any formula F, any one part of it and any equation of document 01's law table that fits that part in either direction, and let
   -- G be F with the part so rewritten. Then on every sheet where both are answered, F and G give the same word count and the same words."
   pub rewritten : (F G : List ℕ) (f g : Tree) (d e : ℕ) → Writes F f d → Writes G g e → Rewrites f g

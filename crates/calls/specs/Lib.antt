@@ -4,9 +4,12 @@ pub mod Calls
 pub mod Engine
 pub mod Answered
 pub mod NormalLists
+pub mod TreesOnSheets
 pub mod Tabled
+pub mod OneFault
 pub mod Demand2
 pub mod Demand3
 pub mod NotRefused
 pub mod OneEngine
 pub mod WrongEngines
+pub mod Printed

@@ -5,6 +5,7 @@ use mathlib.Core.List.{List}
 use Rattle.calls.specs.Calls.{callAnswer, callOutput, claimAnswer}
 use Rattle.calls.specs.Engine.{Engine}
 use Rattle.calls.specs.Demand2.{Demand2}
+use Rattle.calls.specs.Demand3.{Demand3}
 
 pub record Agrees (E : Engine) : Type 0 where
   pub answer : (sheet formula : List ℕ) (work : ℕ) (old : List ℕ) → E .answer sheet formula work old ≡ callAnswer sheet formula work old
@@ -13,3 +14,7 @@ pub record Agrees (E : Engine) : Type 0 where
 
 abbrev pub OneEngine : Type 0
 OneEngine = (E : Engine) → Demand2 E → Agrees E
+
+-- And an engine that does so, as the contracts of code can say of it, meets both demands.
+abbrev pub AgreeingMeets : Type 0
+AgreeingMeets = (E : Engine) → Agrees E → Demand2 E × Demand3 E

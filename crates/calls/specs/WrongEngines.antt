@@ -1,5 +1,6 @@
 -- Six wrong engines in document 01's order, each the defined engine but for the one thing named; and the statement that demands 2 and 3 shut each out.
 use Prim.Native.Nat.{ℕ, _+_}
+use mathlib.Core.Path.{_≡_}
 use mathlib.Core.Bool.{cond}
 use mathlib.Core.List.{List, [], _∷_}
 use lib.Dec.{eqb}
@@ -10,13 +11,16 @@ use Rattle.signals.specs.declared.Written.the-variants as written
 use Rattle.signals.specs.declared.Verdict.{Verdict}
 use Rattle.signals.specs.declared.Verdict.the-variants as verdict
 use Rattle.formulas.specs.Tree.{Tree, leaf, unary, binary}
+use Rattle.formulas.specs.Grammar.{Writes}
 use Rattle.formulas.specs.Formula.{formulaTree}
+use Rattle.laws.specs.Rewriting.{Rewrites}
 use Rattle.operations.specs.Calls.{firstOf}
 use Rattle.calls.specs.OnSheet.{exactOn}
-use Rattle.calls.specs.Calls.{callFault, roomFault, wordsOn, claimFault, callAnswer, callOutput, claimAnswer}
+use Rattle.calls.specs.Calls.{callFault, roomFault, claimFault, callAnswer, callOutput, claimAnswer}
 use Rattle.calls.specs.Engine.{Engine}
 use Rattle.calls.specs.Demand2.{Demand2}
-use Rattle.calls.specs.Demand3.{Demand3}
+use Rattle.calls.specs.Answered.{Answered}
+use Rattle.calls.specs.Demand3.{SameWords, Demand3}
 
 -- gives [0] for all formulas: where the defined call has no fault, the one word 0
 unfoldable pub zeroAnswer : List ℕ → List ℕ → ℕ → List ℕ → Written
@@ -91,3 +95,16 @@ pub record SixShutOut : Type 0 where
   pub old : ShutOut leavesOld
   pub copy : ShutOut copiesOperand
   pub count : ShutOut inventsCount
+
+-- F and G of demand 3 give the same words, and have the same verdicts with a third formula
+pub record ObeysEveryLaw (E : Engine) : Type 0 where
+  pub words : (F G : List ℕ) (f g : Tree) (d e : ℕ) → Writes F f d → Writes G g e → Rewrites f g
+      → (sheet : List ℕ) → Answered sheet F → Answered sheet G → SameWords E sheet F G
+  pub asFirst : (F G H : List ℕ) (f g h : Tree) (d e k : ℕ) → Writes F f d → Writes G g e → Writes H h k → Rewrites f g
+      → (sheet : List ℕ) → Answered sheet F → Answered sheet G → Answered sheet H → (work : ℕ) → E .claim sheet H F work ≡ E .claim sheet H G work
+  pub asSecond : (F G H : List ℕ) (f g h : Tree) (d e k : ℕ) → Writes F f d → Writes G g e → Writes H h k → Rewrites f g
+      → (sheet : List ℕ) → Answered sheet F → Answered sheet G → Answered sheet H → (work : ℕ) → E .claim sheet F H work ≡ E .claim sheet G H work
+
+-- The engine that gives [0] for all formulas obeys every law, and is shut out all the same.
+abbrev pub ZeroObeysEveryLaw : Type 0
+ZeroObeysEveryLaw = ObeysEveryLaw givesZero

@@ -25,14 +25,14 @@ use Rattle.formulas.proofs.Reading.{parts-exact, in-longest, longest-in
 abbrev cut : List ℕ → Emission Part
 cut text = record { plain = plainPart; named = λ p k. operand (name (nameAt text p k)); timed = λ k n. timedPart k (capped n); ticks = capped }
 
-abbrev cutUnary : Unary → Unary
+abbrev pub cutUnary : Unary → Unary
 cutUnary invert = invert
 cutUnary rise = rise
 cutUnary fall = fall
 cutUnary (ton n) = ton (capped n)
 cutUnary (tof n) = tof (capped n)
 
-abbrev cutPart : Part → Part
+abbrev pub cutPart : Part → Part
 cutPart (operand l) = operand l
 cutPart (one o) = one (cutUnary o)
 cutPart (two o) = two o

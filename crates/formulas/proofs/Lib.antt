@@ -11,3 +11,8 @@ pub mod Writing
 pub mod Carried
 pub mod Coding
 pub mod Marking
+pub mod Doing
+pub mod LeafPaths
+pub mod ReaderPaths
+pub mod Storing
+pub mod WholeRead

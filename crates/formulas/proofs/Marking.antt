@@ -75,3 +75,12 @@ capped-most n v e = omega arith
 pub value-none : (text : List ℕ) (a : ℕ) → 0 ≡ capped (valueBetween text a a)
 unfolding valueBetween value valueFrom capped
 value-none text a = let e : a - a ≡ 0 = omega arith in rw e refl
+
+pub run-most : (p : ℕ → Bool) (l : List ℕ) → run p l ≤ length l
+unfolding run
+run-most p [] = omega arith
+run-most p (b ∷ l) = go (p b) (run-most p l)
+  where
+    go : (z : Bool) → run p l ≤ length l → cond z (suc (run p l)) 0 ≤ length (b ∷ l)
+    go true h = omega arith
+    go false h = omega arith

@@ -4,6 +4,7 @@ use mathlib.Core.Bool.{Bool, true, false, cond, not, _&&_, _||_}
 use mathlib.Core.List.{List, [], _∷_}
 use lib.Dec.{leb, ltb, eqb}
 use lib.ListN.{length, getD, take, drop}
+use lib.Seq.{sets}
 use Rattle.signals.specs.Moment.{M}
 use Rattle.formulas.specs.Tree.{Tree, Leaf, Unary, Binary, down, up, name, invert, rise, fall, ton, tof, and, or, sr, rs}
 use Rattle.formulas.specs.Code.{Part, operand, one, two, treeOf}
@@ -88,3 +89,7 @@ formulaFault text =
 -- the code words of a text's parts in working-out order
 unfoldable pub codeOf : List ℕ → List ℕ
 codeOf text = readText coded text .out
+
+-- the code words after a call: the first are the formula's; as they were when it is refused
+unfoldable pub codeAfter : List ℕ → List ℕ → List ℕ
+codeAfter text old = cond (eqb (formulaFault text) 0) (sets old 0 (codeOf text)) old

@@ -6,4 +6,5 @@ pub mod Stretches
 pub mod Watching
 pub mod Verdicts
 pub mod Equality
+pub mod Implication
 pub mod Keepings

@@ -36,13 +36,13 @@ pub instant-fine : (k : ℕ) → (k ≡ 0 → ⊥) → k ≤ M → instantFault 
 unfolding instantFault
 instant-fine k n h = rw (ne-eqb k 0 n, le-ltb M k h)
 
-pub gap-past : (k : ℕ) → M < k → gapFault k ≡ 9
-unfolding gapFault
-gap-past k h = rw (lt-ltb M k h)
-
 pub gap-fine : (k : ℕ) → k ≤ M → gapFault k ≡ 0
 unfolding gapFault
 gap-fine k h = rw (le-ltb M k h)
+
+pub gap-past : (k : ℕ) → M < k → gapFault k ≡ 9
+unfolding gapFault
+gap-past k h = rw (lt-ltb M k h)
 
 -- the same from what the code has: the fault that it found, the 9 that it tested, the value that it searched
 module _ (l : List ℕ) (fault g : ℕ) (v : Bool) (e : fault ≡ listFault l) where

@@ -60,11 +60,11 @@ both-accepted a b fault e z = zeros (listFault a) (listFault b) (sym e ∙ z)
 module _ (a b : List ℕ) (za : listFault a ≡ 0) (zb : listFault b ≡ 0) where
   pub settled-a : SettledFrom (signalOf a) (laterLast a b)
   unfolding laterLast
-  settled-a = settled-later (signalOf a) (lastDate a) (max (lastDate a) (lastDate b)) (accepted-settled a za) (omega arith)
+  settled-a = settled-later (signalOf a) (lastDate a) (laterLast a b) (accepted-settled a za) (omega arith)
 
   pub settled-b : SettledFrom (signalOf b) (laterLast a b)
   unfolding laterLast
-  settled-b = settled-later (signalOf b) (lastDate b) (max (lastDate a) (lastDate b)) (accepted-settled b zb) (omega arith)
+  settled-b = settled-later (signalOf b) (lastDate b) (laterLast a b) (accepted-settled b zb) (omega arith)
 
 -- f and not g
 abbrev pub refuting : Table

@@ -4,3 +4,4 @@ pub mod Questions
 pub mod Finding
 pub mod Equality
 pub mod Keeping
+pub mod Implication

@@ -23,6 +23,12 @@ abbrev pub toldValue : Bool → Told
 toldValue true = told.Yes
 toldValue false = told.No
 
+-- the fault number of an answer, 0 for none
+abbrev pub faultOfTold : Told → ℕ
+faultOfTold told.Yes = 0
+faultOfTold told.No = 0
+faultOfTold (told.Refused f) = f
+
 -- the answer of a question with this fault (0 for none) and this value
 unfoldable pub toldOf : ℕ → Bool → Told
 toldOf fault value = cond (eqb fault 0) (toldValue value) (told.Refused fault)

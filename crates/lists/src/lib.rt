@@ -10,7 +10,7 @@ ghost use Rattle.signals.specs.Moment.{gap, instant};
 ghost use Rattle.signals.specs.Words.{signalOf, word, datesFault, tidyFault};
 ghost use Rattle.signals.specs.Tidying.{tidied};
 ghost use Rattle.signals.specs.Answers.{writtenOf, outputOf};
-ghost use Rattle.lists.specs.Reading.{nextDate, stepPast};
+ghost use Rattle.lists.specs.Reading.{nextDate, stepPast, headFault};
 ghost use Rattle.lists.specs.Questions.{firstOf, datedBy, toldValue, valueAtOf, valueInOf, equalOf, impliesOf, tidyingFault};
 ghost use Rattle.lists.specs.Finding.{shown, shows, inStretch, verdictIn, Near, FirstFrom};
 ghost use Rattle.lists.specs.Keeping.{entryOf, putIn, overlay};
@@ -84,6 +84,22 @@ pub fn past(words: &[u32], passed: usize, date: Date) -> Step
     }
 }
 
+// The fault of a list's length and first word.
+fn head_fault(list: &[u32]) -> u32
+    ensures { λ r. ⌜ r ≡ headFault (now (list .entry)) ⌝ }
+{
+    if list.len() == 0 {
+        return 1;
+    }
+    if 256 < list.len() {
+        return 1;
+    }
+    if 1 < list[0] {
+        return 2;
+    }
+    0
+}
+
 // Both values of the word equal the value before it.
 fn changes_nothing(before: bool, w: u32) -> bool
     ensures { λ r. ⌜ r ≡ changesNothing before w ⌝ }
@@ -119,14 +135,9 @@ fn words_fault(list: &[u32]) -> u32
 pub fn list_fault(list: &[u32]) -> u32
     ensures { λ r. ⌜ r ≡ listFault (now (list .entry)) ⌝ }
 {
-    if list.len() == 0 {
-        return 1;
-    }
-    if 256 < list.len() {
-        return 1;
-    }
-    if 1 < list[0] {
-        return 2;
+    let fault = head_fault(list);
+    if fault != 0 {
+        return fault;
     }
     words_fault(list)
 }
@@ -343,14 +354,9 @@ fn dates_fault(list: &[u32]) -> u32
 fn tidy_fault(list: &[u32]) -> u32
     ensures { λ r. ⌜ r ≡ tidyFault (now (list .entry)) ⌝ }
 {
-    if list.len() == 0 {
-        return 1;
-    }
-    if 256 < list.len() {
-        return 1;
-    }
-    if 1 < list[0] {
-        return 2;
+    let fault = head_fault(list);
+    if fault != 0 {
+        return fault;
     }
     dates_fault(list)
 }
@@ -415,7 +421,8 @@ pub fn tidy(list: &[u32], out: &mut [u32]) -> Written
     if fault != 0 {
         return Written::Refused(fault);
     }
-    let count = keep_words(list, &mut out[..0]);
+    let none: usize = 0;
+    let count = keep_words(list, &mut out[..none]);
     if out.len() < count {
         return Written::Refused(7);
     }

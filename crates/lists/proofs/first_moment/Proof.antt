@@ -77,7 +77,7 @@ turn c =
           _
           (dated-a (o .before))
           (dated-b (o .before))
-          (e .before .before .before .loop-test .taken)
+          (omega (arith, e .before .before .before .loop-test .taken, o .loop .inv .right .within))
           (o .loop .inv .left .within)
           (o .loop .inv .right .within)
           (rw (e .before .before .next-date .ensures) at (e .earlier .ensures .0))
@@ -167,7 +167,9 @@ returns-2 : tie.Need-returns-2 Inv-loop μ-loop
 returns-2 c = outcome-in _ _ _ _ _ (c .enum-told4 .given .1) (at-found (c .before .before))
 
 loop-less : tie.Need-loop-less Inv-loop μ-loop
-loop-less c = omega (arith, turn-more _ _ _ _ _ (turn (c .before .before .before .before .before .before .before .before)), c .before .before .before .before .before .before .before .before .before .before .before .before .before .before .loop-test .taken)
+loop-less c =
+    let inside = c .before .before .before .before .before .before .before .before .before .before .before .before .before .before in
+    omega (arith, turn-more _ _ _ _ _ (turn (c .before .before .before .before .before .before .before .before)), inside .loop-test .taken, inside .before .loop .inv .right .within)
 
 loop-again : tie.Need-loop-again Inv-loop μ-loop
 loop-again c =

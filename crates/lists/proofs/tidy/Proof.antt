@@ -1,4 +1,8 @@
 -- `lists::tidy` meets its contract: counted first, then written.
+use native.Mathlib.Omega.{arith}
+use mathlib.Core.Path.{ap}
+use lib.ListN.{length}
+use lib.Seq.{take-all}
 use Rattle.lists.proofs.Keepings.{tidy-refused, tidy-short, tidy-done}
 use borrow.Author.Needs.{needs}
 use Rattle.lists.proofs.tidy.Statement.{statement}
@@ -13,8 +17,11 @@ returns c = tidy-refused _ _ _ (c .before .tidy-fault .ensures) (c .if1 .taken)
 slice-relend-prefix-keep-words : tie.Need-slice-relend-prefix-keep-words
 slice-relend-prefix-keep-words c = search needs
 
+-- as many words are lent as are said, also where all are
 slice-aggregate-keep-words : tie.Need-slice-aggregate-keep-words
-slice-aggregate-keep-words c = search needs
+slice-aggregate-keep-words c =
+    let out = c .before .before .before .before .before .args .out .now in
+    omega (arith, ap length (take-all (length out) out (omega arith)))
 
 keep-words-requires : tie.Need-keep-words-requires
 keep-words-requires c κs = search needs

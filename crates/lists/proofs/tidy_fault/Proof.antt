@@ -1,29 +1,21 @@
--- `lists::tidy_fault` meets its contract: at each `return` the tests that led there say which clause of `tidyFault` holds.
+-- `lists::tidy_fault` meets its contract: the head is judged before the dates of the words after it.
 use mathlib.Core.Path.{sym, _∙_}
-use Rattle.lists.proofs.Judging.{tidy-empty, tidy-long, tidy-head, tidy-dates}
+use Rattle.lists.proofs.Judging.{head-some, tidy-head, tidy-dates}
 use borrow.Author.Needs.{needs}
 use Rattle.lists.proofs.tidy_fault.Statement.{statement}
 use Rattle.lists.proofs.tidy_fault.Tie as tie
 
+head-fault-requires : tie.Need-head-fault-requires
+head-fault-requires c κs = search needs
+
 returns : tie.Need-returns
-returns c = sym (tidy-empty _ (c .if1 .taken))
-
-returns-2 : tie.Need-returns-2
-returns-2 c = sym (tidy-long _ (c .if2 .taken))
-
-shared-slice-read-if3 : tie.Need-shared-slice-read-if3
-shared-slice-read-if3 c = search needs
-
-returns-3 : tie.Need-returns-3
-returns-3 c = sym (tidy-head _ (c .before .before .before .if1 .left) (c .before .before .if2 .left) (c .if3 .taken))
+returns c = tidy-head _ _ (c .before .head-fault .ensures) (c .if1 .taken)
 
 dates-fault-requires : tie.Need-dates-fault-requires
-dates-fault-requires c κs = search needs
+dates-fault-requires c κs = head-some _ (sym (c .before .head-fault .ensures) ∙ c .if1 .left)
 
-returns-4 : tie.Need-returns-4
-returns-4 c = c .dates-fault .ensures ∙ sym (tidy-dates _ (c .before .before .before .before .if1 .left) (c .before .before .before .if2 .left) (c .before .if3 .left))
+returns-2 : tie.Need-returns-2
+returns-2 c = c .dates-fault .ensures ∙ tidy-dates _ _ (c .before .before .head-fault .ensures) (c .before .if1 .left)
 
 pub tidy-fault-spec : {M : Type 1} → statement M
-tidy-fault-spec =
-    tie.close
-    (tie.spec returns returns-2 shared-slice-read-if3 returns-3 dates-fault-requires returns-4)
+tidy-fault-spec = tie.close (tie.spec head-fault-requires returns dates-fault-requires returns-2)

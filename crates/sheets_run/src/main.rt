@@ -1,0 +1,152 @@
+// Vectors of sheets, one line each: a label, then the fault and what the call gives. Bytes are folded into one number, each
+// added to 31 times the rest of the number by 65521. Outputs start as sevens, so that what a call leaves is seen.
+// The stored output is that of a second program, which reads and writes sheets by document 01's sentences.
+use signals::Written;
+
+mod faults;
+mod many;
+
+fn mix(sum: u64, b: u8) -> u64 {
+    (sum % 65521) * 31 + (b as u64)
+}
+
+fn fold(s: &[u8]) -> u64 {
+    let mut sum: u64 = 0;
+    let mut i: usize = 0;
+    while i < s.len() {
+        sum = mix(sum, s[i]);
+        i += 1;
+    }
+    sum
+}
+
+fn number(n: u64) {
+    io::write_all(1, b" ");
+    io::print_decimal(1, n);
+}
+
+fn line_end() {
+    io::write_all(1, b"\n");
+}
+
+// Checks a sheet.
+fn checked(label: &[u8], sheet: &[u8]) {
+    io::write_all(1, label);
+    number(sheets::sheet_fault(sheet) as u64);
+    line_end();
+}
+
+// Looks a name up: the fault, the part's length and fold.
+fn looked(label: &[u8], sheet: &[u8], name: &[u8]) {
+    io::write_all(1, label);
+    number(sheets::lookup_fault(sheet, name) as u64);
+    let part = sheets::lookup(sheet, name);
+    number(part.len() as u64);
+    number(fold(part));
+    line_end();
+}
+
+// Looks a name up on the first n bytes.
+fn looked_to(label: &[u8], out: &[u8], n: usize, name: &[u8]) {
+    if n <= out.len() {
+        looked(label, &out[..n], name);
+    }
+}
+
+fn answered(label: &[u8], answer: Written, out: &[u8]) {
+    io::write_all(1, label);
+    match answer {
+        Written::Count(count) => {
+            number(0);
+            number(count as u64);
+        }
+        Written::Refused(fault) => {
+            number(fault as u64);
+            number(0);
+        }
+    }
+    number(fold(out));
+    line_end();
+}
+
+fn begun(label: &[u8], out: &mut [u8]) {
+    let answer = sheets::begin(out);
+    answered(label, answer, out);
+}
+
+fn added(label: &[u8], sheet: &[u8], name: &[u8], list: &[u32], out: &mut [u8]) {
+    let answer = sheets::append(sheet, name, list, out);
+    answered(label, answer, out);
+}
+
+// The sheet of a = [0,23,36] and b2 = [1] cut at every length.
+fn cuts(sheet: &[u8]) {
+    let mut n: usize = 0;
+    while n <= sheet.len() {
+        checked(b"cut", &sheet[..n]);
+        n += 1;
+    }
+}
+
+fn begins() {
+    let mut none = [7u8; 1];
+    begun(b"begin 1", &mut none);
+    let mut six = [7u8; 6];
+    begun(b"begin 6", &mut six);
+    let mut seven = [7u8; 7];
+    begun(b"begin 7", &mut seven);
+    let mut nine = [7u8; 9];
+    begun(b"begin 9", &mut nine);
+}
+
+fn appends(pair: &[u8]) {
+    let f = [0u32, 23, 36];
+    let mut out = [7u8; 80];
+    added(
+        b"append a to empty",
+        b"SGL\x01\x00\x00\x00",
+        b"a",
+        &f,
+        &mut out,
+    );
+    let mut out = [7u8; 80];
+    added(b"append c", pair, b"c", &f, &mut out);
+    looked_to(b"c there", &out, 65, b"c");
+    looked_to(b"a there", &out, 65, b"a");
+    looked_to(b"b2 there", &out, 65, b"b2");
+    looked_to(b"d there", &out, 65, b"d");
+    let mut short = [7u8; 64];
+    added(b"append to 64", pair, b"c", &f, &mut short);
+    let mut fits = [7u8; 65];
+    added(b"append to 65", pair, b"abcdefgh", &f, &mut fits);
+    looked_to(b"eight letters", &fits, 65, b"abcdefgh");
+}
+
+fn refused_appends(pair: &[u8]) {
+    let f = [0u32, 23, 36];
+    let mut out = [7u8; 80];
+    added(b"append to cut", b"SGL\x01\x00\x01\x00", b"A", &f, &mut out);
+    added(b"append again", pair, b"a", &[2u32], &mut out);
+    added(b"append A", pair, b"A", &[2u32], &mut out);
+    added(b"append nameless", pair, b"", &f, &mut out);
+    added(b"append nine", pair, b"abcdefghi", &f, &mut out);
+    added(b"append [2]", pair, b"c", &[2u32], &mut out);
+    added(b"append [0,23,21]", pair, b"c", &[0u32, 23, 21], &mut out);
+    added(b"append [0,20]", pair, b"c", &[0u32, 20], &mut out);
+    added(b"append no words", pair, b"c", &f[..0], &mut out);
+}
+
+fn main() {
+    let pair =
+        b"SGL\x01\x00\x02\x00a\x00\x00\x00\x00\x00\x00\x00\x03\x00\x00\x00\x00\x00\x17\x00\x00\x00\x24\x00\x00\x00b2\x00\x00\x00\x00\x00\x00\x01\x00\x01\x00\x00\x00";
+    begins();
+    cuts(pair);
+    faults::fronts();
+    faults::names();
+    faults::words();
+    faults::lookups(pair);
+    appends(pair);
+    refused_appends(pair);
+    many::fullest();
+    many::too_long();
+}
