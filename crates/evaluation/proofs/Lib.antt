@@ -8,4 +8,5 @@ pub mod Applying
 pub mod Stepping
 pub mod Dispatch
 pub mod Looping
+pub mod Preparing
 pub mod Tracing

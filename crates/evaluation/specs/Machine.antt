@@ -14,11 +14,11 @@ use Rattle.signals.specs.Words.{listFault}
 use Rattle.operations.specs.Calls.{exactOfOne, exactOfTwo, exactOfDelay}
 use Rattle.formulas.specs.Tree.{Tree, Leaf, Unary, Binary, leaf, unary, binary, down, up, name, invert, rise, fall, ton, tof, and, or, sr, rs}
 use Rattle.formulas.specs.Code.{Part, operand, one, two, ticksOf, top, code}
-use Rattle.formulas.specs.Formula.{nameAt, partOf}
+use Rattle.formulas.specs.Formula.{nameAt, partOf, codeOf, formulaTree}
 use Rattle.sheets.specs.Names.{wellNamed, among}
 use Rattle.sheets.specs.Reading.{signalsOn, names}
 use Rattle.calls.specs.OnSheet.{exactOn, leafFound}
-use Rattle.calls.specs.Calls.{partFault, partsFault}
+use Rattle.calls.specs.Calls.{partFault, partsFault, readingFault}
 use Rattle.laws.specs.Rewriting.{parts}
 use Rattle.evaluation.specs.declared.Next.{Next}
 
@@ -161,3 +161,20 @@ pub record WorkedOut (sheet before after : List ℕ) (base : ℕ) (t : Tree) (an
   pub answer-is : answer ≡ writtenOf (partsFault sheet (parts t)) (exactOn sheet t)
   pub stands : partsFault sheet (parts t) ≡ 0 → InSlot after base (length (exactOn sheet t)) (exactOn sheet t)
   pub kept : take (256 * base) after ≡ take (256 * base) before
+
+-- the sheet has the names of the parts
+abbrev pub partFound : List ℕ → Part → Bool
+partFound sheet (operand l) = leafFound sheet l
+partFound sheet (one o) = true
+partFound sheet (two o) = true
+
+unfoldable pub allFound : List ℕ → List Part → Bool
+allFound sheet [] = true
+allFound sheet (p ∷ ps) = partFound sheet p && allFound sheet ps
+
+-- what reading a formula for a sheet says: 10, 11, 8, 12 or 13, or how many code words stand for its parts
+pub record Prepared (sheet text codes : List ℕ) (answer : Written) : Type 0 where
+  pub answer-is : answer ≡ writtenOf (readingFault sheet text) (codeOf text)
+  pub few : readingFault sheet text ≡ 0 → length (codeOf text) ≤ 32
+  pub parts-are : readingFault sheet text ≡ 0 → partsIn text codes (length (codeOf text)) ≡ code (formulaTree text)
+  pub known : readingFault sheet text ≡ 0 → AllKnown sheet (code (formulaTree text))
