@@ -1,13 +1,14 @@
 -- Reading a formula for a sheet: its code words, its names on the sheet, its lengths.
 use Prim.Native.Nat.{ℕ, zero, suc, _+_, _/_, _%_, _≤_, _<_, max}
+use native.Mathlib.Decide.{ℕ-discrete}
 use native.Mathlib.Omega.{arith}
 use mathlib.Core.Path.{_≡_, refl, sym, _∙_, ap}
 use mathlib.Core.Bool.{Bool, true, false, cond, not, _&&_, _||_, and-assoc, and-true}
 use mathlib.Core.List.{List, [], _∷_, _++_, map}
 use lib.Dec.{eqb, ltb}
-use lib.ListN.{length, take, drop, length-map}
+use lib.ListN.{length, take, drop, getD, length-map}
 use lib.Seq.{take-at}
-use borrow.Author.Tests.{eq-eqb, ne-eqb, ltb-false}
+use borrow.Author.Tests.{eq-eqb, ne-eqb, ltb-true, ltb-false}
 use Rattle.signals.specs.Moment.{M}
 use Rattle.signals.specs.Answers.{writtenOf}
 use Rattle.signals.specs.declared.Written.{Written}
@@ -33,6 +34,7 @@ use Rattle.calls.proofs.SheetLists.{Sound, AllSound, sheet-sound}
 use Rattle.evaluation.specs.Machine.{leafOf, leafKnown, Known, AllKnown, partsIn, partFound, allFound, Prepared}
 use Rattle.evaluation.proofs.Leaves.{leaf-name, leaf-up, leaf-down}
 use Rattle.evaluation.proofs.PartCodes.{part-leaf-low, part-leaf-high, part-unary, part-binary}
+use Rattle.evaluation.proofs.Stepping.{counted, refused-by}
 use Rattle.evaluation.proofs.Looping.{rest, rest-next, rest-none}
 
 -- names on an accepted sheet are names
@@ -127,3 +129,105 @@ module _ (text : List ℕ) (fine : formulaFault text ≡ 0) where
   parts-there codes old e h =
       let s = code-short in
       rw (e, code-after-front text old fine (omega arith), take-at (codeOf text) (drop (length (codeOf text)) old) (length (codeOf text)) refl) code-is
+
+-- one code word's name
+pub found-name : (sheet text : List ℕ) (w : ℕ) (n : List ℕ) (fault : ℕ) → sheetFault sheet ≡ 0 → w % 16 ≡ 2 → n ≡ nameAt text (w / 256) (w / 16 % 16) → fault ≡ lookupFault sheet n
+    → eqb fault 0 ≡ partFound sheet (partOf text w)
+found-name sheet text w n fault ok e en ef =
+    rw (part-leaf-low text w (omega arith), leaf-name text w e, ef, en) (looked sheet (nameAt text (w / 256) (w / 16 % 16)) ok)
+
+pub found-other : (sheet text : List ℕ) (w : ℕ) → (w % 16 ≡ 2 → ⊥) → true ≡ partFound sheet (partOf text w)
+found-other sheet text w ne = low (ltb (w % 16) 3) refl
+  where
+    leafy : true ≡ leafFound sheet (leafOf text w)
+    leafy = one-or-not (ℕ-discrete (w % 16) 1)
+      where
+        one-or-not : Dec (w % 16 ≡ 1) → true ≡ leafFound sheet (leafOf text w)
+        one-or-not (yes e) = rw (leaf-up text w e)
+        one-or-not (no x) = rw (leaf-down text w ne x)
+
+    high : 3 ≤ w % 16 → (b : Bool) → ltb (w % 16) 12 ≡ b → (c : Bool) → ltb (w % 16) 8 ≡ c → true ≡ partFound sheet (partOf text w)
+    high l true p true q = rw (part-unary text w l (ltb-true (w % 16) 8 q))
+    high l true p false q = rw (part-binary text w (ltb-false (w % 16) 8 q) (ltb-true (w % 16) 12 p))
+    high l false p c q = rw (part-leaf-high text w l (ltb-false (w % 16) 12 p)) leafy
+
+    low : (b : Bool) → ltb (w % 16) 3 ≡ b → true ≡ partFound sheet (partOf text w)
+    low true p = rw (part-leaf-low text w (ltb-true (w % 16) 3 p)) leafy
+    low false p = high (ltb-false (w % 16) 3 p) (ltb (w % 16) 12) refl (ltb (w % 16) 8) refl
+
+-- the loop over all of them
+pub all-of : (sheet text codes : List ℕ) (n : ℕ) → allFound sheet (partsIn text codes n) ≡ allFound sheet (rest text codes n 0)
+unfolding partsIn rest
+all-of sheet text codes n = refl
+
+pub next-found : (sheet text codes : List ℕ) (n i : ℕ) → n ≤ length codes → i < n → (b : Bool) → b ≡ partFound sheet (partOf text (getD codes i 0))
+    → allFound sheet (rest text codes n i) ≡ (b && allFound sheet (rest text codes n (i + 1)))
+unfolding allFound
+next-found sheet text codes n i h l b e = rw (rest-next text codes n i h l, e)
+
+pub none-left : (sheet text codes : List ℕ) (n i : ℕ) → n ≤ length codes → n ≤ i → allFound sheet (rest text codes n i) ≡ true
+unfolding allFound
+none-left sheet text codes n i h l = rw (rest-none text codes n i h l)
+
+-- the outcomes of preparing
+module _ (sheet text codes old : List ℕ) (answer : Written) (ok : sheetFault sheet ≡ 0) (long : length old ≡ 32) (a : answer ≡ writtenOf (formulaFault text) (codeOf text)) (e : codes ≡ codeAfter text old) where
+  pub prepare-refused : (f : ℕ) → answer ≡ Refused f → Prepared sheet text codes (Refused f)
+  unfolding readingFault
+  prepare-refused f r =
+      let q = refused-by (formulaFault text) (codeOf text) f (sym a ∙ r) in
+      let x : formulaFault text ≡ 0 → ⊥ = λ z. q .1 (sym (q .0) ∙ z) in
+      let s : readingFault sheet text ≡ formulaFault text = first-is (formulaFault text) _ x in
+      record {
+        answer-is = sym r ∙ a ∙ rw s refl;
+        few = λ z. absurd (x (sym s ∙ z));
+        parts-are = λ z. absurd (x (sym s ∙ z));
+        known = λ z. absurd (x (sym s ∙ z))
+      }
+
+  module _ (n : ℕ) (r : answer ≡ Count n) where
+    fine-text : formulaFault text ≡ 0
+    fine-text = counted (formulaFault text) (codeOf text) n (sym a ∙ r) .0
+
+    pub count-is : n ≡ length (codeOf text)
+    count-is = counted (formulaFault text) (codeOf text) n (sym a ∙ r) .1
+
+    pub count-short : n ≤ 32
+    count-short = let s = code-short text fine-text in let k = count-is in omega arith
+
+    there : partsIn text codes (length (codeOf text)) ≡ code (formulaTree text)
+    there = parts-there text fine-text codes old e (omega arith)
+
+    names-are : (b : Bool) → b ≡ allFound sheet (partsIn text codes n) → b ≡ namesFound sheet (formulaTree text)
+    names-are b h = h ∙ ap (λ k. allFound sheet (partsIn text codes k)) count-is ∙ ap (allFound sheet) there ∙ found-tree sheet (formulaTree text)
+
+    pub prepare-found : (b : Bool) → b ≡ allFound sheet (partsIn text codes n) → b ≡ true → Prepared sheet text codes (Count n)
+    unfolding readingFault
+    prepare-found b h t =
+        let f : namesFound sheet (formulaTree text) ≡ true = sym (names-are b h) ∙ t in
+        let s : readingFault sheet text ≡ 0 = next-is (formulaFault text) _ fine-text ∙ rw f refl in
+        record {
+          answer-is = sym r ∙ a ∙ rw (s, fine-text) refl;
+          few = λ z. code-short text fine-text;
+          parts-are = λ z. there;
+          known = λ z. known-tree sheet ok (formulaTree text) f (lengths-small text fine-text)
+        }
+
+    pub prepare-lacking : (b : Bool) → b ≡ allFound sheet (partsIn text codes n) → b ≡ false → Prepared sheet text codes (Refused 13)
+    unfolding readingFault writtenOf
+    prepare-lacking b h t =
+        let f : namesFound sheet (formulaTree text) ≡ false = sym (names-are b h) ∙ t in
+        let s : readingFault sheet text ≡ 13 = next-is (formulaFault text) _ fine-text ∙ rw f refl in
+        record {
+          answer-is = rw s refl;
+          few = λ z. absurd (let q : _≡_ {A = ℕ} 13 0 = sym s ∙ z in omega arith);
+          parts-are = λ z. absurd (let q : _≡_ {A = ℕ} 13 0 = sym s ∙ z in omega arith);
+          known = λ z. absurd (let q : _≡_ {A = ℕ} 13 0 = sym s ∙ z in omega arith)
+        }
+
+pub next-true : (sheet text codes : List ℕ) (n i : ℕ) → n ≤ length codes → i < n → (b : Bool) → b ≡ partFound sheet (partOf text (getD codes i 0)) → b ≡ true
+    → allFound sheet (rest text codes n i) ≡ allFound sheet (rest text codes n (i + 1))
+next-true sheet text codes n i h l b e t = next-found sheet text codes n i h l b e ∙ rw t
+
+pub next-false : (sheet text codes : List ℕ) (n i : ℕ) → n ≤ length codes → i < n → (b : Bool) → b ≡ partFound sheet (partOf text (getD codes i 0)) → b ≡ false
+    → allFound sheet (rest text codes n i) ≡ false
+next-false sheet text codes n i h l b e t = next-found sheet text codes n i h l b e ∙ rw t

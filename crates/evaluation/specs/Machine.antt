@@ -11,14 +11,14 @@ use Rattle.signals.specs.declared.Written.{Written}
 use Rattle.signals.specs.Moment.{M}
 use Rattle.signals.specs.Signal.{Table, tableOf, NOT, rising, falling, SR, RS, TON, TOF, connective}
 use Rattle.signals.specs.Words.{listFault}
-use Rattle.operations.specs.Calls.{exactOfOne, exactOfTwo, exactOfDelay}
+use Rattle.operations.specs.Calls.{firstOf, exactOfOne, exactOfTwo, exactOfDelay}
 use Rattle.formulas.specs.Tree.{Tree, Leaf, Unary, Binary, leaf, unary, binary, down, up, name, invert, rise, fall, ton, tof, and, or, sr, rs}
 use Rattle.formulas.specs.Code.{Part, operand, one, two, ticksOf, top, code}
 use Rattle.formulas.specs.Formula.{nameAt, partOf, codeOf, formulaTree}
 use Rattle.sheets.specs.Names.{wellNamed, among}
 use Rattle.sheets.specs.Reading.{signalsOn, names}
 use Rattle.calls.specs.OnSheet.{exactOn, leafFound}
-use Rattle.calls.specs.Calls.{partFault, partsFault, readingFault}
+use Rattle.calls.specs.Calls.{partFault, partsFault, readingFault, workingFault, roomFault, wordsOn}
 use Rattle.laws.specs.Rewriting.{parts}
 use Rattle.evaluation.specs.declared.Next.{Next}
 
@@ -178,3 +178,14 @@ pub record Prepared (sheet text codes : List ℕ) (answer : Written) : Type 0 wh
   pub few : readingFault sheet text ≡ 0 → length (codeOf text) ≤ 32
   pub parts-are : readingFault sheet text ≡ 0 → partsIn text codes (length (codeOf text)) ≡ code (formulaTree text)
   pub known : readingFault sheet text ≡ 0 → AllKnown sheet (code (formulaTree text))
+
+-- n code words stand for the parts of the formula that the text is
+pub record Coded (sheet text codes : List ℕ) (n : ℕ) : Type 0 where
+  pub few : n ≤ 32
+  pub enough : n ≤ length codes
+  pub parts-are : partsIn text codes n ≡ code (formulaTree text)
+  pub known : AllKnown sheet (code (formulaTree text))
+
+-- the faults that come once a formula is read and the work area is long enough: 5 or 6, then 7
+unfoldable pub runFault : List ℕ → List ℕ → ℕ → ℕ
+runFault sheet text room = firstOf (workingFault sheet text) (roomFault (wordsOn sheet text) room)

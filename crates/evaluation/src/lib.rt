@@ -11,7 +11,10 @@ ghost use Rattle.signals.specs.Moment.{M};
 ghost use Rattle.signals.specs.Words.{listFault};
 ghost use Rattle.formulas.specs.Tree.{Tree};
 ghost use Rattle.formulas.specs.Code.{ticksOf, operand, one, two, code};
-ghost use Rattle.evaluation.specs.Machine.{leafOf, unaryOf, binaryOf, leafKnown, Loaded, Applied, unaryExact, binaryExact, Room, Ready, Steps, Plan, partsIn, WorkedOut};
+ghost use Rattle.evaluation.specs.Machine.{leafOf, unaryOf, binaryOf, leafKnown, Loaded, Applied, unaryExact, binaryExact, Room, Ready, Steps, Plan, partsIn, WorkedOut, partFound, allFound, Prepared, Coded, runFault};
+ghost use Rattle.evaluation.specs.Work.{firstFault, firstClaimFault};
+ghost use Rattle.signals.specs.Answers.{writtenOf, outputOf};
+ghost use Rattle.calls.specs.Calls.{roomFault, wordsOn, callAnswer, callOutput, claimAnswer};
 use signals::Length;
 use signals::Written;
 
@@ -317,4 +320,97 @@ fn work_out(
         i += 1;
     }
     Written::Count(counts[0])
+}
+
+// The sheet has the part's name, if it is one.
+fn found(sheet: &[u8], text: &[u8], code: u64) -> bool
+    requires { ⌜ sheetFault (now sheet) ≡ 0 ⌝ }
+    ensures { λ r. ⌜ r ≡ partFound (now (sheet .entry)) (partOf (now (text .entry)) code) ⌝ }
+{
+    if code % 16 == 2 {
+        let place = (code / 256) as usize;
+        let count = (code / 16 % 16) as usize;
+        let name = name_of(text, place, count);
+        return sheets::lookup_fault(sheet, name) == 0;
+    }
+    true
+}
+
+// The sheet has the names of all the parts.
+fn names_found(sheet: &[u8], text: &[u8], codes: &[u64], n: usize) -> bool
+    requires { ⌜ (n ≤ length (now codes)) × (sheetFault (now sheet) ≡ 0) ⌝ }
+    ensures { λ r. ⌜ r ≡ allFound (now (sheet .entry)) (partsIn (now (text .entry)) (now (codes .entry)) n) ⌝ }
+{
+    let mut i: usize = 0;
+    while i < n {
+        if found(sheet, text, codes[i]) {
+            i += 1;
+        } else {
+            return false;
+        }
+    }
+    true
+}
+
+// A formula read for a sheet: 10, 11, 8, 12, 13, or how many code words stand for its parts.
+fn prepare(sheet: &[u8], text: &[u8], codes: &mut [u64; 32]) -> Written
+    requires { ⌜ (length (now codes) ≡ 32) × (sheetFault (now sheet) ≡ 0) ⌝ }
+    ensures { λ r. ⌜ Prepared (now (sheet .entry)) (now (text .entry)) (now (codes .exit)) r × (length (now (codes .exit)) ≡ 32) ⌝ }
+{
+    let answer = formulas::read(text, codes);
+    match answer {
+        Written::Count(n) => {
+            if names_found(sheet, text, codes, n) {
+                Written::Count(n)
+            } else {
+                Written::Refused(13)
+            }
+        }
+        Written::Refused(fault) => Written::Refused(fault),
+    }
+}
+
+// The words of a list at the front of the work area, handed over if the output is long enough.
+fn hand_over(work: &[u32], count: usize, out: &mut [u32]) -> Written
+    requires { ⌜ count ≤ length (now work) ⌝ }
+    ensures { λ r. ⌜ (r ≡ writtenOf (roomFault (take count (now (work .entry))) (length (now (out .entry)))) (take count (now (work .entry)))) × (now (out .exit) ≡ outputOf (roomFault (take count (now (work .entry))) (length (now (out .entry)))) (take count (now (work .entry))) (now (out .entry))) ⌝ }
+{
+    if out.len() < count {
+        return Written::Refused(7);
+    }
+    put_list(out, 0, work, count);
+    Written::Count(count)
+}
+
+// A formula whose code words are read, worked out in a work area that is long enough.
+fn run_formula(sheet: &[u8], text: &[u8], codes: &[u64], n: usize, work: &mut [u32], out: &mut [u32]) -> Written
+    requires { ⌜ (8192 ≤ length (now work)) × (sheetFault (now sheet) ≡ 0) × Coded (now sheet) (now text) (now codes) n ⌝ }
+    ensures { λ r. ⌜ (r ≡ writtenOf (runFault (now (sheet .entry)) (now (text .entry)) (length (now (out .entry)))) (wordsOn (now (sheet .entry)) (now (text .entry)))) × (now (out .exit) ≡ outputOf (runFault (now (sheet .entry)) (now (text .entry)) (length (now (out .entry)))) (wordsOn (now (sheet .entry)) (now (text .entry))) (now (out .entry))) ⌝ }
+{
+    let answer = work_out(sheet, text, codes, n, work, 0);
+    match answer {
+        Written::Count(count) => hand_over(work, count, out),
+        Written::Refused(fault) => Written::Refused(fault),
+    }
+}
+
+// The formula call: sheet faults; 10, 11, 8, 12, 13; 18; 5 or 6 at the first part that meets one; 7.
+pub fn evaluate(sheet: &[u8], formula: &[u8], work: &mut [u32], out: &mut [u32]) -> Written
+    ensures { λ r. ⌜ (r ≡ callAnswer (now (sheet .entry)) (now (formula .entry)) (length (now (work .entry))) (now (out .entry))) × (now (out .exit) ≡ callOutput (now (sheet .entry)) (now (formula .entry)) (length (now (work .entry))) (now (out .entry))) × ((firstFault (now (sheet .entry)) (now (formula .entry)) (length (now (work .entry))) ≡ 0 → ⊥) → now (work .exit) ≡ now (work .entry)) ⌝ }
+{
+    let fault = sheets::sheet_fault(sheet);
+    if fault != 0 {
+        return Written::Refused(fault);
+    }
+    let mut codes = [0u64; 32];
+    let parts = prepare(sheet, formula, &mut codes);
+    match parts {
+        Written::Count(n) => {
+            if work.len() < 8192 {
+                return Written::Refused(18);
+            }
+            run_formula(sheet, formula, &codes, n, work, out)
+        }
+        Written::Refused(refusal) => Written::Refused(refusal),
+    }
 }
