@@ -9,4 +9,5 @@ pub mod Stepping
 pub mod Dispatch
 pub mod Looping
 pub mod Preparing
+pub mod Calling
 pub mod Tracing

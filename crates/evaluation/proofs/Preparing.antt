@@ -181,7 +181,7 @@ module _ (sheet text codes old : List ℕ) (answer : Written) (ok : sheetFault s
         answer-is = sym r ∙ a ∙ rw s refl;
         few = λ z. absurd (x (sym s ∙ z));
         parts-are = λ z. absurd (x (sym s ∙ z));
-        known = λ z. absurd (x (sym s ∙ z))
+        known = λ z. absurd (x (sym s ∙ z));
       }
 
   module _ (n : ℕ) (r : answer ≡ Count n) where
@@ -209,7 +209,7 @@ module _ (sheet text codes old : List ℕ) (answer : Written) (ok : sheetFault s
           answer-is = sym r ∙ a ∙ rw (s, fine-text) refl;
           few = λ z. code-short text fine-text;
           parts-are = λ z. there;
-          known = λ z. known-tree sheet ok (formulaTree text) f (lengths-small text fine-text)
+          known = λ z. known-tree sheet ok (formulaTree text) f (lengths-small text fine-text);
         }
 
     pub prepare-lacking : (b : Bool) → b ≡ allFound sheet (partsIn text codes n) → b ≡ false → Prepared sheet text codes (Refused 13)
@@ -221,7 +221,7 @@ module _ (sheet text codes old : List ℕ) (answer : Written) (ok : sheetFault s
           answer-is = rw s refl;
           few = λ z. absurd (let q : _≡_ {A = ℕ} 13 0 = sym s ∙ z in omega arith);
           parts-are = λ z. absurd (let q : _≡_ {A = ℕ} 13 0 = sym s ∙ z in omega arith);
-          known = λ z. absurd (let q : _≡_ {A = ℕ} 13 0 = sym s ∙ z in omega arith)
+          known = λ z. absurd (let q : _≡_ {A = ℕ} 13 0 = sym s ∙ z in omega arith);
         }
 
 pub next-true : (sheet text codes : List ℕ) (n i : ℕ) → n ≤ length codes → i < n → (b : Bool) → b ≡ partFound sheet (partOf text (getD codes i 0)) → b ≡ true

@@ -383,7 +383,14 @@ fn hand_over(work: &[u32], count: usize, out: &mut [u32]) -> Written
 }
 
 // A formula whose code words are read, worked out in a work area that is long enough.
-fn run_formula(sheet: &[u8], text: &[u8], codes: &[u64], n: usize, work: &mut [u32], out: &mut [u32]) -> Written
+fn run_formula(
+    sheet: &[u8],
+    text: &[u8],
+    codes: &[u64],
+    n: usize,
+    work: &mut [u32],
+    out: &mut [u32],
+) -> Written
     requires { ⌜ (8192 ≤ length (now work)) × (sheetFault (now sheet) ≡ 0) × Coded (now sheet) (now text) (now codes) n ⌝ }
     ensures { λ r. ⌜ (r ≡ writtenOf (runFault (now (sheet .entry)) (now (text .entry)) (length (now (out .entry)))) (wordsOn (now (sheet .entry)) (now (text .entry)))) × (now (out .exit) ≡ outputOf (runFault (now (sheet .entry)) (now (text .entry)) (length (now (out .entry)))) (wordsOn (now (sheet .entry)) (now (text .entry))) (now (out .entry))) ⌝ }
 {

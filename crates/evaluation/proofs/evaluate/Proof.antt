@@ -1,59 +1,46 @@
+-- `evaluation::evaluate` meets its contract: each return is the first fault in document 01's order, or the words.
+use native.Mathlib.Omega.{arith}
+use mathlib.Core.Path.{_≡_, refl, sym, _∙_, ap}
+use Rattle.evaluation.proofs.Calling.{call-sheet, call-reading, call-work, call-run, coded, read-fine, read-refused}
 use borrow.Author.Needs.{needs}
 use Rattle.evaluation.proofs.evaluate.Statement.{statement}
 use Rattle.evaluation.proofs.evaluate.Tie as tie
-use Rattle.evaluation.proofs.evaluate.Reads as reads
-use Rattle.evaluation.proofs.evaluate.Lts as lts
-use Rattle.evaluation.proofs.prepare.Reads as prepare-reads
-use Rattle.evaluation.proofs.run_formula.Reads as run-formula-reads
-use Rattle.sheets.proofs.sheet_fault.Reads as sheet-fault-reads
 
--- src/lib.rt:401:9
 sheet-fault-requires : tie.Need-sheet-fault-requires
 sheet-fault-requires c κs = search needs
 
--- src/lib.rt:403:9
 returns : tie.Need-returns
-returns c = ?
+returns c = call-sheet (c .before .before .before .before .before .before .args .sheet .now) (c .before .before .before .before .before .before .args .formula .now) (c .before .before .before .before .before .before .args .work .now) (c .before .before .before .before .before .before .args .out .now) _ (c .before .sheet-fault .ensures) (c .if1 .taken)
 
--- src/lib.rt:406:9
 prepare-requires : tie.Need-prepare-requires
 prepare-requires c κs = search needs
 
--- src/lib.rt:408:24
 enum-known-parts : tie.Need-enum-known-parts
 enum-known-parts c = search needs
 
--- src/lib.rt:410:17
 returns-2 : tie.Need-returns-2
-returns-2 c = ?
+returns-2 c = call-work (c .before .before .before .before .before .before .before .before .before .before .before .before .args .sheet .now) (c .before .before .before .before .before .before .before .before .before .before .before .before .args .formula .now) (c .before .before .before .before .before .before .before .before .before .before .before .before .args .work .now) (c .before .before .before .before .before .before .before .before .before .before .before .before .args .out .now) (sym (c .before .before .before .before .before .before .before .sheet-fault .ensures) ∙ c .before .before .before .before .before .before .if1 .left) (read-fine _ _ _ _ _ (c .before .before .before .before .prepare .ensures .0) (c .before .before .parts .given .1)) (c .if2 .taken)
 
--- src/lib.rt:412:41
 slice-aggregate-run-formula : tie.Need-slice-aggregate-run-formula
 slice-aggregate-run-formula c = search needs
 
--- src/lib.rt:412:13
 run-formula-requires : tie.Need-run-formula-requires
-run-formula-requires c κs = ?
+run-formula-requires c κs = (c .before .before .before .if2 .left, (sym (c .before .before .before .before .before .before .before .before .before .before .sheet-fault .ensures) ∙ c .before .before .before .before .before .before .before .before .before .if1 .left), coded _ _ _ _ _ (c .before .before .before .before .before .before .before .prepare .ensures .0) (c .before .before .before .before .before .parts .given .1) (c .before .before .before .before .before .before .before .prepare .ensures .1))
 
--- src/lib.rt:414:26
 enum-known-parts-2 : tie.Need-enum-known-parts-2
 enum-known-parts-2 c = search needs
 
--- src/lib.rt:398:1
 same-length : tie.Need-same-length
 same-length c = search needs
 
--- src/lib.rt:398:1
 same-length-2 : tie.Need-same-length-2
 same-length-2 c = search needs
 
--- src/lib.rt:398:1
 returns-3 : tie.Need-returns-3
-returns-3 c = ?
+returns-3 c = call-run (c .before .before .before .before .before .before .before .before .before .before .before .before .before .before .before .before .before .before .before .before .args .sheet .now) (c .before .before .before .before .before .before .before .before .before .before .before .before .before .before .before .before .before .before .before .before .args .formula .now) (c .before .before .before .before .before .before .before .before .before .before .before .before .before .before .before .before .before .before .before .before .args .work .now) (c .before .before .before .before .before .before .before .before .before .before .before .before .before .before .before .before .before .before .before .before .args .out .now) (sym (c .before .before .before .before .before .before .before .before .before .before .before .before .before .before .before .sheet-fault .ensures) ∙ c .before .before .before .before .before .before .before .before .before .before .before .before .before .before .if1 .left) (read-fine _ _ _ _ _ (c .before .before .before .before .before .before .before .before .before .before .before .before .prepare .ensures .0) (c .before .before .before .before .before .before .before .before .before .before .parts .given .1)) (c .before .before .before .before .before .before .before .before .if2 .left) _ _ _ (c .before .before .before .before .run-formula .ensures)
 
--- src/lib.rt:398:1
 returns-4 : tie.Need-returns-4
-returns-4 c = ?
+returns-4 c = let q = read-refused _ _ _ _ _ (c .before .before .before .prepare .ensures .0) (c .before .parts2 .given .1) in call-reading (c .before .before .before .before .before .before .before .before .before .before .before .args .sheet .now) (c .before .before .before .before .before .before .before .before .before .before .before .args .formula .now) (c .before .before .before .before .before .before .before .before .before .before .before .args .work .now) (c .before .before .before .before .before .before .before .before .before .before .before .args .out .now) (sym (c .before .before .before .before .before .before .sheet-fault .ensures) ∙ c .before .before .before .before .before .if1 .left) _ (q .0) (q .1)
 
 pub evaluate-spec : {M : Type 1} → statement M
 evaluate-spec =
