@@ -10,4 +10,5 @@ pub mod Dispatch
 pub mod Looping
 pub mod Preparing
 pub mod Calling
+pub mod Claiming
 pub mod Tracing
