@@ -241,12 +241,12 @@ fn on_two(
     let w = &work[..];
     let answer = apply_binary(code, &w[at..end], &w[above..last], buffer);
     match answer {
-        Written::Count(count) => {
-            put_list(work, at, buffer, count);
+        Written::Count(total) => {
+            put_list(work, at, buffer, total);
             Next {
                 fault: 0,
                 height: second,
-                count,
+                count: total,
             }
         }
         Written::Refused(fault) => Next {
