@@ -9,7 +9,8 @@ use lib.Dec.{leb, ltb, eqb}
 use lib.ListN.{length, getD, drop, drop-of-length-le}
 use lib.Seq.{drop-cons}
 use borrow.Author.Tests.{eqb-true, eqb-false, eq-eqb, ne-eqb, le-leb, lt-leb, lt-ltb, le-ltb}
-use Rattle.signals.specs.Words.{dateOf, valueAt, valueAfter, headValue, changesNothing, wordsFault, listFault}
+use Rattle.lists.specs.Reading.{headFault}
+use Rattle.signals.specs.Words.{dateOf, valueAt, valueAfter, headValue, changesNothing, wordsFault, listFault, datesFault, tidyFault}
 
 pub both-up : (w : ℕ) → eqb (w % 4) 3 ≡ changesNothing true w
 unfolding changesNothing valueAt valueAfter
@@ -52,22 +53,74 @@ pub done : (l : List ℕ) (passed last : ℕ) (before : Bool) → length l ≤ p
 unfolding wordsFault
 done l passed last before h = rw (drop-of-length-le l {i = passed} h)
 
-pub empty-1 : (l : List ℕ) → length l ≡ 0 → listFault l ≡ 1
-unfolding listFault
+-- the same for a list to be tidied
+module _ (l : List ℕ) (passed last : ℕ) (h : passed < length l) where
+  pub dates-3 : (d : ℕ) → d ≡ dateOf (getD l passed 0) → d ≤ last → datesFault last (drop passed l) ≡ 3
+  unfolding datesFault
+  dates-3 d q e = rw (drop-cons l passed 0 h, le-leb (dateOf (getD l passed 0)) last (omega arith))
+
+  pub dates-on : (d : ℕ) → d ≡ dateOf (getD l passed 0) → last < d → datesFault last (drop passed l) ≡ datesFault d (drop (passed + 1) l)
+  unfolding datesFault
+  dates-on d q e = rw (add-one, drop-cons l passed 0 h, lt-leb (dateOf (getD l passed 0)) last (omega arith), ← q)
+
+pub dates-done : (l : List ℕ) (passed last : ℕ) → length l ≤ passed → datesFault last (drop passed l) ≡ 0
+unfolding datesFault
+dates-done l passed last h = rw (drop-of-length-le l {i = passed} h)
+
+-- the length and the first word
+pub empty-1 : (l : List ℕ) → length l ≡ 0 → headFault l ≡ 1
+unfolding headFault
 empty-1 [] e = refl
 empty-1 (w ∷ ws) e = absurd (omega arith)
 
-pub long-1 : (l : List ℕ) → 256 < length l → listFault l ≡ 1
-unfolding listFault
+pub long-1 : (l : List ℕ) → 256 < length l → headFault l ≡ 1
+unfolding headFault
 long-1 [] e = refl
 long-1 (w ∷ ws) e = rw (lt-ltb 256 (length (w ∷ ws)) e)
 
-pub head-2 : (l : List ℕ) → (length l ≡ 0 → ⊥) → length l ≤ 256 → 1 < getD l 0 0 → listFault l ≡ 2
-unfolding listFault
+pub head-2 : (l : List ℕ) → (length l ≡ 0 → ⊥) → length l ≤ 256 → 1 < getD l 0 0 → headFault l ≡ 2
+unfolding headFault
 head-2 [] n s h = absurd (n refl)
 head-2 (w ∷ ws) n s h = rw (le-ltb 256 (length (w ∷ ws)) s, lt-ltb 1 w h)
 
-pub words-3-4 : (l : List ℕ) → (length l ≡ 0 → ⊥) → length l ≤ 256 → getD l 0 0 ≤ 1 → listFault l ≡ wordsFault 0 (headValue (getD l 0 0)) (drop 1 l)
-unfolding listFault
-words-3-4 [] n s h = absurd (n refl)
-words-3-4 (w ∷ ws) n s h = rw (le-ltb 256 (length (w ∷ ws)) s, le-ltb 1 w h)
+pub head-0 : (l : List ℕ) → (length l ≡ 0 → ⊥) → length l ≤ 256 → getD l 0 0 ≤ 1 → headFault l ≡ 0
+unfolding headFault
+head-0 [] n s h = absurd (n refl)
+head-0 (w ∷ ws) n s h = rw (le-ltb 256 (length (w ∷ ws)) s, le-ltb 1 w h)
+
+pub head-some : (l : List ℕ) → headFault l ≡ 0 → 0 < length l
+unfolding headFault
+head-some [] z = absurd (omega arith)
+head-some (w ∷ ws) z = omega arith
+
+-- the tests of the head before those of the words after it
+head-first : (a b : Bool) (r : ℕ) → (_≡_ {A = ℕ} (cond a 1 (cond b 2 0)) 0 → ⊥) → _≡_ {A = ℕ} (cond a 1 (cond b 2 0)) (cond a 1 (cond b 2 r))
+head-first true b r n = refl
+head-first false true r n = refl
+head-first false false r n = absurd (n refl)
+
+head-past : (a b : Bool) (r : ℕ) → _≡_ {A = ℕ} (cond a 1 (cond b 2 0)) 0 → r ≡ cond a 1 (cond b 2 r)
+head-past true b r z = absurd (omega arith)
+head-past false true r z = absurd (omega arith)
+head-past false false r z = refl
+
+module _ (fault : ℕ) where
+  pub list-head : (l : List ℕ) → fault ≡ headFault l → (fault ≡ 0 → ⊥) → fault ≡ listFault l
+  unfolding headFault listFault
+  list-head [] e n = e
+  list-head (h ∷ ws) e n = e ∙ head-first (ltb 256 (length (h ∷ ws))) (ltb 1 h) (wordsFault 0 (headValue h) ws) (λ z. n (e ∙ z))
+
+  pub list-words : (l : List ℕ) → fault ≡ headFault l → fault ≡ 0 → wordsFault 0 (headValue (getD l 0 0)) (drop 1 l) ≡ listFault l
+  unfolding headFault listFault
+  list-words [] e z = absurd (omega arith)
+  list-words (h ∷ ws) e z = head-past (ltb 256 (length (h ∷ ws))) (ltb 1 h) (wordsFault 0 (headValue h) ws) (sym e ∙ z)
+
+  pub tidy-head : (l : List ℕ) → fault ≡ headFault l → (fault ≡ 0 → ⊥) → fault ≡ tidyFault l
+  unfolding headFault tidyFault
+  tidy-head [] e n = e
+  tidy-head (h ∷ ws) e n = e ∙ head-first (ltb 256 (length (h ∷ ws))) (ltb 1 h) (datesFault 0 ws) (λ z. n (e ∙ z))
+
+  pub tidy-dates : (l : List ℕ) → fault ≡ headFault l → fault ≡ 0 → datesFault 0 (drop 1 l) ≡ tidyFault l
+  unfolding headFault tidyFault
+  tidy-dates [] e z = absurd (omega arith)
+  tidy-dates (h ∷ ws) e z = head-past (ltb 256 (length (h ∷ ws))) (ltb 1 h) (datesFault 0 ws) (sym e ∙ z)

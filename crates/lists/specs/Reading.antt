@@ -1,7 +1,7 @@
 -- Reading along a list's words: the next word's date, and what passing a date gives.
 use Prim.Native.Nat.{ℕ}
 use mathlib.Core.Bool.{cond}
-use mathlib.Core.List.{List}
+use mathlib.Core.List.{List, [], _∷_}
 use lib.Dec.{ltb}
 use lib.ListN.{length, getD}
 use Rattle.signals.specs.Words.{dateOf}
@@ -25,3 +25,8 @@ stepPast l passed date =
       after = afterDate l passed date;
       passed = passedDate l passed date;
     }
+
+-- the fault that a list's length and first word give, 0 for none
+unfoldable pub headFault : List ℕ → ℕ
+headFault [] = 1
+headFault (h ∷ ws) = cond (ltb 256 (length (h ∷ ws))) 1 (cond (ltb 1 h) 2 0)

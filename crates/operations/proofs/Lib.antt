@@ -5,3 +5,12 @@ pub mod Copying
 pub mod MergeCases
 pub mod MergeHeld
 pub mod MergeTurn
+pub mod JudgedCalls
+pub mod OneOperand
+pub mod DelayCases
+pub mod DelaySignals
+pub mod DelayTiming
+pub mod DelayUpcoming
+pub mod DelayTurn
+pub mod DelayLoop
+pub mod DelayJudged

@@ -1,9 +1,12 @@
 -- Each operation on lists as a call: its faults in document 01's order, its exact answer, its output.
 use Prim.Native.Nat.{ℕ, _+_, max}
+use mathlib.Core.Path.{_≡_}
 use mathlib.Core.Bool.{Bool, true, false, cond, _||_}
 use mathlib.Core.List.{List, [], _∷_}
 use lib.Dec.{ltb, eqb}
 use lib.ListN.{length}
+use Rattle.signals.specs.Answers.{writtenOf, outputOf}
+use Rattle.signals.specs.declared.Written.{Written}
 use Rattle.signals.specs.Moment.{M}
 use Rattle.signals.specs.Signal.{Signal, Table, NOT, connective, rising, falling, SR, RS, TON, TOF}
 use Rattle.signals.specs.Words.{dateOf, listFault, signalOf, lastDate, listOf}
@@ -51,3 +54,19 @@ faultOfTwo operation a b n = firstOf (pairFault a b) (answerFault (exactOfTwo op
 unfoldable pub faultOfDelay : (Signal → Signal) → ℕ → List ℕ → ℕ → ℕ
 faultOfDelay operation d a n =
     firstOf (listFault a) (firstOf (lengthFault d) (answerFault (exactOfDelay operation d a) n))
+
+-- The whole of a call: its answer and the output at exit, from the operands and the output at entry.
+abbrev pub CallOfOne : (Signal → Signal) → List ℕ → List ℕ → Written → List ℕ → Type 0
+CallOfOne operation a out answer after =
+    (answer ≡ writtenOf (faultOfOne operation a (length out)) (exactOfOne operation a))
+    × (after ≡ outputOf (faultOfOne operation a (length out)) (exactOfOne operation a) out)
+
+abbrev pub CallOfTwo : (Signal → Signal → Signal) → List ℕ → List ℕ → List ℕ → Written → List ℕ → Type 0
+CallOfTwo operation a b out answer after =
+    (answer ≡ writtenOf (faultOfTwo operation a b (length out)) (exactOfTwo operation a b))
+    × (after ≡ outputOf (faultOfTwo operation a b (length out)) (exactOfTwo operation a b) out)
+
+abbrev pub CallOfDelay : (Signal → Signal) → ℕ → List ℕ → List ℕ → Written → List ℕ → Type 0
+CallOfDelay operation d a out answer after =
+    (answer ≡ writtenOf (faultOfDelay operation d a (length out)) (exactOfDelay operation d a))
+    × (after ≡ outputOf (faultOfDelay operation d a (length out)) (exactOfDelay operation d a) out)

@@ -2,3 +2,5 @@
 pub mod Calls
 pub mod Building
 pub mod Merging
+pub mod Slots
+pub mod Delay

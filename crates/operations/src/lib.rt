@@ -4,14 +4,25 @@ ghost use mathlib.Core.List.{List, _++_};
 ghost use Prim.Native.Nat.{ℕ, _<_, _≤_, min, max};
 ghost use lib.ListN.{length, set, take, drop};
 ghost use mathlib.Core.Bool.{not, _&&_, _||_};
-ghost use Rattle.signals.specs.Signal.{num, cell};
+ghost use Rattle.signals.specs.Signal.{num, cell, NOT, connective, rising, falling, SR, RS};
 ghost use Rattle.signals.specs.LatchSteps.{atStep, gapStep, shown};
 ghost use Rattle.signals.specs.Words.{word, listFault, listOf, signalOf, lastDate};
 ghost use Rattle.signals.specs.Answers.{writtenOf, outputOf};
-ghost use Rattle.operations.specs.Calls.{answerFault};
+ghost use Rattle.operations.specs.Calls.{
+  answerFault,
+  pairFault,
+  exactOfOne,
+  exactOfTwo,
+  CallOfOne,
+  CallOfTwo,
+};
+ghost use Rattle.operations.specs.Slots.{CallInSlot};
 ghost use Rattle.operations.specs.Building.{idle, emitted, emittedIn, begun, Built};
 ghost use Rattle.operations.specs.Merging.{latchFirst, latchShown, firstShown, dateShown, merged};
 use lists::Step;
+
+pub mod delay;
+
 use signals::Date;
 use signals::M;
 use signals::Written;
@@ -320,4 +331,158 @@ fn merge(
         j = q.passed;
     }
     made
+}
+
+// The lists' faults, first operand first.
+fn pair_fault(a: &[u32], b: &[u32]) -> u32
+    ensures { λ r. ⌜ r ≡ pairFault (now (a .entry)) (now (b .entry)) ⌝ }
+{
+    let fault = lists::list_fault(a);
+    if fault != 0 {
+        return fault;
+    }
+    lists::list_fault(b)
+}
+
+// The answer in a slot of 256 words or more, judged (5, 6).
+fn finish(made: Made) -> Written
+    ensures { λ r. ⌜ ((exact old slot : List ℕ) → 256 ≤ length old → Built exact old slot made → r ≡ writtenOf (answerFault exact (length old)) exact) ⌝ }
+{
+    let count = made.count;
+    if 256 < count {
+        return Written::Refused(5);
+    }
+    if made.late {
+        return Written::Refused(6);
+    }
+    Written::Count(count)
+}
+
+// A merge of two lists that are judged first, its answer delivered to an output.
+fn operate(
+    operation: Operation,
+    table: [[bool; 2]; 2],
+    a: &[u32],
+    b: &[u32],
+    out: &mut [u32],
+) -> Written
+    ensures { λ r. ⌜ CallOfTwo (merged operation table) (now (a .entry)) (now (b .entry)) (now (out .entry)) r (now (out .exit)) ⌝ }
+{
+    let fault = pair_fault(a, b);
+    if fault != 0 {
+        return Written::Refused(fault);
+    }
+    let mut slot = [0u32; 256];
+    let made = merge(operation, table, a, b, &mut slot);
+    deliver(&slot, made, out)
+}
+
+// The same in a slot that is lent.
+fn operate_in(
+    operation: Operation,
+    table: [[bool; 2]; 2],
+    a: &[u32],
+    b: &[u32],
+    slot: &mut [u32],
+) -> Written
+    ensures { λ r. ⌜ CallInSlot (pairFault (now (a .entry)) (now (b .entry))) (exactOfTwo (merged operation table) (now (a .entry)) (now (b .entry))) (now (slot .entry)) r (now (slot .exit)) ⌝ }
+{
+    let fault = pair_fault(a, b);
+    if fault != 0 {
+        return Written::Refused(fault);
+    }
+    if slot.len() < 256 {
+        return Written::Refused(7);
+    }
+    let made = merge(operation, table, a, b, slot);
+    finish(made)
+}
+
+// The first operand inverted, whatever the second.
+const INVERT: [[bool; 2]; 2] = [[true, true], [false, false]];
+
+// NOT: faults list, 7.
+pub fn not(a: &[u32], out: &mut [u32]) -> Written
+    ensures { λ r. ⌜ CallOfOne NOT (now (a .entry)) (now (out .entry)) r (now (out .exit)) ⌝ }
+{
+    let none = [0u32; 1];
+    operate(Operation::Connective, INVERT, a, &none, out)
+}
+
+// A connective by its table, row by the first operand, column by the second: faults list, list, 5, 7.
+pub fn connective(table: [[bool; 2]; 2], a: &[u32], b: &[u32], out: &mut [u32]) -> Written
+    ensures { λ r. ⌜ CallOfTwo (connective table) (now (a .entry)) (now (b .entry)) (now (out .entry)) r (now (out .exit)) ⌝ }
+{
+    operate(Operation::Connective, table, a, b, out)
+}
+
+// Rising edges: faults list, 7.
+pub fn rising(a: &[u32], out: &mut [u32]) -> Written
+    ensures { λ r. ⌜ CallOfOne rising (now (a .entry)) (now (out .entry)) r (now (out .exit)) ⌝ }
+{
+    let none = [0u32; 1];
+    operate(Operation::Rising, INVERT, a, &none, out)
+}
+
+// Falling edges: faults list, 7.
+pub fn falling(a: &[u32], out: &mut [u32]) -> Written
+    ensures { λ r. ⌜ CallOfOne falling (now (a .entry)) (now (out .entry)) r (now (out .exit)) ⌝ }
+{
+    let none = [0u32; 1];
+    operate(Operation::Falling, INVERT, a, &none, out)
+}
+
+// The latch in which set wins: faults list, list, 5, 7.
+pub fn sr(s: &[u32], r: &[u32], out: &mut [u32]) -> Written
+    ensures { λ v. ⌜ CallOfTwo SR (now (s .entry)) (now (r .entry)) (now (out .entry)) v (now (out .exit)) ⌝ }
+{
+    operate(Operation::SetWins, INVERT, s, r, out)
+}
+
+// The latch in which reset wins: faults list, list, 5, 7.
+pub fn rs(s: &[u32], r: &[u32], out: &mut [u32]) -> Written
+    ensures { λ v. ⌜ CallOfTwo RS (now (s .entry)) (now (r .entry)) (now (out .entry)) v (now (out .exit)) ⌝ }
+{
+    operate(Operation::ResetWins, INVERT, s, r, out)
+}
+
+// The calls that the evaluator makes, in a slot of 256 words or more that it lends: no entry points, since the slot is scratch.
+
+pub fn not_in(a: &[u32], slot: &mut [u32]) -> Written
+    ensures { λ r. ⌜ CallInSlot (listFault (now (a .entry))) (exactOfOne NOT (now (a .entry))) (now (slot .entry)) r (now (slot .exit)) ⌝ }
+{
+    let none = [0u32; 1];
+    operate_in(Operation::Connective, INVERT, a, &none, slot)
+}
+
+pub fn connective_in(table: [[bool; 2]; 2], a: &[u32], b: &[u32], slot: &mut [u32]) -> Written
+    ensures { λ r. ⌜ CallInSlot (pairFault (now (a .entry)) (now (b .entry))) (exactOfTwo (connective table) (now (a .entry)) (now (b .entry))) (now (slot .entry)) r (now (slot .exit)) ⌝ }
+{
+    operate_in(Operation::Connective, table, a, b, slot)
+}
+
+pub fn rising_in(a: &[u32], slot: &mut [u32]) -> Written
+    ensures { λ r. ⌜ CallInSlot (listFault (now (a .entry))) (exactOfOne rising (now (a .entry))) (now (slot .entry)) r (now (slot .exit)) ⌝ }
+{
+    let none = [0u32; 1];
+    operate_in(Operation::Rising, INVERT, a, &none, slot)
+}
+
+pub fn falling_in(a: &[u32], slot: &mut [u32]) -> Written
+    ensures { λ r. ⌜ CallInSlot (listFault (now (a .entry))) (exactOfOne falling (now (a .entry))) (now (slot .entry)) r (now (slot .exit)) ⌝ }
+{
+    let none = [0u32; 1];
+    operate_in(Operation::Falling, INVERT, a, &none, slot)
+}
+
+pub fn sr_in(s: &[u32], r: &[u32], slot: &mut [u32]) -> Written
+    ensures { λ v. ⌜ CallInSlot (pairFault (now (s .entry)) (now (r .entry))) (exactOfTwo SR (now (s .entry)) (now (r .entry))) (now (slot .entry)) v (now (slot .exit)) ⌝ }
+{
+    operate_in(Operation::SetWins, INVERT, s, r, slot)
+}
+
+pub fn rs_in(s: &[u32], r: &[u32], slot: &mut [u32]) -> Written
+    ensures { λ v. ⌜ CallInSlot (pairFault (now (s .entry)) (now (r .entry))) (exactOfTwo RS (now (s .entry)) (now (r .entry))) (now (slot .entry)) v (now (slot .exit)) ⌝ }
+{
+    operate_in(Operation::ResetWins, INVERT, s, r, slot)
 }

@@ -1,29 +1,21 @@
--- `lists::list_fault` meets its contract: at each `return` the tests that led there say which clause of `listFault` holds.
-use mathlib.Core.Path.{_≡_, sym, _∙_}
-use Rattle.lists.proofs.Judging.{empty-1, long-1, head-2, words-3-4}
+-- `lists::list_fault` meets its contract: the head is judged before the words after it.
+use mathlib.Core.Path.{sym, _∙_}
+use Rattle.lists.proofs.Judging.{head-some, list-head, list-words}
 use borrow.Author.Needs.{needs}
 use Rattle.lists.proofs.list_fault.Statement.{statement}
 use Rattle.lists.proofs.list_fault.Tie as tie
 
+head-fault-requires : tie.Need-head-fault-requires
+head-fault-requires c κs = search needs
+
 returns : tie.Need-returns
-returns c = sym (empty-1 _ (c .if1 .taken))
-
-returns-2 : tie.Need-returns-2
-returns-2 c = sym (long-1 _ (c .if2 .taken))
-
-shared-slice-read-if3 : tie.Need-shared-slice-read-if3
-shared-slice-read-if3 c = search needs
-
-returns-3 : tie.Need-returns-3
-returns-3 c = sym (head-2 _ (c .before .before .before .if1 .left) (c .before .before .if2 .left) (c .if3 .taken))
+returns c = list-head _ _ (c .before .head-fault .ensures) (c .if1 .taken)
 
 words-fault-requires : tie.Need-words-fault-requires
-words-fault-requires c κs = search needs
+words-fault-requires c κs = head-some _ (sym (c .before .head-fault .ensures) ∙ c .if1 .left)
 
-returns-4 : tie.Need-returns-4
-returns-4 c = c .words-fault .ensures ∙ sym (words-3-4 _ (c .before .before .before .before .if1 .left) (c .before .before .before .if2 .left) (c .before .if3 .left))
+returns-2 : tie.Need-returns-2
+returns-2 c = c .words-fault .ensures ∙ list-words _ _ (c .before .before .head-fault .ensures) (c .before .if1 .left)
 
 pub list-fault-spec : {M : Type 1} → statement M
-list-fault-spec =
-    tie.close
-    (tie.spec returns returns-2 shared-slice-read-if3 returns-3 words-fault-requires returns-4)
+list-fault-spec = tie.close (tie.spec head-fault-requires returns words-fault-requires returns-2)

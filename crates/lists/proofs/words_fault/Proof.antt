@@ -30,7 +30,7 @@ shared-slice-read-w c = search needs
 
 returns : tie.Need-returns Inv-loop μ-loop
 unfolding dateOf
-returns c = sym (c .before .before .before .loop .inv .1 ∙ fault-3 _ _ _ _ (c .before .before .loop-test .taken) (c .if1 .taken))
+returns c = sym (c .before .before .before .loop .inv .1 ∙ fault-3 _ _ _ _ (c .before .before .loop-test .taken) (omega (arith, c .if1 .taken)))
 
 changes-nothing-requires : tie.Need-changes-nothing-requires Inv-loop μ-loop
 changes-nothing-requires c κs = search needs

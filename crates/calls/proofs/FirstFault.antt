@@ -1,0 +1,68 @@
+-- The first of several faults, 0 being none.
+use Prim.Native.Nat.{ℕ, _<_}
+use native.Mathlib.Omega.{arith}
+use mathlib.Core.Path.{_≡_, refl, sym, _∙_}
+use mathlib.Core.Bool.{Bool, true, false, cond}
+use mathlib.Core.Logic.{_⊎_, inl, inr}
+use lib.Dec.{eqb}
+use borrow.Author.Tests.{eqb-true, eqb-false, eq-eqb, ne-eqb}
+use Rattle.operations.specs.Calls.{firstOf}
+use Rattle.calls.specs.Tabled.{Check}
+
+-- a test that gives a fault did not
+pub passed : (b : Bool) (n x : ℕ) → 0 < n → cond b n x ≡ 0 → (b ≡ false) × (x ≡ 0)
+passed true n x l e = absurd (omega arith)
+passed false n x l e = (refl, e)
+
+-- the second of two was not reached
+pub missed : (b : Bool) (n : ℕ) → 0 < n → cond b 0 n ≡ 0 → b ≡ true
+missed true n l e = refl
+missed false n l e = absurd (omega arith)
+
+pub first-none : (f g : ℕ) → f ≡ 0 → firstOf f g ≡ g
+unfolding firstOf
+first-none f g e = rw (eq-eqb f 0 e) refl
+
+pub first-some : (f g n : ℕ) → f ≡ n → 0 < n → firstOf f g ≡ n
+unfolding firstOf
+first-some f g n e l = rw (ne-eqb f 0 (λ z. omega arith)) e
+
+pub first-with-none : (f : ℕ) → firstOf f 0 ≡ f
+unfolding firstOf
+first-with-none f = go (eqb f 0) refl
+  where
+    go : (b : Bool) → eqb f 0 ≡ b → cond b 0 f ≡ f
+    go true q = sym (eqb-true f 0 q)
+    go false q = refl
+
+pub both-none : (f g : ℕ) → firstOf f g ≡ 0 → (f ≡ 0) × (g ≡ 0)
+unfolding firstOf
+both-none f g e = go (eqb f 0) refl e
+  where
+    go : (b : Bool) → eqb f 0 ≡ b → cond b g f ≡ 0 → (f ≡ 0) × (g ≡ 0)
+    go true q z = (eqb-true f 0 q, z)
+    go false q z = absurd (eqb-false f 0 q z)
+
+-- none or some
+pub zero-or-not : (n : ℕ) → (n ≡ 0) ⊎ (¬ (n ≡ 0))
+zero-or-not n = go (eqb n 0) refl
+  where
+    go : (b : Bool) → eqb n 0 ≡ b → (n ≡ 0) ⊎ (¬ (n ≡ 0))
+    go true q = inl (eqb-true n 0 q)
+    go false q = inr (eqb-false n 0 q)
+
+-- checks give one fault
+abbrev pub Single : (ℕ → Type 0) → Type 0
+Single P = (n m : ℕ) → P n → P m → n ≡ m
+
+pub check-single : {number : ℕ} {Broken : Type 0} {later : ℕ → Type 0} → Single later → Single (Check number Broken later)
+check-single h n m (inl a) (inl b) = a .1 ∙ sym (b .1)
+check-single h n m (inl a) (inr b) = absurd (b .0 (a .0))
+check-single h n m (inr a) (inl b) = absurd (a .0 (b .0))
+check-single h n m (inr a) (inr b) = h n m (a .1) (b .1)
+
+-- a check by its test
+pub check-by : (number rest : ℕ) (Broken : Type 0) (later : ℕ → Type 0) (b : Bool) → (b ≡ true → Broken) → (b ≡ false → ¬ Broken)
+    → (b ≡ false → later rest) → Check number Broken later (cond b number rest)
+check-by number rest Broken later true held free next = inl (held refl, refl)
+check-by number rest Broken later false held free next = inr (free refl, next refl)

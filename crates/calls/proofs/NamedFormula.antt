@@ -1,0 +1,145 @@
+-- A name of an accepted sheet, as a formula: it is answered, and its words are the sheet's.
+use Prim.Native.Nat.{ℕ}
+use native.Mathlib.Omega.{arith}
+use mathlib.Core.Path.{_≡_, refl, _∙_, ap, subst}
+use mathlib.Core.Bool.{true, false, cond, _&&_, _||_}
+use mathlib.Core.Logic.{⊎-elim}
+use mathlib.Core.List.{List, [], _∷_}
+use lib.Dec.{leb}
+use lib.ListN.{length}
+use borrow.Author.Tests.{leb-true, le-leb, le-ltb}
+use Rattle.signals.specs.Moment.{M}
+use Rattle.signals.specs.Signal.{constant}
+use Rattle.signals.specs.Words.{dateOf, listFault, wordsOf, listOf}
+use Rattle.signals.proofs.Truth.{and-left, and-right, and-of, down-of, not-both}
+use Rattle.signals.proofs.Normal.{acceptedNormal, readBack}
+use Rattle.operations.specs.Calls.{changesAfterM}
+use Rattle.formulas.specs.Tree.{Tree, Leaf, leaf, unary, binary, down, up, name}
+use Rattle.formulas.specs.Code.{code}
+use Rattle.formulas.specs.Grammar.{Sum, Product, Factor, isLower, isDigit, isNameByte, allOf, isName}
+use Rattle.formulas.specs.Formula.{formulaTree, formulaFault}
+use Rattle.formulas.specs.Exactness.{LengthIn}
+use Rattle.formulas.proofs.Reading.{tree-of, one-tree, faults-exact}
+use Rattle.laws.specs.Rewriting.{parts}
+use Rattle.sheets.specs.Bytes.{Bytes, Words}
+use Rattle.sheets.specs.Names.{letter, digit, lettersOrDigits, wellNamed, among}
+use Rattle.sheets.specs.Reading.{sheetFault, signalsOn, names, listNamed, environmentOn}
+use Rattle.calls.specs.OnSheet.{settlingDate, exactOn, leafFound, namesFound}
+use Rattle.calls.specs.TreesOnSheets.{TreesOnSheets}
+use Rattle.calls.proofs.Settles.{settles, exact-for}
+use Rattle.calls.specs.Calls.{readingFault, partFault, partsFault, workingFault, wordsOn}
+use Rattle.calls.proofs.FirstFault.{first-none, first-with-none}
+use Rattle.calls.proofs.SheetLists.{sheet-sound, named-sound, named-words}
+use Rattle.calls.proofs.PartFaults.{late-of}
+use Rattle.calls.proofs.NotRefused.{Clear}
+
+-- the sheet's rule of names and the grammar's are one
+rest-named : (bs : List ℕ) → lettersOrDigits bs ≡ true → allOf isNameByte bs ≡ true
+unfolding lettersOrDigits allOf isNameByte isLower isDigit letter digit
+rest-named [] e = refl
+rest-named (b ∷ bs) e =
+    and-of (letter b || digit b) (allOf isNameByte bs) (and-left (letter b || digit b) (lettersOrDigits bs) e)
+    (rest-named bs (and-right (letter b || digit b) (lettersOrDigits bs) e))
+
+pub is-name : (n : List ℕ) → wellNamed n ≡ true → isName n ≡ true
+unfolding wellNamed isName isLower letter
+is-name [] e = e
+is-name (b ∷ bs) e =
+    let l = leb-true (length (b ∷ bs)) 8 (and-left (leb (length (b ∷ bs)) 8) (letter b && lettersOrDigits bs) e) in
+    let r = and-right (leb (length (b ∷ bs)) 8) (letter b && lettersOrDigits bs) e in
+    and-of (letter b) (allOf isNameByte bs && leb (length bs) 7) (and-left (letter b) (lettersOrDigits bs) r)
+    (and-of (allOf isNameByte bs) (leb (length bs) 7) (rest-named bs (and-right (letter b) (lettersOrDigits bs) r)) (le-leb (length bs) 7 (omega arith)))
+
+-- words below 2^32 have no date past M
+not-late : (l : List ℕ) → Words l → changesAfterM l ≡ false
+unfolding dateOf
+not-late l h = down-of (changesAfterM l) (λ e. let w = late-of l e in omega (arith, w .2, h (w .0)))
+
+-- a name as a formula
+name-writes : (n : List ℕ) → isName n ≡ true → Sum n (leaf (name n)) 0
+name-writes n e = Sum.product (Product.factor (Factor.named e))
+
+-- a leaf has no length
+abbrev NoLeaf : Tree → Type 0
+NoLeaf (leaf l) = ⊥
+NoLeaf (unary o t) = Unit
+NoLeaf (binary o t u) = Unit
+
+no-leaf : {n : ℕ} {t : Tree} → LengthIn n t → NoLeaf t
+no-leaf LengthIn.of-ton = tt
+no-leaf LengthIn.of-tof = tt
+no-leaf (LengthIn.under h) = tt
+no-leaf (LengthIn.first h) = tt
+no-leaf (LengthIn.second h) = tt
+
+name-fault : (n : List ℕ) → wellNamed n ≡ true → isName n ≡ true → formulaFault n ≡ 0
+unfolding wellNamed code
+name-fault [] e f = absurd (not-both {A = ⊥} e refl)
+name-fault (b ∷ bs) e f =
+    let l = leb-true (length (b ∷ bs)) 8 (and-left (leb (length (b ∷ bs)) 8) (letter b && lettersOrDigits bs) e) in
+    let w = name-writes (b ∷ bs) f in
+    faults-exact (b ∷ bs) .4 .1 (
+      λ t. ⊎-elim (λ z. omega arith) (λ z. omega arith) t,
+      λ x. x (leaf (name (b ∷ bs))) 0 w,
+      λ x. subst NoLeaf (one-tree (b ∷ bs) (x .0) (leaf (name (b ∷ bs))) (x .1) 0 (x .3) w .0) (no-leaf (x .4)),
+      λ x.
+          let q = one-tree (b ∷ bs) (x .0) (leaf (name (b ∷ bs))) (x .1) 0 (x .2) w in
+          let r : length (code (x .0)) ≡ 1 = ap (λ (y : Tree). length (code y)) (q .0) in
+          ⊎-elim (λ z. omega arith) (λ z. let k = q .1 in omega arith) (x .3),
+    )
+
+-- the normal list of an accepted list's signal is that list
+name-exact : (sheet n : List ℕ) → listFault (listNamed n (signalsOn sheet)) ≡ 0 → exactOn sheet (leaf (name n)) ≡ listNamed n (signalsOn sheet)
+unfolding exactOn settlingDate environmentOn
+name-exact sheet n a = readBack (listNamed n (signalsOn sheet)) (acceptedNormal (listNamed n (signalsOn sheet)) .0 a .0) .same
+
+accepted-fine : (l : List ℕ) → listFault l ≡ 0 → changesAfterM l ≡ false → partFault l ≡ 0
+unfolding partFault
+accepted-fine l a e = rw (le-ltb 256 (length l) (acceptedNormal l .0 a .1), e) refl
+
+name-parts : (sheet n : List ℕ) → partFault (exactOn sheet (leaf (name n))) ≡ 0 → partsFault sheet (parts (leaf (name n))) ≡ 0
+unfolding partsFault parts
+name-parts sheet n e = first-with-none (partFault (exactOn sheet (leaf (name n)))) ∙ e
+
+text-clear : (sheet n : List ℕ) → formulaFault n ≡ 0 → formulaTree n ≡ leaf (name n) → among n (names (signalsOn sheet)) ≡ true → readingFault sheet n ≡ 0
+unfolding readingFault namesFound
+text-clear sheet n f t e = first-none (formulaFault n) (cond (namesFound sheet (formulaTree n)) 0 13) f ∙ rw (t, e) refl
+
+-- names and constants meet neither 5 nor 6
+name-fine : (sheet n : List ℕ) → Words (listNamed n (signalsOn sheet)) → sheetFault sheet ≡ 0 → among n (names (signalsOn sheet)) ≡ true → partFault (exactOn sheet (leaf (name n))) ≡ 0
+name-fine sheet n small ok e =
+    let l = listNamed n (signalsOn sheet) in
+    let a = named-sound n (signalsOn sheet) (sheet-sound sheet ok) e .1 in
+    ap partFault (name-exact sheet n a) ∙ accepted-fine l a (not-late l small)
+
+leaf-fine : (sheet : List ℕ) → Bytes sheet → sheetFault sheet ≡ 0 → (l : Leaf) → leafFound sheet l ≡ true → partFault (exactOn sheet (leaf l)) ≡ 0
+unfolding partFault changesAfterM dateOf exactOn settlingDate listOf wordsOf constant
+leaf-fine sheet small ok down e = refl
+leaf-fine sheet small ok up e = refl
+leaf-fine sheet small ok (name n) e = name-fine sheet n (named-words sheet n small) ok e
+
+pub trees-on-sheets : TreesOnSheets
+trees-on-sheets = record { settles = settles; exact = exact-for; leaves = leaf-fine }
+
+-- a name of the sheet as a formula
+pub record NameServed (sheet n : List ℕ) : Type 0 where
+  pub clear : Clear sheet n
+  pub same-words : wordsOn sheet n ≡ listNamed n (signalsOn sheet)
+
+pub name-served : (sheet n : List ℕ) → Words (listNamed n (signalsOn sheet)) → sheetFault sheet ≡ 0 → among n (names (signalsOn sheet)) ≡ true → NameServed sheet n
+unfolding workingFault wordsOn
+name-served sheet n small ok e =
+    let l = listNamed n (signalsOn sheet) in
+    let s = named-sound n (signalsOn sheet) (sheet-sound sheet ok) e in
+    let f = is-name n (s .0) in
+    let t : formulaTree n ≡ leaf (name n) = tree-of n (leaf (name n)) 0 (name-writes n f) in
+    let x : exactOn sheet (leaf (name n)) ≡ l = name-exact sheet n (s .1) in
+    let z = name-fine sheet n small ok e in
+    record {
+      clear = record {
+        sheet-ok = ok;
+        text-ok = text-clear sheet n (name-fault n (s .0) f) t e;
+        parts-ok = rw t (name-parts sheet n z);
+      };
+      same-words = rw t x;
+    }

@@ -1,0 +1,147 @@
+-- An engine that meets demand 2 is the defined one at every input.
+use Prim.Native.Nat.{ℕ}
+use mathlib.Core.Path.{_≡_, refl, sym, _∙_, ap, fun-ext}
+use mathlib.Core.Logic.{_⊎_, inl, inr}
+use mathlib.Core.List.{List, _++_}
+use lib.ListN.{length, drop}
+use borrow.Author.Tests.{ne-eqb}
+use Rattle.signals.specs.Answers.{faultIn, writtenOf}
+use Rattle.signals.specs.Implication.{faultOfVerdict}
+use Rattle.signals.specs.declared.Written.{Written}
+use Rattle.signals.specs.declared.Written.the-variants as written
+use Rattle.signals.specs.declared.Verdict.{Verdict}
+use Rattle.signals.specs.declared.Verdict.the-variants as verdict
+use Rattle.calls.specs.Calls.{wordsOn, callFault, callAnswer, callOutput, claimFault, claimAnswer}
+use Rattle.calls.specs.Engine.{Engine, defined}
+use Rattle.calls.specs.Tabled.{NoFault, ReadingChecks, WorkingChecks, CallFaultIs, ClaimFaultIs}
+use Rattle.calls.specs.Demand2.{Demand2}
+use Rattle.calls.specs.OneFault.{OneFault}
+use Rattle.calls.specs.OneEngine.{Agrees, OneEngine, AgreeingMeets}
+use Rattle.calls.proofs.FirstFault.{Single, check-single, zero-or-not}
+use Rattle.calls.proofs.SheetLists.{sheet-of}
+use Rattle.calls.proofs.CallFaults.{call-fault, claim-fault}
+use Rattle.calls.proofs.NotRefused.{call-clear, claim-fault-shown}
+use Rattle.calls.proofs.Demand2.{demand2, clear-list, delivered, output-kept, claim-judged}
+use Rattle.calls.proofs.Demand3.{demand3, one-verdict}
+
+-- the checks give one fault
+none-single : Single NoFault
+none-single n m a b = a ∙ sym b
+
+reading-single : (sheet formula : List ℕ) (later : ℕ → Type 0) → Single later → Single (ReadingChecks sheet formula later)
+reading-single sheet formula later h = check-single (check-single (check-single (check-single (check-single h))))
+
+working-single : (sheet formula : List ℕ) (later : ℕ → Type 0) → Single later → Single (WorkingChecks sheet formula later)
+working-single sheet formula later h = check-single (check-single h)
+
+call-single : (sheet formula : List ℕ) (work room : ℕ) → Single (CallFaultIs sheet formula work room)
+call-single sheet formula work room =
+    check-single (reading-single sheet formula _ (check-single (working-single sheet formula _ (check-single none-single))))
+
+claim-single : (sheet F G : List ℕ) (work : ℕ) → Single (ClaimFaultIs sheet F G work)
+claim-single sheet F G work =
+    check-single
+    (reading-single sheet F _ (reading-single sheet G _ (check-single (working-single sheet F _ (working-single sheet G _ none-single)))))
+
+pub one-fault : OneFault
+one-fault =
+    record {
+      call = call-fault;
+      claim = claim-fault;
+      oneOfCall = λ sheet formula work room fault h.
+          call-single sheet formula work room fault (callFault sheet formula work room) h (call-fault sheet formula work room);
+      oneOfClaim = λ sheet F G work fault h. claim-single sheet F G work fault (claimFault sheet F G work) h (claim-fault sheet F G work);
+      sheets = sheet-of;
+    }
+
+-- an answer with a fault is that refusal
+refused : (a : Written) → (¬ (faultIn a ≡ 0)) → a ≡ written.Refused (faultIn a)
+refused (written.Count n) h = absurd (h refl)
+refused (written.Refused f) h = refl
+
+refused-claim : (v : Verdict) → (¬ (faultOfVerdict v ≡ 0)) → v ≡ verdict.Refused (faultOfVerdict v)
+refused-claim verdict.Holds h = absurd (h refl)
+refused-claim (verdict.FailsAt k) h = absurd (h refl)
+refused-claim (verdict.FailsAfter k) h = absurd (h refl)
+refused-claim (verdict.Refused f) h = refl
+
+answer-refused : (sheet formula : List ℕ) (work : ℕ) (old : List ℕ) → (¬ (callFault sheet formula work (length old) ≡ 0))
+    → callAnswer sheet formula work old ≡ written.Refused (callFault sheet formula work (length old))
+unfolding callAnswer writtenOf
+answer-refused sheet formula work old h = rw (ne-eqb (callFault sheet formula work (length old)) 0 h) refl
+
+module _ (E : Engine) (D : Demand2 E) where
+  -- a call of E and the defined one
+  abbrev Alike : List ℕ → List ℕ → ℕ → List ℕ → Type 0
+  Alike sheet formula work old =
+      (E .answer sheet formula work old ≡ callAnswer sheet formula work old) × (E .output sheet formula work old ≡ callOutput sheet formula work old)
+
+  same-fault : (sheet formula : List ℕ) (work : ℕ) (old : List ℕ) → faultIn (E .answer sheet formula work old) ≡ callFault sheet formula work (length old)
+  same-fault sheet formula work old =
+      one-fault .oneOfCall sheet formula work (length old) (faultIn (E .answer sheet formula work old)) (D .callFaults sheet formula work old)
+
+  alike-given : (sheet formula : List ℕ) (work : ℕ) (old : List ℕ) → faultIn (E .answer sheet formula work old) ≡ 0 → Alike sheet formula work old
+  alike-given sheet formula work old e =
+      let g = D .lists sheet formula work old e in
+      let z = sym (same-fault sheet formula work old) ∙ e in
+      let c = call-clear sheet formula work (length old) z .0 in
+      let q : g .words ≡ wordsOn sheet formula = clear-list sheet formula c (g .tree) (g .depth) (g .writes) .only (g .words) (g .theList .listed) in
+      let h = delivered sheet formula work old z in (
+        g .delivered .count ∙ ap (λ (l : List ℕ). written.Count (length l)) q ∙ sym (h .count),
+        g .delivered .output ∙ ap (λ (l : List ℕ). l ++ drop (length l) old) q ∙ sym (h .output),
+      )
+
+  alike-refused : (sheet formula : List ℕ) (work : ℕ) (old : List ℕ) → (¬ (faultIn (E .answer sheet formula work old) ≡ 0)) → Alike sheet formula work old
+  alike-refused sheet formula work old e =
+      let s = same-fault sheet formula work old in
+      let z : ¬ (callFault sheet formula work (length old) ≡ 0) = λ k. e (s ∙ k) in (
+        refused (E .answer sheet formula work old) e ∙ ap written.Refused s ∙ sym (answer-refused sheet formula work old z),
+        D .refusedKeeps sheet formula work old e ∙ sym (output-kept sheet formula work old z),
+      )
+
+  alike : (sheet formula : List ℕ) (work : ℕ) (old : List ℕ) → Alike sheet formula work old
+  alike sheet formula work old = go (zero-or-not (faultIn (E .answer sheet formula work old)))
+    where
+      go : (faultIn (E .answer sheet formula work old) ≡ 0) ⊎ (¬ (faultIn (E .answer sheet formula work old) ≡ 0)) → Alike sheet formula work old
+      go (inl e) = alike-given sheet formula work old e
+      go (inr e) = alike-refused sheet formula work old e
+
+  same-claim-fault : (sheet F G : List ℕ) (work : ℕ) → faultOfVerdict (E .claim sheet F G work) ≡ claimFault sheet F G work
+  same-claim-fault sheet F G work = one-fault .oneOfClaim sheet F G work (faultOfVerdict (E .claim sheet F G work)) (D .claimFaults sheet F G work)
+
+  same-claim : (sheet F G : List ℕ) (work : ℕ) → E .claim sheet F G work ≡ claimAnswer sheet F G work
+  same-claim sheet F G work = go (zero-or-not (faultOfVerdict (E .claim sheet F G work)))
+    where
+      s : faultOfVerdict (E .claim sheet F G work) ≡ claimFault sheet F G work
+      s = same-claim-fault sheet F G work
+
+      go : (faultOfVerdict (E .claim sheet F G work) ≡ 0) ⊎ (¬ (faultOfVerdict (E .claim sheet F G work) ≡ 0)) → E .claim sheet F G work ≡ claimAnswer sheet F G work
+      go (inl e) =
+          let g = D .claims sheet F G work e in
+          one-verdict
+          (g .judged)
+          (claim-judged sheet F G work (sym s ∙ e) (g .treeF) (g .treeG) (g .depthF) (g .depthG) (g .writesF) (g .writesG))
+      go (inr e) =
+          refused-claim (E .claim sheet F G work) e
+          ∙ ap verdict.Refused (s ∙ sym (claim-fault-shown sheet F G work))
+          ∙ sym (refused-claim (claimAnswer sheet F G work) (λ k. e (s ∙ sym (claim-fault-shown sheet F G work) ∙ k)))
+
+pub one-engine : OneEngine
+one-engine E D =
+    record {
+      answer = λ sheet formula work old. alike E D sheet formula work old .0;
+      output = λ sheet formula work old. alike E D sheet formula work old .1;
+      claim = same-claim E D;
+    }
+
+-- an engine that agrees with the defined one everywhere is it
+same-engine : (E : Engine) → Agrees E → E ≡ defined
+same-engine E h = λ i.
+    record {
+      answer = fun-ext (λ sheet. fun-ext (λ formula. fun-ext (λ work. fun-ext (λ old. h .answer sheet formula work old)))) i;
+      output = fun-ext (λ sheet. fun-ext (λ formula. fun-ext (λ work. fun-ext (λ old. h .output sheet formula work old)))) i;
+      claim = fun-ext (λ sheet. fun-ext (λ F. fun-ext (λ G. fun-ext (λ work. h .claim sheet F G work)))) i;
+    }
+
+pub agreeing-meets : AgreeingMeets
+agreeing-meets E h = rw (same-engine E h) (demand2, demand3)

@@ -1,0 +1,149 @@
+-- Small cases worked out: the formulas 1, 0, !1 and 1.1 on the empty sheet.
+use Prim.Native.Nat.{ℕ}
+use native.Mathlib.Omega.{arith}
+use mathlib.Core.Path.{_≡_, refl, _∙_, ap}
+use mathlib.Core.Bool.{true, cond}
+use mathlib.Core.List.{List, [], _∷_}
+use Rattle.signals.specs.Moment.{isGap, tick}
+use Rattle.signals.specs.Signal.{constant, NOT, AND, refuted}
+use Rattle.signals.specs.Words.{dateOf, word, wordsOf, listOf}
+use Rattle.signals.specs.Implication.{earliest, failsIn, verdictOf}
+use Rattle.signals.specs.declared.Verdict.the-variants.{FailsAfter}
+use Rattle.operations.specs.Calls.{firstOf, changesAfterM}
+use Rattle.formulas.specs.Tree as tree
+use Rattle.formulas.specs.Tree.{Tree}
+use Rattle.formulas.specs.Grammar.{Writes, Sum, Product, Factor, isLower, isDigit, isNameByte}
+use Rattle.formulas.specs.Reader.{run, next, bad, stepped, expect, put, prefixKind, leafAt, sumAt, sumsAt, productAt, productsAt, factorAt, readText}
+use Rattle.formulas.specs.Formula.{accepted, partsOf, formulaTree, depthOf, longestOf, formulaFault}
+use Rattle.formulas.proofs.Reading.{tree-of}
+use Rattle.laws.specs.Rewriting.{parts}
+use Rattle.sheets.specs.Bytes.{low16}
+use Rattle.sheets.specs.Names.{same}
+use Rattle.sheets.specs.Reading.{signalsFault, frontFault, countOn, sheetFault}
+use Rattle.calls.specs.OnSheet.{settlingDate, exactOn, namesFound}
+use Rattle.calls.specs.Calls.{neededWork, readingFault, partFault, partsFault, workingFault, wordsOn, claimVerdict}
+use Rattle.calls.specs.Answered.{Answered, Enough}
+use Rattle.calls.proofs.FirstFault.{first-none}
+use Rattle.calls.proofs.NotRefused.{Clear, clear-answered}
+
+-- SGL 1 0 0 0
+abbrev pub emptySheet : List ℕ
+emptySheet = 83 ∷ 71 ∷ 76 ∷ 1 ∷ 0 ∷ 0 ∷ 0 ∷ []
+
+-- 1, 0, !1 and 1.1
+abbrev pub one : List ℕ
+one = 49 ∷ []
+
+abbrev pub none : List ℕ
+none = 48 ∷ []
+
+abbrev pub notOne : List ℕ
+notOne = 33 ∷ 49 ∷ []
+
+abbrev pub oneAndOne : List ℕ
+oneAndOne = 49 ∷ 46 ∷ 49 ∷ []
+
+abbrev pub up : Tree
+up = tree.Tree.leaf tree.Leaf.up
+
+abbrev pub down : Tree
+down = tree.Tree.leaf tree.Leaf.down
+
+pub one-writes : Writes one up 0
+one-writes = Sum.product (Product.factor Factor.one)
+
+pub none-writes : Writes none down 0
+none-writes = Sum.product (Product.factor Factor.zero)
+
+pub notOne-writes : Writes notOne (tree.Tree.unary tree.Unary.invert up) 1
+notOne-writes = Sum.product (Product.factor (Factor.inverted Factor.one))
+
+pub oneAndOne-writes : Writes oneAndOne (tree.Tree.binary tree.Binary.and up up) 0
+oneAndOne-writes = Sum.product (Product.dot (Product.factor Factor.one) Factor.one)
+
+empty-fine : sheetFault emptySheet ≡ 0
+unfolding sheetFault frontFault signalsFault countOn low16 same
+empty-fine = refl
+
+one-fine : formulaFault one ≡ 0
+unfolding formulaFault accepted longestOf partsOf depthOf readText sumAt sumsAt productAt productsAt factorAt leafAt next stepped put bad expect prefixKind isLower isDigit isNameByte run
+one-fine = refl
+
+none-fine : formulaFault none ≡ 0
+unfolding formulaFault accepted longestOf partsOf depthOf readText sumAt sumsAt productAt productsAt factorAt leafAt next stepped put bad expect prefixKind isLower isDigit isNameByte run
+none-fine = refl
+
+notOne-fine : formulaFault notOne ≡ 0
+unfolding formulaFault accepted longestOf partsOf depthOf readText sumAt sumsAt productAt productsAt factorAt leafAt next stepped put bad expect prefixKind isLower isDigit isNameByte run
+notOne-fine = refl
+
+oneAndOne-fine : formulaFault oneAndOne ≡ 0
+unfolding formulaFault accepted longestOf partsOf depthOf readText sumAt sumsAt productAt productsAt factorAt leafAt next stepped put bad expect prefixKind isLower isDigit isNameByte run
+oneAndOne-fine = refl
+
+-- a formula is clear when its tree is, and its words are its tree's list
+pub tree-clear : (sheet formula : List ℕ) (t : Tree) (d : ℕ) → sheetFault sheet ≡ 0 → Writes formula t d → formulaFault formula ≡ 0
+    → namesFound sheet t ≡ true → partsFault sheet (parts t) ≡ 0 → Clear sheet formula
+unfolding readingFault workingFault
+tree-clear sheet formula t d ok w f n p =
+    record {
+      sheet-ok = ok;
+      text-ok = first-none (formulaFault formula) (cond (namesFound sheet (formulaTree formula)) 0 13) f ∙ rw (tree-of formula t d w, n) refl;
+      parts-ok = rw (tree-of formula t d w) p;
+    }
+
+pub tree-words : (sheet formula : List ℕ) (t : Tree) (d : ℕ) → Writes formula t d → wordsOn sheet formula ≡ exactOn sheet t
+unfolding wordsOn
+tree-words sheet formula t d w = ap (exactOn sheet) (tree-of formula t d w)
+
+one-clear : Clear emptySheet one
+unfolding namesFound partsFault parts partFault firstOf changesAfterM dateOf exactOn settlingDate listOf wordsOf constant
+one-clear = tree-clear emptySheet one up 0 empty-fine one-writes one-fine refl refl
+
+none-clear : Clear emptySheet none
+unfolding namesFound partsFault parts partFault firstOf changesAfterM dateOf exactOn settlingDate listOf wordsOf constant
+none-clear = tree-clear emptySheet none down 0 empty-fine none-writes none-fine refl refl
+
+notOne-clear : Clear emptySheet notOne
+unfolding namesFound partsFault parts partFault firstOf changesAfterM dateOf exactOn settlingDate listOf wordsOf constant NOT
+notOne-clear = tree-clear emptySheet notOne (tree.Tree.unary tree.Unary.invert up) 1 empty-fine notOne-writes notOne-fine refl refl
+
+oneAndOne-clear : Clear emptySheet oneAndOne
+unfolding namesFound partsFault parts partFault firstOf changesAfterM dateOf exactOn settlingDate listOf wordsOf constant AND
+oneAndOne-clear = tree-clear emptySheet oneAndOne (tree.Tree.binary tree.Binary.and up up) 0 empty-fine oneAndOne-writes oneAndOne-fine refl refl
+
+-- they are answered
+pub one-answered : Answered emptySheet one
+one-answered = clear-answered emptySheet one one-clear
+
+pub none-answered : Answered emptySheet none
+none-answered = clear-answered emptySheet none none-clear
+
+pub notOne-answered : Answered emptySheet notOne
+notOne-answered = clear-answered emptySheet notOne notOne-clear
+
+pub oneAndOne-answered : Answered emptySheet oneAndOne
+oneAndOne-answered = clear-answered emptySheet oneAndOne oneAndOne-clear
+
+-- 1 gives [1], !1 gives [0] and its operand [1]
+pub one-words : wordsOn emptySheet one ≡ 1 ∷ []
+unfolding exactOn settlingDate listOf wordsOf constant
+one-words = tree-words emptySheet one up 0 one-writes
+
+pub notOne-words : wordsOn emptySheet notOne ≡ 0 ∷ []
+unfolding exactOn settlingDate listOf wordsOf constant NOT
+notOne-words = tree-words emptySheet notOne (tree.Tree.unary tree.Unary.invert up) 1 notOne-writes
+
+pub up-words : exactOn emptySheet up ≡ 1 ∷ []
+unfolding exactOn settlingDate listOf wordsOf constant
+up-words = refl
+
+-- enough for one word
+pub enough-of : (formula : List ℕ) (w v : ℕ) → wordsOn emptySheet formula ≡ w ∷ [] → Enough emptySheet formula 8192 (v ∷ [])
+unfolding neededWork
+enough-of formula w v e = record { area = omega arith; room = rw e (omega arith) }
+
+-- 1 to 0 fails after 0
+pub one-to-none : claimVerdict emptySheet up down ≡ FailsAfter 0
+unfolding claimVerdict settlingDate verdictOf earliest refuted constant failsIn isGap tick
+one-to-none = refl

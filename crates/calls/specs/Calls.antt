@@ -1,0 +1,81 @@
+-- The formula call and the claim of two formulas: their faults in document 01's order, the words, the output at exit and the verdict.
+use Prim.Native.Nat.{ℕ, max}
+use mathlib.Core.Bool.{cond}
+use mathlib.Core.List.{List, [], _∷_}
+use lib.Dec.{ltb, eqb}
+use lib.ListN.{length}
+use Rattle.signals.specs.Answers.{writtenOf, outputOf}
+use Rattle.signals.specs.Implication.{verdictOf}
+use Rattle.signals.specs.declared.Written.{Written}
+use Rattle.signals.specs.declared.Verdict.{Verdict}
+use Rattle.signals.specs.declared.Verdict.the-variants.{Refused}
+use Rattle.operations.specs.Calls.{firstOf, changesAfterM}
+use Rattle.formulas.specs.Tree.{Tree}
+use Rattle.formulas.specs.Formula.{formulaFault, formulaTree}
+use Rattle.laws.specs.Rewriting.{parts}
+use Rattle.sheets.specs.Reading.{sheetFault}
+use Rattle.calls.specs.OnSheet.{signalOn, settlingDate, exactOn, namesFound}
+
+-- the work words that a call needs on a sheet
+unfoldable pub neededWork : List ℕ → ℕ
+neededWork sheet = 8192
+
+-- 10, 11, 8, 12 of the formula alone, then 13: a name that the sheet does not have
+unfoldable pub readingFault : List ℕ → List ℕ → ℕ
+readingFault sheet formula = firstOf (formulaFault formula) (cond (namesFound sheet (formulaTree formula)) 0 13)
+
+-- 18: work area under the needed words
+unfoldable pub workFault : List ℕ → ℕ → ℕ
+workFault sheet work = cond (ltb work (neededWork sheet)) 18 0
+
+-- 5 or 6, 5 where both apply, of a part by its normal list
+unfoldable pub partFault : List ℕ → ℕ
+partFault exact = cond (ltb 256 (length exact)) 5 (cond (changesAfterM exact) 6 0)
+
+-- the first part worked out that meets one
+unfoldable pub partsFault : List ℕ → List Tree → ℕ
+partsFault sheet [] = 0
+partsFault sheet (t ∷ ts) = firstOf (partFault (exactOn sheet t)) (partsFault sheet ts)
+
+unfoldable pub workingFault : List ℕ → List ℕ → ℕ
+workingFault sheet formula = partsFault sheet (parts (formulaTree formula))
+
+-- the formula's words: the normal list of its signal
+unfoldable pub wordsOn : List ℕ → List ℕ → List ℕ
+wordsOn sheet formula = exactOn sheet (formulaTree formula)
+
+-- 7: output, of so many words, shorter than the answer
+unfoldable pub roomFault : List ℕ → ℕ → ℕ
+roomFault exact room = cond (ltb room (length exact)) 7 0
+
+-- A formula call takes sheet, formula 10, 11, 8, 12, 13, 18, then 5 or 6 at the first part worked out that meets one, then 7.
+unfoldable pub callFault : List ℕ → List ℕ → ℕ → ℕ → ℕ
+callFault sheet formula work room =
+    firstOf (sheetFault sheet)
+    (firstOf (readingFault sheet formula)
+    (firstOf (workFault sheet work) (firstOf (workingFault sheet formula) (roomFault (wordsOn sheet formula) room))))
+
+-- its answer, and the output at exit
+unfoldable pub callAnswer : List ℕ → List ℕ → ℕ → List ℕ → Written
+callAnswer sheet formula work old = writtenOf (callFault sheet formula work (length old)) (wordsOn sheet formula)
+
+unfoldable pub callOutput : List ℕ → List ℕ → ℕ → List ℕ → List ℕ
+callOutput sheet formula work old = outputOf (callFault sheet formula work (length old)) (wordsOn sheet formula) old
+
+-- For claims F, then G; 18; F's parts before G's; a claim has no output and no 7.
+unfoldable pub claimFault : List ℕ → List ℕ → List ℕ → ℕ → ℕ
+claimFault sheet F G work =
+    firstOf (sheetFault sheet)
+    (firstOf (readingFault sheet F)
+    (firstOf (readingFault sheet G)
+    (firstOf (workFault sheet work) (firstOf (workingFault sheet F) (workingFault sheet G)))))
+
+-- the verdict of the implication of the two signals
+unfoldable pub claimVerdict : List ℕ → Tree → Tree → Verdict
+claimVerdict sheet f g = verdictOf (signalOn sheet f) (signalOn sheet g) (max (settlingDate sheet f) (settlingDate sheet g))
+
+unfoldable pub claimAnswer : List ℕ → List ℕ → List ℕ → ℕ → Verdict
+claimAnswer sheet F G work =
+    cond (eqb (claimFault sheet F G work) 0)
+    (claimVerdict sheet (formulaTree F) (formulaTree G))
+    (Refused (claimFault sheet F G work))

@@ -1,0 +1,64 @@
+-- Demand 3 as a predicate of an engine, sentence by sentence.
+use Prim.Native.Nat.{ℕ, _≤_}
+use mathlib.Core.Path.{_≡_}
+use mathlib.Core.Logic.{_↔_}
+use mathlib.Core.List.{List}
+use lib.ListN.{take}
+use Rattle.signals.specs.Answers.{faultIn, countIn}
+use Rattle.signals.specs.Settled.{Same}
+use Rattle.formulas.specs.Tree.{Tree}
+use Rattle.formulas.specs.Grammar.{Writes}
+use Rattle.laws.specs.Rewriting.{Rewrites}
+use Rattle.calls.specs.OnSheet.{signalOn}
+use Rattle.calls.specs.Calls.{neededWork}
+use Rattle.calls.specs.Answered.{Answered, Enough}
+use Rattle.calls.specs.Engine.{Engine}
+use Rattle.calls.specs.NormalLists.{JudgedAs}
+use Rattle.calls.specs.Demand2.{GivesTheList}
+
+-- A call without a fault; its words: those, as many as the word count, that it gives.
+abbrev pub Served : Engine → List ℕ → List ℕ → ℕ → List ℕ → Type 0
+Served E sheet formula work old = faultIn (E .answer sheet formula work old) ≡ 0
+
+abbrev pub wordsGiven : Engine → List ℕ → List ℕ → ℕ → List ℕ → List ℕ
+wordsGiven E sheet formula work old = take (countIn (E .answer sheet formula work old)) (E .output sheet formula work old)
+
+-- F and G give the same word count and the same words, whatever work areas they had and whatever their outputs held
+pub record SameWords (E : Engine) (sheet F G : List ℕ) : Type 0 where
+  pub count : (workF workG : ℕ) (oldF oldG : List ℕ) → Served E sheet F workF oldF → Served E sheet G workG oldG
+      → countIn (E .answer sheet F workF oldF) ≡ countIn (E .answer sheet G workG oldG)
+  pub words : (workF workG : ℕ) (oldF oldG : List ℕ) → Served E sheet F workF oldF → Served E sheet G workG oldG
+      → wordsGiven E sheet F workF oldF ≡ wordsGiven E sheet G workG oldG
+
+-- the third formula H has, as the first side of a claim and as the second, the same verdict with G as with F (the whole answers are
+-- equal): the one that the implication gives for the signals as defined
+pub record SameVerdicts (E : Engine) (sheet F G H : List ℕ) (f g h : Tree) : Type 0 where
+  pub asFirst : (work : ℕ) → E .claim sheet H F work ≡ E .claim sheet H G work
+  pub asSecond : (work : ℕ) → E .claim sheet F H work ≡ E .claim sheet G H work
+  pub firstWithF : (work : ℕ) → neededWork sheet ≤ work → JudgedAs (signalOn sheet h) (signalOn sheet f) (E .claim sheet H F work)
+  pub firstWithG : (work : ℕ) → neededWork sheet ≤ work → JudgedAs (signalOn sheet h) (signalOn sheet g) (E .claim sheet H G work)
+  pub secondWithF : (work : ℕ) → neededWork sheet ≤ work → JudgedAs (signalOn sheet f) (signalOn sheet h) (E .claim sheet F H work)
+  pub secondWithG : (work : ℕ) → neededWork sheet ≤ work → JudgedAs (signalOn sheet g) (signalOn sheet h) (E .claim sheet G H work)
+
+pub record Demand3 (E : Engine) : Type 0 where
+  -- its answered formulas are those defined: with the needed work words and an output at least as long as the answer, an answered formula's
+  -- call meets no fault, and a call without a fault is of an answered formula
+  pub served : (sheet F : List ℕ) → Answered sheet F → (work : ℕ) (old : List ℕ) → Enough sheet F work old → Served E sheet F work old
+  pub answered : (sheet F : List ℕ) (work : ℕ) (old : List ℕ) → Served E sheet F work old → Answered sheet F
+  -- "Take any formula F, any one part of it and any equation of document 01's law table that fits that part in either direction, and let
+  -- G be F with the part so rewritten. Then on every sheet where both are answered, F and G give the same word count and the same words."
+  pub rewritten : (F G : List ℕ) (f g : Tree) (d e : ℕ) → Writes F f d → Writes G g e → Rewrites f g
+      → (sheet : List ℕ) → Answered sheet F → Answered sheet G → SameWords E sheet F G
+  -- "Any third formula answered there, as the first side of a claim and as the second, has the same verdict with G as with F: the one that
+  -- document 01's implication gives for the signals as defined."
+  pub third : (F G H : List ℕ) (f g h : Tree) (d e k : ℕ) → Writes F f d → Writes G g e → Writes H h k → Rewrites f g
+      → (sheet : List ℕ) → Answered sheet F → Answered sheet G → Answered sheet H → SameVerdicts E sheet F G H f g h
+  -- "Each answered formula gives the one normal list of its signal,"
+  pub lists : (sheet F : List ℕ) → Answered sheet F → (work : ℕ) (old : List ℕ) → Served E sheet F work old
+      → GivesTheList E sheet F work old
+  -- "and two, on one sheet or on two, give the same words exactly when their signals, as defined, are up at the same instants and in the
+  -- same gaps."
+  pub exactly : (sheetF sheetG F G : List ℕ) (f g : Tree) (d e : ℕ) → Writes F f d → Writes G g e
+      → Answered sheetF F → Answered sheetG G → (workF workG : ℕ) (oldF oldG : List ℕ)
+      → Served E sheetF F workF oldF → Served E sheetG G workG oldG
+      → (wordsGiven E sheetF F workF oldF ≡ wordsGiven E sheetG G workG oldG) ↔ Same (signalOn sheetF f) (signalOn sheetG g)

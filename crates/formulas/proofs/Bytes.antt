@@ -1,0 +1,65 @@
+-- Facts on bytes: tests joined by and, runs of bytes, and which bytes a lowercase letter or a digit is not.
+use Prim.Native.Nat.{ℕ, zero, suc, _+_, _*_, _-_, _≤_, _<_}
+use native.Mathlib.Omega.{arith}
+use mathlib.Core.Path.{_≡_, refl, sym, ap, _∙_}
+use mathlib.Core.Bool.{Bool, true, false, cond, not, _&&_, _||_}
+use mathlib.Core.List.{List, [], _∷_, _++_}
+use lib.Dec.{leb, ltb, eqb}
+use lib.ListN.{length, getD, take, drop}
+use borrow.Author.Tests.{eqb-true, ne-eqb, leb-true, lt-leb}
+use Rattle.formulas.specs.Grammar.{isLower, isDigit, isNameByte, allOf}
+use Rattle.formulas.specs.Reader.{run, prefixKind}
+
+pub never : {A : Type 0} → _≡_ {A = Bool} false true → A
+never {A} e = absurd (let z : _≡_ {A = ℕ} 0 1 = cc in omega arith)
+
+pub and-left : (a b : Bool) → a && b ≡ true → a ≡ true
+and-left true b e = refl
+and-left false b e = e
+
+pub and-right : (a b : Bool) → a && b ≡ true → b ≡ true
+and-right true b e = e
+and-right false b e = never e
+
+pub and-both : (a b : Bool) → a ≡ true → b ≡ true → a && b ≡ true
+and-both true b p q = q
+and-both false b p q = p
+
+pub run-all : (p : ℕ → Bool) (w l : List ℕ) → allOf p w ≡ true → p (getD l 0 0) ≡ false → run p (w ++ l) ≡ length w
+unfolding run allOf
+run-all p [] [] e f = refl
+run-all p [] (b ∷ l) e f = rw f refl
+run-all p (b ∷ w) l e f = rw (and-left (p b) (allOf p w) e, run-all p w l (and-right (p b) (allOf p w) e) f) refl
+
+-- bytes that are no lowercase letter
+pub record NotLower (b : ℕ) : Type 0 where
+  pub prefix : prefixKind b ≡ 0
+  pub bracket : eqb b 40 ≡ false
+  pub S : eqb b 83 ≡ false
+  pub R : eqb b 82 ≡ false
+  pub T : eqb b 84 ≡ false
+  pub zero : eqb b 48 ≡ false
+  pub one : eqb b 49 ≡ false
+
+pub lower-low : (b : ℕ) → isLower b ≡ true → 97 ≤ b
+unfolding isLower
+lower-low b e = leb-true 97 b (and-left (leb 97 b) (leb b 122) e)
+
+pub lower-high : (b : ℕ) → isLower b ≡ true → b ≤ 122
+unfolding isLower
+lower-high b e = leb-true b 122 (and-right (leb 97 b) (leb b 122) e)
+
+pub lower-not : (b : ℕ) → isLower b ≡ true → NotLower b
+unfolding prefixKind
+lower-not b e =
+    let low : 97 ≤ b = lower-low b e in
+    let high : b ≤ 122 = lower-high b e in
+    record {
+      prefix = rw (ne-eqb b 33 (omega arith), ne-eqb b 94 (omega arith), ne-eqb b 126 (omega arith)) refl;
+      bracket = ne-eqb b 40 (omega arith);
+      S = ne-eqb b 83 (omega arith);
+      R = ne-eqb b 82 (omega arith);
+      T = ne-eqb b 84 (omega arith);
+      zero = ne-eqb b 48 (omega arith);
+      one = ne-eqb b 49 (omega arith);
+    }

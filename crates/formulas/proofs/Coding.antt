@@ -1,0 +1,144 @@
+-- Code words stand for the parts: the reader that puts out words and the one that puts out parts go the same way.
+use Prim.Native.Nat.{ℕ, zero, suc, _+_, _*_, _-_, _/_, _%_, _≤_, _<_, max, min}
+use native.Mathlib.Nat.{mod-eq-of-lt}
+use native.Mathlib.Omega.{arith}
+use native.Mathlib.Decide.{decLt}
+use mathlib.Core.Path.{_≡_, refl, sym, ap, _∙_, subst}
+use mathlib.Core.Bool.{Bool, true, false, cond, not, _&&_, _||_}
+use mathlib.Core.List.{List, [], _∷_, _++_, map, map-append}
+use mathlib.Core.Logic.{_⊎_, inl, inr, ⊎-elim}
+use lib.Dec.{leb, ltb, eqb}
+use lib.ListN.{length, getD, take, drop, List·getD-eq-default, List·getD-map}
+use borrow.Author.Tests.{eq-eqb, eqb-true, ne-eqb}
+use Rattle.signals.specs.Moment.{M}
+use Rattle.formulas.specs.Tree.{Tree, Leaf, Unary, Binary, leaf, unary, binary, down, up, name, invert, rise, fall, ton, tof, and, or, sr, rs}
+use Rattle.formulas.specs.Code.{Part, operand, one, two, code, longest, ticksOf}
+use Rattle.formulas.specs.Reader.{State, Emission, readText}
+use Rattle.formulas.specs.Grammar.{Sum}
+use Rattle.formulas.specs.Formula.{plainPart, timedPart, nameAt, nameWord, timerWord, capped, spelled, coded, partOf, partsOf, codeOf, longestOf}
+use Rattle.formulas.specs.Exactness.{CodeExact, Eight}
+use Rattle.formulas.proofs.Bytes.{never}
+use Rattle.formulas.proofs.Carried.{isPlain, isTimer, Carries, carried, text-carried}
+use Rattle.formulas.proofs.Reading.{parts-exact, in-longest, longest-in}
+
+-- parts with every length above M taken as M + 1
+abbrev cut : List ℕ → Emission Part
+cut text = record { plain = plainPart; named = λ p k. operand (name (nameAt text p k)); timed = λ k n. timedPart k (capped n); ticks = capped }
+
+abbrev pub cutUnary : Unary → Unary
+cutUnary invert = invert
+cutUnary rise = rise
+cutUnary fall = fall
+cutUnary (ton n) = ton (capped n)
+cutUnary (tof n) = tof (capped n)
+
+abbrev pub cutPart : Part → Part
+cutPart (operand l) = operand l
+cutPart (one o) = one (cutUnary o)
+cutPart (two o) = two o
+
+abbrev kinds : List Part
+kinds = operand down ∷ operand up ∷ operand down ∷ one invert ∷ one rise ∷ one fall ∷ operand down ∷ operand down ∷ two and ∷ two or ∷ two sr ∷ two rs ∷ []
+
+plain-below : (k : ℕ) → isPlain k ≡ true → k < 12
+plain-below k e = go (decLt k 12)
+  where
+    go : Dec (k < 12) → k < 12
+    go (yes h) = h
+    go (no h) = never (sym (List·getD-eq-default (true ∷ true ∷ false ∷ true ∷ true ∷ true ∷ false ∷ false ∷ true ∷ true ∷ true ∷ true ∷ []) false {n = k} (omega (arith, h))) ∙ e)
+
+plain-not : (k j : ℕ) → isPlain j ≡ false → isPlain k ≡ true → eqb k j ≡ false
+plain-not k j f e = ne-eqb k j (λ q. never (sym f ∙ ap isPlain (sym q) ∙ e))
+
+timer-kind : (k : ℕ) → isTimer k ≡ true → (k ≡ 6) ⊎ (k ≡ 7)
+timer-kind k e = go (eqb k 6) refl
+  where
+    go : (z : Bool) → eqb k 6 ≡ z → (k ≡ 6) ⊎ (k ≡ 7)
+    go true z = inl (eqb-true k 6 z)
+    go false z = inr (eqb-true k 7 (rw z at e))
+
+words-carry : (text : List ℕ) → Carries coded (cut text) (partOf text) (λ n. n)
+unfolding partOf nameWord timerWord timedPart
+words-carry text =
+    record {
+      plain = λ k e.
+          let h = plain-below k e in
+          let m : k % 16 ≡ k = mod-eq-of-lt (omega arith) in
+          rw (m, plain-not k 2 refl e, plain-not k 6 refl e, plain-not k 7 refl e) refl;
+      named = λ p k h.
+          let m : ((p * 16 + k) * 16 + 2) % 16 ≡ 2 = omega arith in
+          let i : ((p * 16 + k) * 16 + 2) / 256 ≡ p = omega arith in
+          let q : ((p * 16 + k) * 16 + 2) / 16 ≡ p * 16 + k = omega arith in
+          let j : (p * 16 + k) % 16 ≡ k = omega arith in
+          rw (m, i, q, j) refl;
+      timed = λ k n e.
+          let h : k ≤ 7 = ⊎-elim (λ q. omega arith) (λ q. omega arith) (timer-kind k e) in
+          let m : (capped n * 16 + k) % 16 ≡ k = omega arith in
+          let i : (capped n * 16 + k) / 16 ≡ capped n = omega arith in
+          let z : eqb k 2 ≡ false = ne-eqb k 2 (λ q. ⊎-elim (λ r. omega arith) (λ r. omega arith) (timer-kind k e)) in
+          rw (m, i, z, e) refl;
+      ticks = λ n. refl;
+      none = refl;
+      larger = λ a b. refl;
+    }
+
+parts-carry : (text : List ℕ) → Carries (spelled text) (cut text) cutPart capped
+unfolding capped timedPart
+parts-carry text =
+    record {
+      plain = λ k e. sym (List·getD-map cutPart kinds k (operand down));
+      named = λ p k h. refl;
+      timed = λ k n e. by-kind (eqb k 6) n;
+      ticks = λ n. refl;
+      none = refl;
+      larger = λ a b. omega arith;
+    }
+  where
+    by-kind : (z : Bool) (n : ℕ) → cutPart (cond z (one (ton n)) (one (tof n))) ≡ cond z (one (ton (min n (M + 1)))) (one (tof (min n (M + 1))))
+    by-kind true n = refl
+    by-kind false n = refl
+
+-- the run that puts out words, against the one that puts out parts
+pub record CodedRun (text : List ℕ) : Type 0 where
+  pub ok : readText coded text .ok ≡ readText (spelled text) text .ok
+  pub at : readText coded text .at ≡ readText (spelled text) text .at
+  pub out : map (partOf text) (readText coded text .out) ≡ map cutPart (readText (spelled text) text .out)
+  pub deepest : readText coded text .deepest ≡ readText (spelled text) text .deepest
+  pub longest : readText coded text .longest ≡ capped (readText (spelled text) text .longest)
+
+pub coded-run : (text : List ℕ) → CodedRun text
+coded-run text =
+    let e = text-carried coded (cut text) (partOf text) (λ n. n) (words-carry text) text ∙ sym (text-carried (spelled text) (cut text) cutPart capped (parts-carry text) text) in
+    record {
+      ok = ap (λ (s : State Part). s .ok) e;
+      at = ap (λ (s : State Part). s .at) e;
+      out = ap (λ (s : State Part). s .out) e;
+      deepest = ap (λ (s : State Part). s .deepest) e;
+      longest = ap (λ (s : State Part). s .longest) e;
+    }
+
+capped-small : (n : ℕ) → n ≤ M → capped n ≡ n
+unfolding capped
+capped-small n h = omega arith
+
+unary-small : (o : Unary) → ticksOf o ≤ M → cutUnary o ≡ o
+unary-small invert h = refl
+unary-small rise h = refl
+unary-small fall h = refl
+unary-small (ton n) h = ap ton (capped-small n h)
+unary-small (tof n) h = ap tof (capped-small n h)
+
+pub code-small : (t : Tree) → longest t ≤ M → map cutPart (code t) ≡ code t
+unfolding code longest
+code-small (leaf l) h = refl
+code-small (unary o t) h = map-append cutPart (code t) (one o ∷ []) ∙ rw (code-small t (omega arith), unary-small o (omega arith)) refl
+code-small (binary o t u) h =
+    map-append cutPart (code t) (code u ++ (two o ∷ [])) ∙ rw (map-append cutPart (code u) (two o ∷ []), code-small t (omega arith), code-small u (omega arith)) refl
+
+pub code-exact : CodeExact
+unfolding codeOf partsOf
+code-exact w t d x small = coded-run w .out ∙ ap (map cutPart) (parts-exact w t d x) ∙ code-small t (go (decLt M (longest t)))
+  where
+    go : Dec (M < longest t) → longest t ≤ M
+    go (yes h) = let l = longest-in M t h in absurd (small (t, d, l .0, x, l .1, l .2))
+    go (no h) = omega (arith, h)

@@ -1,0 +1,308 @@
+-- What the grammar derives, the reader reads: with the tree's parts, its depth and its longest length.
+use Prim.Native.Nat.{ℕ, zero, suc, _+_, _*_, _-_, _≤_, _<_, max}
+use native.Mathlib.Nat.{add-zero, add-assoc}
+use native.Mathlib.Numerals.{add-one, one-add}
+use native.Mathlib.Omega.{arith}
+use mathlib.Core.Path.{_≡_, refl, sym, ap, _∙_, subst}
+use mathlib.Core.Bool.{Bool, true, false, cond, not, _&&_, _||_}
+use mathlib.Core.List.{List, [], _∷_, _++_, append-assoc, append-nil}
+use lib.Dec.{leb, ltb, eqb, eqb·suc-zero}
+use lib.ListN.{length, getD, take, drop, length-append}
+use lib.Seq.{take-append-seam}
+use borrow.Author.Tests.{eq-eqb, eqb-true, ne-eqb, eqb-false, leb-true, leb-false, le-leb, lt-leb}
+use Rattle.formulas.specs.Tree.{Tree, Unary, Binary, leaf, unary, binary, invert, rise, fall, ton, tof, and, or, sr, rs, name, down, up}
+use Rattle.formulas.specs.Code.{Part, code, longest, operand, one, two, ticksOf}
+use Rattle.formulas.specs.Grammar.{Sum, Product, Factor, isLower, isDigit, isNameByte, allOf, isName, isLength, value}
+use Rattle.formulas.specs.Reader.{State, Emission, run, next, bad, stepped, expect, put, passLength, valueBetween, prefixKind, leafAt, timed, sumAt, sumsAt, productAt, productsAt, factorAt, latchAt, timerAt}
+use Rattle.formulas.specs.Formula.{plainPart, timedPart, nameAt, spelled}
+use Rattle.formulas.proofs.Bytes.{never, and-left, and-right, run-all, NotLower, lower-not}
+use Rattle.formulas.proofs.Standing.{state-eq, At, next-of, step-at, steps-at, expect-at, after, after-at}
+use Rattle.formulas.proofs.Steps.{joined, prefixed, bracketed, latched, clocked, two-letters, three-letters, regroup}
+
+-- a name or a number ends before these bytes
+abbrev pub NameEnds : List ℕ → Type 0
+NameEnds l = isNameByte (getD l 0 0) ≡ false
+
+-- what may follow a sum
+pub record SumEnds (l : List ℕ) : Type 0 where
+  pub name : NameEnds l
+  pub dot : eqb (getD l 0 0) 46 ≡ false
+  pub plus : eqb (getD l 0 0) 43 ≡ false
+
+pub closed : (l : List ℕ) → SumEnds (41 ∷ l)
+unfolding isNameByte isLower isDigit
+closed l = record { name = refl; dot = refl; plus = refl }
+
+pub parted : (l : List ℕ) → SumEnds (44 ∷ l)
+unfolding isNameByte isLower isDigit
+parted l = record { name = refl; dot = refl; plus = refl }
+
+pub ended : SumEnds []
+unfolding isNameByte isLower isDigit
+ended = record { name = refl; dot = refl; plus = refl }
+
+module _ (text : List ℕ) where
+  abbrev pub ReadsFactor : List ℕ → Tree → ℕ → Type 0
+  ReadsFactor w t d =
+      (n deep : ℕ) (s : State Part) (l : List ℕ) → At text s (w ++ l) → NameEnds l → 5 * length (w ++ l) + 2 ≤ n →
+      factorAt (spelled text) text n deep s ≡ after w t d deep s
+
+  abbrev pub ReadsProduct : List ℕ → Tree → ℕ → Type 0
+  ReadsProduct w t d =
+      (n deep : ℕ) (s : State Part) (l : List ℕ) → At text s (w ++ l) → NameEnds l → 5 * length (w ++ l) + 3 ≤ n →
+      (k : ℕ) × (5 * length l + 1 ≤ k) × (productAt (spelled text) text n deep s ≡ productsAt (spelled text) text k deep (after w t d deep s))
+
+  abbrev pub ReadsSum : List ℕ → Tree → ℕ → Type 0
+  ReadsSum w t d =
+      (n deep : ℕ) (s : State Part) (l : List ℕ) → At text s (w ++ l) → NameEnds l → eqb (getD l 0 0) 46 ≡ false → 5 * length (w ++ l) + 4 ≤ n →
+      (k : ℕ) × (5 * length l + 1 ≤ k) × (sumAt (spelled text) text n deep s ≡ sumsAt (spelled text) text k deep (after w t d deep s))
+
+  abbrev pub ReadsWhole : List ℕ → Tree → ℕ → Type 0
+  ReadsWhole w t d =
+      (n deep : ℕ) (s : State Part) (l : List ℕ) → At text s (w ++ l) → SumEnds l → 5 * length (w ++ l) + 4 ≤ n →
+      sumAt (spelled text) text n deep s ≡ after w t d deep s
+
+  -- a chain ends where no operator follows
+  products-end : (n deep : ℕ) (s : State Part) (l : List ℕ) → At text s l → eqb (getD l 0 0) 46 ≡ false → 1 ≤ n → productsAt (spelled text) text n deep s ≡ s
+  unfolding productsAt
+  products-end zero deep s l a e h = absurd (omega arith)
+  products-end (suc n) deep s l a e h = rw (next-of a, e) refl
+
+  sums-end : (n deep : ℕ) (s : State Part) (l : List ℕ) → At text s l → eqb (getD l 0 0) 43 ≡ false → 1 ≤ n → sumsAt (spelled text) text n deep s ≡ s
+  unfolding sumsAt
+  sums-end zero deep s l a e h = absurd (omega arith)
+  sums-end (suc n) deep s l a e h = rw (next-of a, e) refl
+
+  pub whole : (w : List ℕ) (t : Tree) (d : ℕ) → ReadsSum w t d → ReadsWhole w t d
+  whole w t d r n deep s l a e h =
+      let q = r n deep s l a (e .name) (e .dot) h in
+      q .2 ∙ sums-end (q .0) deep (after w t d deep s) l (after-at w t d deep a) (e .plus) (omega (arith, q .1))
+
+  pub sum-of-product : (w : List ℕ) (t : Tree) (d : ℕ) → ReadsProduct w t d → ReadsSum w t d
+  unfolding sumAt
+  sum-of-product w t d r zero deep s l a e e2 h = absurd (omega arith)
+  sum-of-product w t d r (suc n) deep s l a e e2 h =
+      let q = r n deep s l a e (omega arith) in
+      (n, omega (arith, length-append w l), rw (q .2, products-end (q .0) deep (after w t d deep s) l (after-at w t d deep a) e2 (omega (arith, q .1))) refl)
+
+  pub product-of-factor : (w : List ℕ) (t : Tree) (d : ℕ) → ReadsFactor w t d → ReadsProduct w t d
+  unfolding productAt
+  product-of-factor w t d r zero deep s l a e h = absurd (omega arith)
+  product-of-factor w t d r (suc n) deep s l a e h =
+      (n, omega (arith, length-append w l), rw (r n deep s l a e (omega arith)) refl)
+
+  plus-step : (w v : List ℕ) (t u : Tree) (d e : ℕ) → ReadsProduct v u e →
+      (k deep : ℕ) (s : State Part) (l : List ℕ) → At text s (w ++ (43 ∷ (v ++ l))) → NameEnds l → eqb (getD l 0 0) 46 ≡ false →
+      5 * length (43 ∷ (v ++ l)) + 1 ≤ k →
+      (j : ℕ) × (5 * length l + 1 ≤ j) × (sumsAt (spelled text) text k deep (after w t d deep s) ≡ sumsAt (spelled text) text j deep (after (w ++ (43 ∷ v)) (binary or t u) (max d e) deep s))
+  unfolding sumsAt
+  plus-step w v t u d e r zero deep s l a f g h = absurd (omega arith)
+  plus-step w v t u d e r (suc k) deep s l a f g h =
+      let b = after-at w t d deep a in
+      let q = r k deep (stepped 1 (after w t d deep s)) l (step-at b) f (omega arith) in (
+        k,
+        omega (arith, length-append v l),
+        rw (next-of b, q .2, products-end (q .0) deep (after v u e deep (stepped 1 (after w t d deep s))) l (after-at v u e deep (step-at b)) g (omega (arith, q .1)), joined or w v t u d e 43 9 deep s refl) refl,
+      )
+
+  pub plus-reads : (w v : List ℕ) (t u : Tree) (d e : ℕ) → ReadsSum w t d → ReadsProduct v u e → ReadsSum (w ++ (43 ∷ v)) (binary or t u) (max d e)
+  unfolding isNameByte isLower isDigit
+  plus-reads w v t u d e r x n deep s l a f g h =
+      let a2 : At text s (w ++ (43 ∷ (v ++ l))) = rw append-assoc at a in
+      let q = r n deep s (43 ∷ (v ++ l)) a2 refl refl (rw append-assoc at h) in
+      let z = plus-step w v t u d e x (q .0) deep s l a2 f g (q .1) in
+      (z .0, z .1, q .2 ∙ z .2)
+
+  dot-step : (w v : List ℕ) (t u : Tree) (d e : ℕ) → ReadsFactor v u e →
+      (k deep : ℕ) (s : State Part) (l : List ℕ) → At text s (w ++ (46 ∷ (v ++ l))) → NameEnds l →
+      5 * length (46 ∷ (v ++ l)) + 1 ≤ k →
+      (j : ℕ) × (5 * length l + 1 ≤ j) × (productsAt (spelled text) text k deep (after w t d deep s) ≡ productsAt (spelled text) text j deep (after (w ++ (46 ∷ v)) (binary and t u) (max d e) deep s))
+  unfolding productsAt
+  dot-step w v t u d e r zero deep s l a f h = absurd (omega arith)
+  dot-step w v t u d e r (suc k) deep s l a f h =
+      let b = after-at w t d deep a in (
+        k,
+        omega (arith, length-append v l),
+        rw (next-of b, r k deep (stepped 1 (after w t d deep s)) l (step-at b) f (omega arith), joined and w v t u d e 46 8 deep s refl) refl,
+      )
+
+  pub dot-reads : (w v : List ℕ) (t u : Tree) (d e : ℕ) → ReadsProduct w t d → ReadsFactor v u e → ReadsProduct (w ++ (46 ∷ v)) (binary and t u) (max d e)
+  unfolding isNameByte isLower isDigit
+  dot-reads w v t u d e r x n deep s l a f h =
+      let a2 : At text s (w ++ (46 ∷ (v ++ l))) = rw append-assoc at a in
+      let q = r n deep s (46 ∷ (v ++ l)) a2 refl (rw append-assoc at h) in
+      let z = dot-step w v t u d e x (q .0) deep s l a2 f (q .1) in
+      (z .0, z .1, q .2 ∙ z .2)
+
+  -- ! ^ ~
+  pub prefix-reads : (b kind : ℕ) (o : Unary) → prefixKind b ≡ kind → ltb 0 kind ≡ true → plainPart kind ≡ one o → ticksOf o ≡ 0 →
+      (w : List ℕ) (t : Tree) (d : ℕ) → ReadsFactor w t d → ReadsFactor (b ∷ w) (unary o t) (d + 1)
+  unfolding factorAt
+  prefix-reads b kind o pk pos pp tk w t d r zero deep s l a f h = absurd (omega arith)
+  prefix-reads b kind o pk pos pp tk w t d r (suc n) deep s l a f h =
+      rw (next-of a, pk, pos, r n (deep + 1) (stepped 1 s) l (step-at a) f (omega arith)) (prefixed b kind o pp tk w t d deep s)
+
+  pub brackets-reads : (w : List ℕ) (t : Tree) (d : ℕ) → ReadsWhole w t d → ReadsFactor (40 ∷ (w ++ (41 ∷ []))) t (d + 1)
+  unfolding factorAt prefixKind
+  brackets-reads w t d r zero deep s l a f h = absurd (omega arith)
+  brackets-reads w t d r (suc n) deep s l a f h =
+      let a2 : At text s (40 ∷ (w ++ (41 ∷ l))) = rw append-assoc at a in
+      let h2 : length ((w ++ (41 ∷ [])) ++ l) ≡ length (w ++ (41 ∷ l)) = ap length (append-assoc w (41 ∷ []) l) in
+      let b = step-at a2 in
+      rw (next-of a, r n (deep + 1) (stepped 1 s) (41 ∷ l) b (closed l) (omega arith), expect-at (after-at w t d (deep + 1) b))
+      (bracketed w t d deep s)
+
+  pub zero-reads : ReadsFactor (48 ∷ []) (leaf down) 0
+  unfolding factorAt prefixKind leafAt put after stepped code longest
+  zero-reads zero deep s l a f h = absurd (omega arith)
+  zero-reads (suc n) deep s l a f h = rw (next-of a, a .fine) (state-eq refl refl refl (omega arith) refl)
+
+  pub one-reads : ReadsFactor (49 ∷ []) (leaf up) 0
+  unfolding factorAt prefixKind leafAt put after stepped code longest
+  one-reads zero deep s l a f h = absurd (omega arith)
+  one-reads (suc n) deep s l a f h = rw (next-of a, a .fine) (state-eq refl refl refl (omega arith) refl)
+
+  name-step : (b : ℕ) (bs : List ℕ) → isLower b ≡ true → allOf isNameByte bs ≡ true → length bs ≤ 7 → ReadsFactor (b ∷ bs) (leaf (name (b ∷ bs))) 0
+  unfolding factorAt leafAt put after stepped code longest nameAt allOf isNameByte
+  name-step b bs low all short zero deep s l a f h = absurd (omega arith)
+  name-step b bs low all short (suc n) deep s l a f h =
+      let k = lower-not b low in
+      let every : allOf isNameByte (b ∷ bs) ≡ true = rw low all in
+      rw (next-of a, k .prefix, k .bracket, k .S, k .R, k .T, k .zero, k .one, low, a .left, run-all isNameByte (b ∷ bs) l every f, le-leb (length (b ∷ bs)) 8 (omega arith), a .fine, take-append-seam (b ∷ bs) l)
+      (state-eq refl refl refl (omega arith) refl)
+
+  pub named-reads : (w : List ℕ) → isName w ≡ true → ReadsFactor w (leaf (name w)) 0
+  unfolding isName
+  named-reads [] e n deep s l a f h = never e
+  named-reads (b ∷ bs) e n deep s l a f h =
+      let low = and-left (isLower b) (allOf isNameByte bs && leb (length bs) 7) e in
+      let rest = and-right (isLower b) (allOf isNameByte bs && leb (length bs) 7) e in
+      name-step b bs low (and-left (allOf isNameByte bs) (leb (length bs) 7) rest) (leb-true (length bs) 7 (and-right (allOf isNameByte bs) (leb (length bs) 7) rest)) n deep s l a f h
+
+  -- a latch after its letters
+  pub latch-reads : (kind : ℕ) (o : Binary) → plainPart kind ≡ two o → (w v : List ℕ) (t u : Tree) (d e : ℕ) → ReadsWhole w t d → ReadsWhole v u e →
+      (n deep : ℕ) (s : State Part) (l : List ℕ) → At text s (40 ∷ (w ++ (44 ∷ (v ++ (41 ∷ l))))) → 5 * length (40 ∷ (w ++ (44 ∷ (v ++ (41 ∷ l))))) ≤ n →
+      latchAt (spelled text) text n kind deep s ≡ after (40 ∷ (w ++ (44 ∷ (v ++ (41 ∷ []))))) (binary o t u) (max d e + 1) deep s
+  unfolding latchAt
+  latch-reads kind o p w v t u d e r q zero deep s l a h = absurd (omega arith)
+  latch-reads kind o p w v t u d e r q (suc n) deep s l a h =
+      let h2 = length-append w (44 ∷ (v ++ (41 ∷ l))) in
+      let a2 = step-at a in
+      let a3 = after-at w t d (deep + 1) a2 in
+      let a4 = step-at a3 in
+      let a5 = after-at v u e (deep + 1) a4 in
+      rw (
+        expect-at a,
+        r n (deep + 1) (stepped 1 s) (44 ∷ (v ++ (41 ∷ l))) a2 (parted (v ++ (41 ∷ l))) (omega arith),
+        expect-at a3,
+        q n (deep + 1) (stepped 1 (after w t d (deep + 1) (stepped 1 s))) (41 ∷ l) a4 (closed l) (omega arith),
+        expect-at a5,
+      )
+      (latched kind o p w v t u d e deep s)
+
+  -- a length
+  length-step : (b : ℕ) (bs l : List ℕ) (s : State Part) → isDigit b ≡ true → allOf isDigit bs ≡ true → (z : Bool) → eqb b 48 ≡ z →
+      eqb (length bs) 0 || not z ≡ true → At text s ((b ∷ bs) ++ (44 ∷ l)) → passLength text s ≡ stepped (length (b ∷ bs)) s
+  unfolding passLength allOf isDigit
+  length-step b [] l s dig all true z e a = rw (next-of a, z) refl
+  length-step b (c ∷ bs) l s dig all true z e a = never (rw eqb·suc-zero at e)
+  length-step b bs l s dig all false z e a =
+      let every : allOf isDigit (b ∷ bs) ≡ true = rw dig all in
+      rw (next-of a, z, dig, a .left, run-all isDigit (b ∷ bs) (44 ∷ l) every refl) refl
+
+  pub length-reads : (w l : List ℕ) (s : State Part) → isLength w ≡ true → At text s (w ++ (44 ∷ l)) → passLength text s ≡ stepped (length w) s
+  unfolding isLength
+  length-reads [] l s e a = never e
+  length-reads (b ∷ bs) l s e a =
+      let rest = and-right (isDigit b) (allOf isDigit bs && (eqb (length bs) 0 || not (eqb b 48))) e in
+      length-step b bs l s (and-left (isDigit b) (allOf isDigit bs && (eqb (length bs) 0 || not (eqb b 48))) e) (and-left (allOf isDigit bs) (eqb (length bs) 0 || not (eqb b 48)) rest) (eqb b 48) refl (and-right (allOf isDigit bs) (eqb (length bs) 0 || not (eqb b 48)) rest) a
+
+  -- a timer after its letters
+  pub timer-reads : (kind : ℕ) (w v : List ℕ) (o : Unary) → timedPart kind (value w) ≡ one o → ticksOf o ≡ value w → (t : Tree) (d : ℕ) →
+      isLength w ≡ true → ReadsWhole v t d →
+      (n deep : ℕ) (s : State Part) (l : List ℕ) → At text s (40 ∷ (w ++ (44 ∷ (v ++ (41 ∷ l))))) → 5 * length (40 ∷ (w ++ (44 ∷ (v ++ (41 ∷ l))))) ≤ n →
+      timerAt (spelled text) text n kind deep s ≡ after (40 ∷ (w ++ (44 ∷ (v ++ (41 ∷ []))))) (unary o t) (d + 1) deep s
+  unfolding timerAt timed stepped valueBetween
+  timer-reads kind w v o p tk t d e q zero deep s l a h = absurd (omega arith)
+  timer-reads kind w v o p tk t d e q (suc n) deep s l a h =
+      let h2 = length-append w (44 ∷ (v ++ (41 ∷ l))) in
+      let a2 = step-at a in
+      let a3 = steps-at w a2 in
+      let a4 = step-at a3 in
+      let a5 = after-at v t d (deep + 1) a4 in
+      let gap : (s .at + 1 + length w) - (s .at + 1) ≡ length w = omega arith in
+      rw (
+        expect-at a,
+        length-reads w (v ++ (41 ∷ l)) (stepped 1 s) e a2,
+        expect-at a3,
+        q n (deep + 1) (stepped 1 (stepped (length w) (stepped 1 s))) (41 ∷ l) a4 (closed l) (omega arith),
+        expect-at a5,
+        gap,
+        a2 .left,
+        take-append-seam w (44 ∷ (v ++ (41 ∷ l))),
+      )
+      (clocked kind (value w) o p tk w v t d deep s)
+
+  pub sr-reads : (w v : List ℕ) (t u : Tree) (d e : ℕ) → ReadsWhole w t d → ReadsWhole v u e → ReadsFactor (83 ∷ 82 ∷ 40 ∷ (w ++ (44 ∷ (v ++ (41 ∷ []))))) (binary sr t u) (max d e + 1)
+  unfolding factorAt prefixKind
+  sr-reads w v t u d e r q zero deep s l a f h = absurd (omega arith)
+  sr-reads w v t u d e r q (suc n) deep s l a f h =
+      let g = regroup w v l in
+      let h2 = ap length g in
+      let a2 : At text s (83 ∷ 82 ∷ 40 ∷ (w ++ (44 ∷ (v ++ (41 ∷ l))))) = rw g at a in
+      rw (next-of a, expect-at (step-at a2), latch-reads 10 sr refl w v t u d e r q n deep (stepped 1 (stepped 1 s)) l (step-at (step-at a2)) (omega arith))
+      (two-letters 83 82 (40 ∷ (w ++ (44 ∷ (v ++ (41 ∷ []))))) (binary sr t u) (max d e + 1) deep s)
+
+  pub rs-reads : (w v : List ℕ) (t u : Tree) (d e : ℕ) → ReadsWhole w t d → ReadsWhole v u e → ReadsFactor (82 ∷ 83 ∷ 40 ∷ (w ++ (44 ∷ (v ++ (41 ∷ []))))) (binary rs t u) (max d e + 1)
+  unfolding factorAt prefixKind
+  rs-reads w v t u d e r q zero deep s l a f h = absurd (omega arith)
+  rs-reads w v t u d e r q (suc n) deep s l a f h =
+      let g = regroup w v l in
+      let h2 = ap length g in
+      let a2 : At text s (82 ∷ 83 ∷ 40 ∷ (w ++ (44 ∷ (v ++ (41 ∷ l))))) = rw g at a in
+      rw (next-of a, expect-at (step-at a2), latch-reads 11 rs refl w v t u d e r q n deep (stepped 1 (stepped 1 s)) l (step-at (step-at a2)) (omega arith))
+      (two-letters 82 83 (40 ∷ (w ++ (44 ∷ (v ++ (41 ∷ []))))) (binary rs t u) (max d e + 1) deep s)
+
+  pub ton-reads : (w v : List ℕ) (t : Tree) (d : ℕ) → isLength w ≡ true → ReadsWhole v t d → ReadsFactor (84 ∷ 79 ∷ 78 ∷ 40 ∷ (w ++ (44 ∷ (v ++ (41 ∷ []))))) (unary (ton (value w)) t) (d + 1)
+  unfolding factorAt prefixKind timedPart
+  ton-reads w v t d e q zero deep s l a f h = absurd (omega arith)
+  ton-reads w v t d e q (suc n) deep s l a f h =
+      let g = regroup w v l in
+      let h2 = ap length g in
+      let a2 : At text s (84 ∷ 79 ∷ 78 ∷ 40 ∷ (w ++ (44 ∷ (v ++ (41 ∷ l))))) = rw g at a in
+      let a3 = step-at (step-at a2) in
+      rw (next-of a, expect-at (step-at a2), next-of a3, timer-reads 6 w v (ton (value w)) refl refl t d e q n deep (stepped 1 (stepped 1 (stepped 1 s))) l (step-at a3) (omega arith))
+      (three-letters 84 79 78 (40 ∷ (w ++ (44 ∷ (v ++ (41 ∷ []))))) (unary (ton (value w)) t) (d + 1) deep s)
+
+  pub tof-reads : (w v : List ℕ) (t : Tree) (d : ℕ) → isLength w ≡ true → ReadsWhole v t d → ReadsFactor (84 ∷ 79 ∷ 70 ∷ 40 ∷ (w ++ (44 ∷ (v ++ (41 ∷ []))))) (unary (tof (value w)) t) (d + 1)
+  unfolding factorAt prefixKind timedPart
+  tof-reads w v t d e q zero deep s l a f h = absurd (omega arith)
+  tof-reads w v t d e q (suc n) deep s l a f h =
+      let g = regroup w v l in
+      let h2 = ap length g in
+      let a2 : At text s (84 ∷ 79 ∷ 70 ∷ 40 ∷ (w ++ (44 ∷ (v ++ (41 ∷ l))))) = rw g at a in
+      let a3 = step-at (step-at a2) in
+      rw (next-of a, expect-at (step-at a2), next-of a3, expect-at a3, timer-reads 7 w v (tof (value w)) refl refl t d e q n deep (stepped 1 (stepped 1 (stepped 1 s))) l (step-at a3) (omega arith))
+      (three-letters 84 79 70 (40 ∷ (w ++ (44 ∷ (v ++ (41 ∷ []))))) (unary (tof (value w)) t) (d + 1) deep s)
+
+  -- by the rules of the grammar
+  pub sum-reads : {w : List ℕ} {t : Tree} {d : ℕ} → Sum w t d → ReadsSum w t d
+  unfolding prefixKind
+  sum-reads {w} {t} {d} x =
+      elim x as (λ w t d x. ReadsSum w t d) (λ w t d x. ReadsProduct w t d) (λ w t d x. ReadsFactor w t d) [
+        | Sum.product {w} {t} {d} (p → h) ↦ sum-of-product w t d h
+        | Sum.plus {w} {v} {t} {u} {d} {e} (p → h) (q → k) ↦ plus-reads w v t u d e h k
+        | Product.factor {w} {t} {d} (p → h) ↦ product-of-factor w t d h
+        | Product.dot {w} {v} {t} {u} {d} {e} (p → h) (q → k) ↦ dot-reads w v t u d e h k
+        | Factor.inverted {w} {t} {d} (p → h) ↦ prefix-reads 33 3 invert refl refl refl refl w t d h
+        | Factor.rising {w} {t} {d} (p → h) ↦ prefix-reads 94 4 rise refl refl refl refl w t d h
+        | Factor.falling {w} {t} {d} (p → h) ↦ prefix-reads 126 5 fall refl refl refl refl w t d h
+        | Factor.brackets {w} {t} {d} (p → h) ↦ brackets-reads w t d (whole w t d h)
+        | Factor.zero ↦ zero-reads
+        | Factor.one ↦ one-reads
+        | Factor.named {w} e ↦ named-reads w e
+        | Factor.sr {w} {v} {t} {u} {d} {e} (p → h) (q → k) ↦ sr-reads w v t u d e (whole w t d h) (whole v u e k)
+        | Factor.rs {w} {v} {t} {u} {d} {e} (p → h) (q → k) ↦ rs-reads w v t u d e (whole w t d h) (whole v u e k)
+        | Factor.ton w {v} {t} {d} e (p → h) ↦ ton-reads w v t d e (whole v t d h)
+        | Factor.tof w {v} {t} {d} e (p → h) ↦ tof-reads w v t d e (whole v t d h)
+      ]

@@ -1,0 +1,181 @@
+-- What a path through a reader leaves, put together from what each of its steps leaves.
+use Prim.Native.Nat.{ℕ, zero, suc, _+_, _*_, _-_, _≤_, _<_, max}
+use native.Mathlib.Omega.{arith}
+use native.Mathlib.Numerals.{add-one}
+use mathlib.Core.Path.{_≡_, refl, sym, ap, _∙_, subst}
+use mathlib.Core.Bool.{Bool, true, false, cond}
+use mathlib.Core.List.{List, [], _∷_, _++_}
+use lib.Dec.{leb, ltb, eqb}
+use lib.ListN.{length, getD, take, drop, set, length-set, length-drop}
+use lib.Seq.{take-suc-set}
+use borrow.Author.Tests.{eqb-true}
+use Rattle.formulas.specs.Grammar.{isDigit}
+use Rattle.formulas.specs.Reader.{State, run, next, bad, stepped, expect, put, passLength}
+use Rattle.formulas.specs.Marks.{viewOf, nextMark, badMark, movedMark, expectMark, lengthMark, putMark, putCode, Ready, Done}
+use Rattle.formulas.specs.declared.mark.Mark.{Mark}
+use Rattle.formulas.proofs.Bytes.{never}
+use Rattle.formulas.proofs.Standing.{state-eq}
+use Rattle.formulas.proofs.Sound.{by-cond}
+use Rattle.formulas.proofs.Carried.{both-ways}
+use Rattle.formulas.proofs.Marking.{Inside, inside, run-most}
+
+pub view-next : (text : List ℕ) (m : Mark) (code : List ℕ) → next text (viewOf m code) ≡ nextMark text m
+unfolding next nextMark
+view-next text m code = refl
+
+pub view-expect : (text : List ℕ) (b : ℕ) (m : Mark) (code : List ℕ) → viewOf (expectMark text b m) code ≡ expect text b (viewOf m code)
+unfolding expectMark expect stepped bad next nextMark
+view-expect text b m code = both-ways (λ (x : Mark). viewOf x code) (eqb (nextMark text m) b) (λ e. refl) (λ e. refl)
+
+pub view-length : (text : List ℕ) (m : Mark) (code : List ℕ) → viewOf (lengthMark text m) code ≡ passLength text (viewOf m code)
+unfolding lengthMark passLength stepped bad next nextMark
+view-length text m code =
+    both-ways (λ (x : Mark). viewOf x code) (eqb (nextMark text m) 48) (λ e. refl)
+    (λ e. both-ways (λ (x : Mark). viewOf x code) (isDigit (nextMark text m)) (λ e. refl) (λ e. refl))
+
+pub view-put : (m : Mark) (w deep k : ℕ) (code : List ℕ) → (m .ok ≡ true → m .parts < length code) → viewOf (putMark m deep k) (putCode m w code) ≡ put w deep k (viewOf m code)
+unfolding putMark putCode put
+view-put m w deep k code h = go (m .ok) refl
+  where
+    go : (z : Bool) → m .ok ≡ z →
+        viewOf (cond z (record { ok = true; at = m .at; parts = m .parts + 1; deepest = max (m .deepest) deep; longest = max (m .longest) k }) m) (cond z (set code (m .parts) w) code)
+        ≡ cond z (record { ok = true; at = m .at; out = take (m .parts) code ++ (w ∷ []); deepest = max (m .deepest) deep; longest = max (m .longest) k }) (viewOf m code)
+    go true z = state-eq refl refl (rw add-one (take-suc-set code (m .parts) w (h z))) refl refl
+    go false z = refl
+
+-- how far a step goes
+pub record Expected (text : List ℕ) (b : ℕ) (m r : Mark) : Type 0 where
+  pub parts : r .parts ≡ m .parts
+  pub on : m .at ≤ r .at
+  pub eaten : r .ok ≡ true → r .at ≡ m .at + 1
+  pub within : m .at ≤ length text → r .at ≤ length text
+
+pub expected : (text : List ℕ) (b : ℕ) → 0 < b → (m : Mark) → Expected text b m (expectMark text b m)
+unfolding expectMark
+expected text b pos m =
+    by-cond (Expected text b m) (eqb (nextMark text m) b)
+    (λ e.
+    let i = inside text m b (eqb-true (nextMark text m) b e) pos in
+    record { parts = refl; on = omega arith; eaten = λ h. refl; within = λ h. omega (arith, i .before) })
+    (λ e. record { parts = refl; on = omega arith; eaten = λ h. never h; within = λ h. h })
+
+pub record Passed (text : List ℕ) (m r : Mark) : Type 0 where
+  pub parts : r .parts ≡ m .parts
+  pub on : m .at ≤ r .at
+  pub within : r .at ≤ length text
+
+pub passed : (text : List ℕ) (m : Mark) → m .at ≤ length text → Passed text m (lengthMark text m)
+unfolding lengthMark
+passed text m h =
+    by-cond (Passed text m) (eqb (nextMark text m) 48)
+    (λ e.
+    let i = inside text m 48 (eqb-true (nextMark text m) 48 e) (omega arith) in
+    record { parts = refl; on = omega arith; within = omega (arith, i .before) })
+    (λ e. by-cond (Passed text m) (isDigit (nextMark text m))
+    (λ f. record { parts = refl; on = omega arith; within = omega (arith, run-most isDigit (drop (m .at) text), length-drop (m .at) text) })
+    (λ f. record { parts = refl; on = omega arith; within = h }))
+
+pub record Put (m r : Mark) : Type 0 where
+  pub at : r .at ≡ m .at
+  pub most : r .parts ≤ m .parts + 1
+  pub bad : m .ok ≡ false → r .parts ≡ m .parts
+
+pub put-is : (m : Mark) (deep k : ℕ) → Put m (putMark m deep k)
+unfolding putMark
+put-is m deep k = go (m .ok) refl
+  where
+    go : (z : Bool) → m .ok ≡ z → Put m (cond z (record { ok = true; at = m .at; parts = m .parts + 1; deepest = max (m .deepest) deep; longest = max (m .longest) k }) m)
+    go true z = record { at = refl; most = omega arith; bad = λ h. never (sym h ∙ z) }
+    go false z = record { at = refl; most = omega arith; bad = λ h. refl }
+
+put-room : (m : Mark) (w : ℕ) (code : List ℕ) → length (putCode m w code) ≡ length code
+unfolding putCode
+put-room m w code = by-cond (λ (l : List ℕ). length l ≡ length code) (m .ok) (λ e. length-set code (m .parts) w) (λ e. refl)
+
+module _ {text old : List ℕ} {m : Mark} {deep : ℕ} where
+  -- a reader may go on where another left off
+  pub ready-on : {F : ℕ → State ℕ → State ℕ} {level : ℕ} {new : List ℕ} {r : Mark} → Ready text old m deep → Done F level text m old new r → Ready text new r deep
+  ready-on g d =
+      record { short = g .short; room = d .room; within = d .within; fewer = omega (arith, g .fewer, d .few); opened = omega (arith, g .opened, d .on) }
+
+  pub ready-deeper : {F : ℕ → State ℕ → State ℕ} {level : ℕ} {new : List ℕ} {r : Mark} → Ready text old m deep → Done F level text m old new r → m .at < r .at → Ready text new r (deep + 1)
+  ready-deeper g d h =
+      record { short = g .short; room = d .room; within = d .within; fewer = omega (arith, g .fewer, d .few); opened = omega (arith, g .opened, h) }
+
+  pub starting : (level : ℕ) → Ready text old m deep → Done (λ n s. s) level text m old old m
+  starting level g = record { same = λ n h. refl; room = g .room; within = g .within; on = omega arith; few = omega arith }
+
+module _ {text old : List ℕ} {m : Mark} {G : ℕ → State ℕ → State ℕ} {level : ℕ} {mid : List ℕ} {x : Mark} where
+  pub turned : {new : List ℕ} {r : Mark} → new ≡ mid → r ≡ x → Done G level text m old mid x → Done G level text m old new r
+  turned {new} {r} e f d = subst (λ (l : List ℕ). Done G level text m old l r) (sym e) (subst (λ (y : Mark). Done G level text m old mid y) (sym f) d)
+
+  pub moving-by : (k : ℕ) → Done G level text m old mid x → x .at + k ≤ length text → Done (λ n s. stepped k (G n s)) level text m old mid (movedMark x (x .at + k))
+  unfolding stepped
+  moving-by k d h =
+      record { same = λ n j. ap (stepped k) (d .same n j); room = d .room; within = h; on = omega (arith, d .on); few = omega (arith, d .few) }
+
+  pub moving : Done G level text m old mid x → x .at < length text → Done (λ n s. stepped 1 (G n s)) level text m old mid (movedMark x (x .at + 1))
+  moving d h = moving-by 1 d (omega arith)
+
+  pub expecting : (b : ℕ) → 0 < b → Done G level text m old mid x → Done (λ n s. expect text b (G n s)) level text m old mid (expectMark text b x)
+  expecting b pos d =
+      let e = expected text b pos x in
+      record {
+        same = λ n k. view-expect text b x mid ∙ ap (expect text b) (d .same n k);
+        room = d .room;
+        within = e .within (d .within);
+        on = omega (arith, d .on, e .on);
+        few = omega (arith, d .few, e .parts, e .on);
+      }
+
+  pub passing : Done G level text m old mid x → Done (λ n s. passLength text (G n s)) level text m old mid (lengthMark text x)
+  passing d =
+      let e = passed text x (d .within) in
+      record {
+        same = λ n k. view-length text x mid ∙ ap (passLength text) (d .same n k);
+        room = d .room;
+        within = e .within;
+        on = omega (arith, d .on, e .on);
+        few = omega (arith, d .few, e .parts, e .on);
+      }
+
+  pub calling : {F : ℕ → State ℕ → State ℕ} {lev : ℕ} {new : List ℕ} {r : Mark} → Done G level text m old mid x → Done F lev text x mid new r →
+      5 * (length text - x .at) + lev ≤ 5 * (length text - m .at) + level → Done (λ n s. F n (G n s)) level text m old new r
+  calling {F} d e h =
+      record {
+        same = λ n k. e .same n (omega arith) ∙ ap (F n) (d .same n k);
+        room = e .room;
+        within = e .within;
+        on = omega (arith, d .on, e .on);
+        few = omega (arith, d .few, e .few);
+      }
+
+  -- a part that has a byte of its own may be put out
+  pub roomy : {deep : ℕ} → Ready text old m deep → Done G level text m old mid x → (x .ok ≡ true → x .parts + m .at + 1 ≤ m .parts + x .at) → x .ok ≡ true → x .parts < 1024
+  roomy g d h k = omega (arith, h k, g .fewer, g .short, d .within)
+
+  pub putting : {deep0 : ℕ} (w deep k : ℕ) → Ready text old m deep0 → Done G level text m old mid x → (x .ok ≡ true → x .parts + m .at + 1 ≤ m .parts + x .at) →
+      Done (λ n s. put w deep k (G n s)) level text m old (putCode x w mid) (putMark x deep k)
+  putting w deep k g d h =
+      let p = put-is x deep k in
+      record {
+        same = λ n j. view-put x w deep k mid (λ e. subst (λ (i : ℕ). x .parts < i) (sym (d .room)) (roomy g d h e)) ∙ ap (put w deep k) (d .same n j);
+        room = put-room x w mid ∙ d .room;
+        within = omega (arith, p .at, d .within);
+        on = omega (arith, p .at, d .on);
+        few = go (x .ok) refl;
+      }
+    where
+      go : (z : Bool) → x .ok ≡ z → (putMark x deep k) .parts + m .at ≤ m .parts + (putMark x deep k) .at
+      go true z = let p = put-is x deep k in omega (arith, p .at, p .most, h z)
+      go false z = let p = put-is x deep k in omega (arith, p .at, p .bad z, d .few)
+
+  pub finishing : {F : ℕ → State ℕ → State ℕ} → Done G level text m old mid x → ((n : ℕ) → F (suc n) (viewOf m old) ≡ G n (viewOf m old)) → Done F (suc level) text m old mid x
+  finishing {F} d e = record { same = with-fuel; room = d .room; within = d .within; on = d .on; few = d .few }
+    where
+      with-fuel : (n : ℕ) → 5 * (length text - m .at) + suc level ≤ n → viewOf x mid ≡ F n (viewOf m old)
+      with-fuel zero h = absurd (omega arith)
+      with-fuel (suc n) h = d .same n (omega arith) ∙ sym (e n)
+
+  pub becoming : {F : ℕ → State ℕ → State ℕ} → Done G level text m old mid x → ((n : ℕ) → F n (viewOf m old) ≡ G n (viewOf m old)) → Done F level text m old mid x
+  becoming d e = record { same = λ n h. d .same n h ∙ sym (e n); room = d .room; within = d .within; on = d .on; few = d .few }

@@ -1,0 +1,198 @@
+-- The reader accepts exactly the bytes that the grammar derives, with that tree and depth; each fault is given exactly when its sentence holds.
+use Prim.Native.Nat.{ℕ, zero, suc, _+_, _*_, _-_, _≤_, _<_, max}
+use native.Mathlib.Omega.{arith}
+use mathlib.Core.Path.{_≡_, refl, sym, ap, _∙_, subst}
+use mathlib.Core.Bool.{Bool, true, false, cond, not, _&&_, _||_}
+use mathlib.Core.List.{List, [], _∷_, _++_, append-assoc, append-nil}
+use mathlib.Core.Logic.{_⊎_, inl, inr, _↔_, ⊎-elim}
+use lib.Dec.{leb, ltb, eqb}
+use lib.ListN.{length, getD, take, drop, length-append}
+use borrow.Author.Tests.{eq-eqb, eqb-true, eqb-false, ltb-true, ltb-false, lt-ltb, le-ltb, not-true, not-false}
+use Rattle.signals.specs.Moment.{M}
+use Rattle.formulas.specs.Tree.{Tree, Unary, Binary, leaf, unary, binary, ton, tof, invert, rise, fall}
+use Rattle.formulas.specs.Code.{Part, code, longest, treeOf, ticksOf}
+use Rattle.formulas.specs.Grammar.{Sum}
+use Rattle.formulas.specs.Reader.{State, start, readText, sumAt}
+use Rattle.formulas.specs.Formula.{spelled, accepted, formulaTree, depthOf, partsOf, longestOf, formulaFault}
+use Rattle.formulas.specs.Exactness.{ReaderExact, OneTree, PartsExact, LengthIn, of-ton, of-tof, under, first, second, Ten, Eleven, Eight, Twelve, FaultsExact}
+use Rattle.formulas.proofs.Bytes.{never, and-left, and-right, and-both}
+use Rattle.formulas.proofs.Standing.{At, after}
+use Rattle.formulas.proofs.Complete.{whole, sum-reads, ended}
+use Rattle.formulas.proofs.Sound.{sum-found}
+use Rattle.formulas.proofs.Working.{tree-back}
+
+pub text-read : (w : List ℕ) (t : Tree) (d : ℕ) → Sum w t d → readText (spelled w) w ≡ after w t d 0 start
+unfolding readText
+text-read w t d x =
+    let e = append-nil w in
+    whole w w t d (sum-reads w x) (5 * length w + 4) 0 start [] (record { fine = refl; left = sym e }) ended (omega (arith, ap length e))
+
+pub accepted-of : (w : List ℕ) (t : Tree) (d : ℕ) → Sum w t d → accepted w ≡ true
+unfolding accepted after
+accepted-of w t d x = rw (text-read w t d x, eq-eqb (0 + length w) (length w) (omega arith)) refl
+
+pub parts-exact : PartsExact
+unfolding partsOf after
+parts-exact w t d x = ap (λ (r : State Part). r .out) (text-read w t d x)
+
+pub tree-of : (w : List ℕ) (t : Tree) (d : ℕ) → Sum w t d → formulaTree w ≡ t
+unfolding formulaTree
+tree-of w t d x = ap treeOf (parts-exact w t d x) ∙ tree-back t
+
+pub depth-of : (w : List ℕ) (t : Tree) (d : ℕ) → Sum w t d → depthOf w ≡ d
+unfolding depthOf after
+depth-of w t d x = let e : max 0 (0 + d) ≡ d = omega arith in ap (λ (r : State Part). r .deepest) (text-read w t d x) ∙ e
+
+pub longest-of : (w : List ℕ) (t : Tree) (d : ℕ) → Sum w t d → longestOf w ≡ longest t
+unfolding longestOf after
+longest-of w t d x = let e : max 0 (longest t) ≡ longest t = omega arith in ap (λ (r : State Part). r .longest) (text-read w t d x) ∙ e
+
+nothing : (l : List ℕ) → length l ≡ 0 → l ≡ []
+nothing [] e = refl
+nothing (b ∷ l) e = absurd (omega arith)
+
+pub derived-of : (w : List ℕ) → accepted w ≡ true → (t : Tree) × (d : ℕ) × Sum w t d
+unfolding accepted after readText
+derived-of w e =
+    let r = sumAt (spelled w) w (5 * length w + 4) 0 start in
+    let f = sum-found w (5 * length w + 4) 0 start (and-left (r .ok) (eqb (r .at) (length w)) e) in
+    let q : r .at ≡ length w = eqb-true (r .at) (length w) (and-right (r .ok) (eqb (r .at) (length w)) e) in
+    let g : r .at ≡ 0 + length (f .bytes) = ap (λ (x : State Part). x .at) (f .gives) in
+    let here : w ≡ f .bytes ++ f .rest = f .here .left in
+    let size : length w ≡ length (f .bytes) + length (f .rest) = ap length here ∙ length-append (f .bytes) (f .rest) in
+    let none : f .rest ≡ [] = nothing (f .rest) (omega arith) in
+    let same : f .bytes ≡ w = sym (here ∙ ap (λ (l : List ℕ). f .bytes ++ l) none ∙ append-nil (f .bytes)) in
+    (f .tree, f .depth, subst (λ (l : List ℕ). Sum l (f .tree) (f .depth)) same (f .derived))
+
+pub reader-exact : ReaderExact
+reader-exact w t d = (
+  λ x. (accepted-of w t d x, tree-of w t d x, depth-of w t d x),
+  λ h.
+      let g = derived-of w (h .0) in
+      let e1 : g .0 ≡ t = sym (tree-of w (g .0) (g .1) (g .2)) ∙ h .1 in
+      let e2 : g .1 ≡ d = sym (depth-of w (g .0) (g .1) (g .2)) ∙ h .2 in
+      subst (λ (k : ℕ). Sum w t k) e2 (subst (λ (u : Tree). Sum w u (g .1)) e1 (g .2)),
+)
+
+pub one-tree : OneTree
+one-tree w t u d e x y = (sym (tree-of w t d x) ∙ tree-of w u e y, sym (depth-of w t d x) ∙ depth-of w u e y)
+
+-- the longest length is one of the tree's
+pub longest-in : (m : ℕ) (t : Tree) → m < longest t → (n : ℕ) × LengthIn n t × (m < n)
+unfolding longest
+longest-in m (leaf l) h = absurd (omega arith)
+longest-in m (unary o t) h = go o (ltb m (longest t)) refl (longest-in m t) h
+  where
+    go : (o : Unary) (z : Bool) → ltb m (longest t) ≡ z → (m < longest t → (n : ℕ) × LengthIn n t × (m < n)) → m < max (longest t) (ticksOf o) → (n : ℕ) × LengthIn n (unary o t) × (m < n)
+    go o true z ih h = let r = ih (ltb-true m (longest t) z) in (r .0, under (r .1), r .2)
+    go (ton n) false z ih h = let k = ltb-false m (longest t) z in (n, of-ton, omega arith)
+    go (tof n) false z ih h = let k = ltb-false m (longest t) z in (n, of-tof, omega arith)
+    go invert false z ih h = let k = ltb-false m (longest t) z in absurd (omega arith)
+    go rise false z ih h = let k = ltb-false m (longest t) z in absurd (omega arith)
+    go fall false z ih h = let k = ltb-false m (longest t) z in absurd (omega arith)
+longest-in m (binary o t u) h = go (ltb m (longest t)) refl (longest-in m t) (longest-in m u)
+  where
+    go : (z : Bool) → ltb m (longest t) ≡ z → (m < longest t → (n : ℕ) × LengthIn n t × (m < n)) → (m < longest u → (n : ℕ) × LengthIn n u × (m < n)) → (n : ℕ) × LengthIn n (binary o t u) × (m < n)
+    go true z f g = let r = f (ltb-true m (longest t) z) in (r .0, first (r .1), r .2)
+    go false z f g = let k = ltb-false m (longest t) z in let r = g (omega arith) in (r .0, second (r .1), r .2)
+
+pub in-longest : (n : ℕ) (t : Tree) → LengthIn n t → n ≤ longest t
+unfolding longest
+in-longest n t of-ton = omega arith
+in-longest n t of-tof = omega arith
+in-longest n t (under l) = let h = in-longest n _ l in omega arith
+in-longest n t (first l) = let h = in-longest n _ l in omega arith
+in-longest n t (second l) = let h = in-longest n _ l in omega arith
+
+abbrev picked : Bool → Bool → Bool → Bool → ℕ
+picked a b c d = cond a 10 (cond b 11 (cond c 8 (cond d 12 0)))
+
+-- four tests in order, each of a sentence
+faults : {A B C D : Type 0} (a b c d : Bool) → (a ≡ true → A) → (a ≡ false → A → ⊥) → (b ≡ true → B) → (b ≡ false → B → ⊥) →
+    (b ≡ false → c ≡ true → C) → (c ≡ false → C → ⊥) → (b ≡ false → d ≡ true → D) → (d ≡ false → D → ⊥) →
+    ((picked a b c d ≡ 10) ↔ A)
+    × ((picked a b c d ≡ 11) ↔ ((A → ⊥) × B))
+    × ((picked a b c d ≡ 8) ↔ ((A → ⊥) × (B → ⊥) × C))
+    × ((picked a b c d ≡ 12) ↔ ((A → ⊥) × (B → ⊥) × (C → ⊥) × D))
+    × ((picked a b c d ≡ 0) ↔ ((A → ⊥) × (B → ⊥) × (C → ⊥) × (D → ⊥)))
+faults true b c d a1 a0 b1 b0 c1 c0 d1 d0 = (
+  (λ e. a1 refl, λ x. refl),
+  (λ e. absurd (omega arith), λ x. absurd (x .0 (a1 refl))),
+  (λ e. absurd (omega arith), λ x. absurd (x .0 (a1 refl))),
+  (λ e. absurd (omega arith), λ x. absurd (x .0 (a1 refl))),
+  (λ e. absurd (omega arith), λ x. absurd (x .0 (a1 refl))),
+)
+faults false true c d a1 a0 b1 b0 c1 c0 d1 d0 = (
+  (λ e. absurd (omega arith), λ x. absurd (a0 refl x)),
+  (λ e. (a0 refl, b1 refl), λ x. refl),
+  (λ e. absurd (omega arith), λ x. absurd (x .1 (b1 refl))),
+  (λ e. absurd (omega arith), λ x. absurd (x .1 (b1 refl))),
+  (λ e. absurd (omega arith), λ x. absurd (x .1 (b1 refl))),
+)
+faults false false true d a1 a0 b1 b0 c1 c0 d1 d0 = (
+  (λ e. absurd (omega arith), λ x. absurd (a0 refl x)),
+  (λ e. absurd (omega arith), λ x. absurd (b0 refl (x .1))),
+  (λ e. (a0 refl, b0 refl, c1 refl refl), λ x. refl),
+  (λ e. absurd (omega arith), λ x. absurd (x .2 (c1 refl refl))),
+  (λ e. absurd (omega arith), λ x. absurd (x .2 (c1 refl refl))),
+)
+faults false false false true a1 a0 b1 b0 c1 c0 d1 d0 = (
+  (λ e. absurd (omega arith), λ x. absurd (a0 refl x)),
+  (λ e. absurd (omega arith), λ x. absurd (b0 refl (x .1))),
+  (λ e. absurd (omega arith), λ x. absurd (c0 refl (x .2))),
+  (λ e. (a0 refl, b0 refl, c0 refl, d1 refl refl), λ x. refl),
+  (λ e. absurd (omega arith), λ x. absurd (x .3 (d1 refl refl))),
+)
+faults false false false false a1 a0 b1 b0 c1 c0 d1 d0 = (
+  (λ e. absurd (omega arith), λ x. absurd (a0 refl x)),
+  (λ e. absurd (omega arith), λ x. absurd (b0 refl (x .1))),
+  (λ e. absurd (omega arith), λ x. absurd (c0 refl (x .2))),
+  (λ e. absurd (omega arith), λ x. absurd (d0 refl (x .3))),
+  (λ e. (a0 refl, b0 refl, c0 refl, d0 refl), λ x. refl),
+)
+
+or-cases : (a b : Bool) → a || b ≡ true → (a ≡ true) ⊎ (b ≡ true)
+or-cases true b e = inl refl
+or-cases false b e = inr e
+
+or-left : (a b : Bool) → a || b ≡ false → a ≡ false
+or-left true b e = e
+or-left false b e = refl
+
+or-right : (a b : Bool) → a || b ≡ false → b ≡ false
+or-right true b e = never (sym e)
+or-right false b e = e
+
+pub refused-of : (w : List ℕ) → not (accepted w) ≡ false → (t : Tree) × (d : ℕ) × Sum w t d
+refused-of w e = derived-of w (not-false (accepted w) e)
+
+pub faults-exact : FaultsExact
+unfolding formulaFault
+faults-exact w =
+    faults (eqb (length w) 0 || ltb 1024 (length w)) (not (accepted w)) (ltb M (longestOf w)) (ltb 32 (length (partsOf w)) || ltb 16 (depthOf w))
+    (λ e. ⊎-elim (λ h. inl (eqb-true (length w) 0 h)) (λ h. inr (ltb-true 1024 (length w) h)) (or-cases (eqb (length w) 0) (ltb 1024 (length w)) e))
+    (λ e. ⊎-elim (eqb-false (length w) 0 (or-left (eqb (length w) 0) (ltb 1024 (length w)) e))
+    (λ h. let k = ltb-false 1024 (length w) (or-right (eqb (length w) 0) (ltb 1024 (length w)) e) in omega arith))
+    (λ e t d x. never (sym (not-true (accepted w) e) ∙ accepted-of w t d x))
+    (λ e x. let g = refused-of w e in x (g .0) (g .1) (g .2))
+    (λ b e.
+    let g = refused-of w b in
+    let l = longest-in M (g .0) (subst (λ (n : ℕ). M < n) (longest-of w (g .0) (g .1) (g .2)) (ltb-true M (longestOf w) e)) in
+    (g .0, g .1, l .0, g .2, l .1, l .2))
+    (λ e x.
+    let k = ltb-false M (longestOf w) e in
+    let q = longest-of w (x .0) (x .1) (x .3) in
+    let i = in-longest (x .2) (x .0) (x .4) in
+    let j = x .5 in
+    omega arith)
+    (λ b e.
+    let g = refused-of w b in
+    let p = ap length (parts-exact w (g .0) (g .1) (g .2)) in
+    let q = depth-of w (g .0) (g .1) (g .2) in
+    (g .0, g .1, g .2, ⊎-elim (λ h. inl (let k = ltb-true 32 (length (partsOf w)) h in omega arith)) (λ h. inr (let k = ltb-true 16 (depthOf w) h in omega arith)) (or-cases (ltb 32 (length (partsOf w))) (ltb 16 (depthOf w)) e)))
+    (λ e x.
+    let p = ap length (parts-exact w (x .0) (x .1) (x .2)) in
+    let q = depth-of w (x .0) (x .1) (x .2) in
+    let k = ltb-false 32 (length (partsOf w)) (or-left (ltb 32 (length (partsOf w))) (ltb 16 (depthOf w)) e) in
+    let m = ltb-false 16 (depthOf w) (or-right (ltb 32 (length (partsOf w))) (ltb 16 (depthOf w)) e) in
+    ⊎-elim (λ h. omega arith) (λ h. omega arith) (x .3))

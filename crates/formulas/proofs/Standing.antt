@@ -1,0 +1,50 @@
+-- Where a reader stands in a text: the next byte, a step, and what a reader makes of bytes that it has read.
+use Prim.Native.Nat.{ℕ, zero, suc, _+_, _*_, _≤_, _<_, max}
+use native.Mathlib.Nat.{add-zero, add-assoc}
+use native.Mathlib.Numerals.{add-one, one-add}
+use native.Mathlib.Omega.{arith}
+use mathlib.Core.Path.{_≡_, refl, sym, ap, _∙_, subst}
+use mathlib.Core.Bool.{Bool, true, false, cond}
+use mathlib.Core.List.{List, [], _∷_, _++_, append-assoc}
+use lib.Dec.{leb, ltb, eqb}
+use lib.ListN.{length, getD, take, drop, length-append, drop-of-length-le, List·getD-eq-default}
+use lib.Seq.{drop-drop, getD-drop, drop-append-seam, drop-cons}
+use borrow.Author.Tests.{eq-eqb, eqb-true}
+use Rattle.formulas.specs.Tree.{Tree}
+use Rattle.formulas.specs.Code.{Part, code, longest}
+use Rattle.formulas.specs.Reader.{State, next, bad, stepped, expect, put}
+
+module _ {X : Type 0} where
+  pub state-eq : {a b : State X} → a .ok ≡ b .ok → a .at ≡ b .at → a .out ≡ b .out → a .deepest ≡ b .deepest → a .longest ≡ b .longest → a ≡ b
+  state-eq p q r u v = λ i. record { ok = p i; at = q i; out = r i; deepest = u i; longest = v i }
+
+  -- all is well and these bytes are left
+  pub record At (text : List ℕ) (s : State X) (l : List ℕ) : Type 0 where
+    pub fine : s .ok ≡ true
+    pub left : drop (s .at) text ≡ l
+
+  pub next-of : {text : List ℕ} {s : State X} {l : List ℕ} → At text s l → next text s ≡ getD l 0 0
+  unfolding next
+  next-of {text} {s} {l} a = rw (a .fine, ← a .left, getD-drop (s .at) text 0 0, add-zero) refl
+
+  pub step-at : {text : List ℕ} {s : State X} {b : ℕ} {l : List ℕ} → At text s (b ∷ l) → At text (stepped 1 s) l
+  unfolding stepped
+  step-at {text} {s} {b} {l} a = record { fine = a .fine; left = sym (drop-drop 1 (s .at) text) ∙ ap (drop 1) (a .left) }
+
+  pub steps-at : {text : List ℕ} {s : State X} (w : List ℕ) {l : List ℕ} → At text s (w ++ l) → At text (stepped (length w) s) l
+  unfolding stepped
+  steps-at {text} {s} w {l} a =
+      record { fine = a .fine; left = sym (drop-drop (length w) (s .at) text) ∙ ap (drop (length w)) (a .left) ∙ drop-append-seam w l }
+
+  pub expect-at : {text : List ℕ} {s : State X} {b : ℕ} {l : List ℕ} → At text s (b ∷ l) → expect text b s ≡ stepped 1 s
+  unfolding expect
+  expect-at {text} {s} {b} a = rw (eq-eqb (next text s) b (next-of a)) refl
+
+-- what a reader makes of bytes w that write the tree t to depth d, when it stands at s with so many open
+unfoldable pub after : List ℕ → Tree → ℕ → ℕ → State Part → State Part
+after w t d deep s =
+    record { ok = true; at = s .at + length w; out = s .out ++ code t; deepest = max (s .deepest) (deep + d); longest = max (s .longest) (longest t) }
+
+pub after-at : {text : List ℕ} {s : State Part} (w : List ℕ) (t : Tree) (d deep : ℕ) {l : List ℕ} → At text s (w ++ l) → At text (after w t d deep s) l
+unfolding after stepped
+after-at w t d deep a = record { fine = refl; left = steps-at w a .left }

@@ -1,0 +1,123 @@
+-- A text read from its first byte on, over plain values: the mark's fault is the formula's, and the words put out are its code words.
+use Prim.Native.Nat.{ℕ, zero, suc, _+_, _*_, _-_, _≤_, _<_, max}
+use native.Mathlib.Omega.{arith}
+use native.Mathlib.Decide.{decLt}
+use mathlib.Core.Path.{_≡_, refl, sym, ap, _∙_, subst}
+use mathlib.Core.Bool.{Bool, true, false, cond, not, _&&_, _||_}
+use mathlib.Core.List.{List, [], _∷_, map}
+use lib.Dec.{leb, ltb, eqb}
+use lib.ListN.{length, take, length-map}
+use lib.Seq.{length-take-le, sets}
+use borrow.Author.Tests.{eq-eqb, ne-eqb, lt-ltb, le-ltb}
+use Rattle.signals.specs.Moment.{M}
+use Rattle.signals.specs.Answers.{writtenOf}
+use Rattle.signals.specs.declared.Written.{Written}
+use Rattle.signals.specs.declared.Written.the-variants as written
+use Rattle.formulas.specs.Code.{Part}
+use Rattle.formulas.specs.Reader.{State, readText, sumAt}
+use Rattle.formulas.specs.Formula.{spelled, coded, capped, partOf, accepted, partsOf, depthOf, longestOf, formulaFault, codeOf, codeAfter}
+use Rattle.formulas.specs.Marks.{viewOf, Ready, Done, SumRead, markFault}
+use Rattle.formulas.specs.declared.mark.Mark.{Mark}
+use Rattle.formulas.proofs.Coding.{CodedRun, coded-run, cutPart}
+
+abbrev pub first : Mark
+first = record { ok = true; at = 0; parts = 0; deepest = 0; longest = 0 }
+
+pub ready-first : (text old : List ℕ) → length text ≤ 1024 → length old ≡ 1024 → Ready text old first 0
+ready-first text old h r = record { short = h; room = r; within = omega arith; fewer = omega arith; opened = omega arith }
+
+capped-over : (n : ℕ) → ltb M (capped n) ≡ ltb M n
+unfolding capped
+capped-over n = go (decLt M n)
+  where
+    go : Dec (M < n) → ltb M (capped n) ≡ ltb M n
+    go (yes h) = lt-ltb M (capped n) (omega arith) ∙ sym (lt-ltb M n h)
+    go (no h) = le-ltb M (capped n) (omega (arith, h)) ∙ sym (le-ltb M n (omega (arith, h)))
+
+either : (a b : Bool) (x y : ℕ) → cond (a || b) x y ≡ cond a x (cond b x y)
+either true b x y = refl
+either false b x y = refl
+
+-- the tests of a mark in the order of the faults
+ordered : (ok a : Bool) (at len : ℕ) (rest : ℕ) → at ≤ len → cond (not (ok && eqb at len)) 11 rest ≡ cond ok (cond (ltb at len) 11 rest) 11
+ordered false a at len rest h = refl
+ordered true a at len rest h = go (decLt at len)
+  where
+    go : Dec (at < len) → cond (not (eqb at len)) 11 rest ≡ cond (ltb at len) 11 rest
+    go (yes k) = rw (ne-eqb at len (omega arith), lt-ltb at len k) refl
+    go (no k) = rw (eq-eqb at len (omega (arith, k)), le-ltb at len (omega (arith, k))) refl
+
+pub empty-is : (text : List ℕ) → length text ≡ 0 → formulaFault text ≡ 10
+unfolding formulaFault
+empty-is text e = rw (eq-eqb (length text) 0 e) refl
+
+pub long-is : (text : List ℕ) → (length text ≡ 0 → ⊥) → 1024 < length text → formulaFault text ≡ 10
+unfolding formulaFault
+long-is text e h = rw (ne-eqb (length text) 0 e, lt-ltb 1024 (length text) h) refl
+
+-- what a call answers and leaves, by the fault
+pub refused-is : (text code : List ℕ) (f : ℕ) → formulaFault text ≡ f → (f ≡ 0 → ⊥) → (written.Refused f ≡ writtenOf (formulaFault text) (codeOf text)) × (code ≡ codeAfter text code)
+unfolding writtenOf codeAfter
+refused-is text code f e h = rw (e, ne-eqb f 0 h) (refl, refl)
+
+pub written-is : (text code after : List ℕ) (n : ℕ) → formulaFault text ≡ 0 → n ≡ length (codeOf text) → after ≡ sets code 0 (codeOf text) →
+    (written.Count n ≡ writtenOf (formulaFault text) (codeOf text)) × (after ≡ codeAfter text code)
+unfolding writtenOf codeAfter
+written-is text code after n e c a = rw e (ap written.Count c, a)
+
+-- a text without a fault has few parts
+pub few-words : (m : Mark) (bytes : ℕ) → markFault m bytes ≡ 0 → m .parts ≤ 32
+unfolding markFault
+few-words m bytes e = go (m .ok) refl (decLt (m .at) bytes) (decLt M (m .longest)) (decLt 32 (m .parts))
+  where
+    go : (z : Bool) → m .ok ≡ z → Dec (m .at < bytes) → Dec (M < m .longest) → Dec (32 < m .parts) → m .parts ≤ 32
+    go z k a l (no h) = omega (arith, h)
+    go false k a l (yes h) = let q : _≡_ {A = ℕ} 11 0 = rw k at e in absurd (omega arith)
+    go true k (yes a) l (yes h) = let q : _≡_ {A = ℕ} 11 0 = rw (k, lt-ltb (m .at) bytes a) at e in absurd (omega arith)
+    go true k (no a) (yes l) (yes h) = let q : _≡_ {A = ℕ} 8 0 = rw (k, le-ltb (m .at) bytes (omega (arith, a)), lt-ltb M (m .longest) l) at e in absurd (omega arith)
+    go true k (no a) (no l) (yes h) =
+        let q : _≡_ {A = ℕ} 12 0 = rw (k, le-ltb (m .at) bytes (omega (arith, a)), le-ltb M (m .longest) (omega (arith, l)), lt-ltb 32 (m .parts) h) at e in absurd (omega arith)
+
+module _ (text old new : List ℕ) (m : Mark) (d : SumRead text 0 first old new m) (some : length text ≡ 0 → ⊥) (short : length text ≤ 1024) where
+  view : viewOf m new ≡ readText coded text
+  unfolding readText
+  view = d .same (5 * length text + 4) (omega arith)
+
+  few : m .parts ≤ 1024
+  few = omega (arith, d .few, d .within)
+
+  pub few-parts : m .parts ≤ length new
+  few-parts = omega (arith, few, d .room)
+
+  pub words-are : take (m .parts) new ≡ codeOf text
+  unfolding codeOf
+  words-are = ap (λ (s : State ℕ). s .out) view
+
+  pub words-length : length (codeOf text) ≡ m .parts
+  words-length = ap length (sym words-are) ∙ length-take-le (m .parts) new few-parts
+
+  same-ok : readText (spelled text) text .ok ≡ m .ok
+  same-ok = sym (coded-run text .ok) ∙ ap (λ (s : State ℕ). s .ok) (sym view)
+
+  same-at : readText (spelled text) text .at ≡ m .at
+  same-at = sym (coded-run text .at) ∙ ap (λ (s : State ℕ). s .at) (sym view)
+
+  same-depth : depthOf text ≡ m .deepest
+  unfolding depthOf
+  same-depth = sym (coded-run text .deepest) ∙ ap (λ (s : State ℕ). s .deepest) (sym view)
+
+  same-longest : ltb M (longestOf text) ≡ ltb M (m .longest)
+  unfolding longestOf
+  same-longest =
+      sym (capped-over (longestOf text)) ∙ ap (ltb M) (sym (coded-run text .longest) ∙ ap (λ (s : State ℕ). s .longest) (sym view))
+
+  same-count : length (partsOf text) ≡ m .parts
+  unfolding partsOf codeOf
+  same-count =
+      sym (length-map (partsOf text) cutPart) ∙ ap length (sym (coded-run text .out)) ∙ length-map (codeOf text) (partOf text) ∙ words-length
+
+  pub fault-is : formulaFault text ≡ markFault m (length text)
+  unfolding formulaFault accepted markFault
+  fault-is =
+      rw (ne-eqb (length text) 0 some, le-ltb 1024 (length text) short, same-ok, same-at, same-longest, same-count, same-depth, either (ltb 32 (m .parts)) (ltb 16 (m .deepest)) 12 0)
+      (ordered (m .ok) true (m .at) (length text) (cond (ltb M (m .longest)) 8 (cond (ltb 32 (m .parts)) 12 (cond (ltb 16 (m .deepest)) 12 0))) (d .within))

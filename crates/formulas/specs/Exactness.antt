@@ -1,0 +1,77 @@
+-- Statements on the grammar and its reader, and the sentences of faults 10, 11, 8 and 12 through the grammar.
+use Prim.Native.Nat.{ℕ, _+_, _≤_, _<_}
+use mathlib.Core.Path.{_≡_}
+use mathlib.Core.Bool.{Bool, true, false}
+use mathlib.Core.List.{List, [], _∷_, _++_, map}
+use mathlib.Core.Logic.{_⊎_, _↔_}
+use lib.ListN.{length}
+use Rattle.signals.specs.Moment.{M}
+use Rattle.formulas.specs.Tree.{Tree, Leaf, Unary, Binary, leaf, unary, binary, name, down, up, ton, tof}
+use Rattle.formulas.specs.Code.{Part, code, longest}
+use Rattle.formulas.specs.Grammar.{Sum, isName}
+use Rattle.formulas.specs.Formula.{accepted, formulaTree, depthOf, partsOf, longestOf, formulaFault, partOf, codeOf}
+
+-- The reader accepts exactly the bytes that the grammar derives, with that tree and depth.
+abbrev pub ReaderExact : Type 0
+ReaderExact = (w : List ℕ) (t : Tree) (d : ℕ) → Sum w t d ↔ ((accepted w ≡ true) × (formulaTree w ≡ t) × (depthOf w ≡ d))
+
+-- No bytes have two trees, nor two depths.
+abbrev pub OneTree : Type 0
+OneTree = (w : List ℕ) (t u : Tree) (d e : ℕ) → Sum w t d → Sum w u e → (t ≡ u) × (d ≡ e)
+
+-- The parts that the reader gives are the tree's in working-out order.
+abbrev pub PartsExact : Type 0
+PartsExact = (w : List ℕ) (t : Tree) (d : ℕ) → Sum w t d → partsOf w ≡ code t
+
+-- every name of a tree is a name
+abbrev pub leafWritable : Leaf → Type 0
+leafWritable down = Unit
+leafWritable up = Unit
+leafWritable (name w) = isName w ≡ true
+
+abbrev pub Writable : Tree → Type 0
+Writable (leaf l) = leafWritable l
+Writable (unary o t) = Writable t
+Writable (binary o t u) = Writable t × Writable u
+
+-- Every tree whose names are names has a text: lengths are numbers, and each has its decimal digits.
+abbrev pub EveryTreeWritten : Type 0
+EveryTreeWritten = (t : Tree) → Writable t → (w : List ℕ) × (d : ℕ) × Sum w t d
+
+-- n is a length of the tree
+pub data LengthIn (n : ℕ) : Tree → Type 0 where
+  of-ton : {t : Tree} → LengthIn n (unary (ton n) t)
+  of-tof : {t : Tree} → LengthIn n (unary (tof n) t)
+  under : {o : Unary} {t : Tree} → LengthIn n t → LengthIn n (unary o t)
+  first : {o : Binary} {t u : Tree} → LengthIn n t → LengthIn n (binary o t u)
+  second : {o : Binary} {t u : Tree} → LengthIn n u → LengthIn n (binary o t u)
+
+-- 10: formula empty or over 1,024 bytes
+abbrev pub Ten : List ℕ → Type 0
+Ten w = (length w ≡ 0) ⊎ (1024 < length w)
+
+-- 11: outside the grammar
+abbrev pub Eleven : List ℕ → Type 0
+Eleven w = (t : Tree) (d : ℕ) → Sum w t d → ⊥
+
+-- 8: length above M
+abbrev pub Eight : List ℕ → Type 0
+Eight w = (t : Tree) × (d : ℕ) × (n : ℕ) × Sum w t d × LengthIn n t × (M < n)
+
+-- 12: over 32 parts, or depth over 16
+abbrev pub Twelve : List ℕ → Type 0
+Twelve w = (t : Tree) × (d : ℕ) × Sum w t d × ((32 < length (code t)) ⊎ (16 < d))
+
+-- Each fault is given exactly when its sentence holds and none before it does, in the order 10, 11, 8, 12; and none exactly when none holds.
+abbrev pub FaultsExact : Type 0
+FaultsExact =
+    (w : List ℕ) →
+    ((formulaFault w ≡ 10) ↔ Ten w)
+    × ((formulaFault w ≡ 11) ↔ ((Ten w → ⊥) × Eleven w))
+    × ((formulaFault w ≡ 8) ↔ ((Ten w → ⊥) × (Eleven w → ⊥) × Eight w))
+    × ((formulaFault w ≡ 12) ↔ ((Ten w → ⊥) × (Eleven w → ⊥) × (Eight w → ⊥) × Twelve w))
+    × ((formulaFault w ≡ 0) ↔ ((Ten w → ⊥) × (Eleven w → ⊥) × (Eight w → ⊥) × (Twelve w → ⊥)))
+
+-- The code words of an accepted formula without a length above M stand for its tree's parts in working-out order.
+abbrev pub CodeExact : Type 0
+CodeExact = (w : List ℕ) (t : Tree) (d : ℕ) → Sum w t d → (Eight w → ⊥) → map (partOf w) (codeOf w) ≡ code t

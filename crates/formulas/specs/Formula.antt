@@ -1,0 +1,95 @@
+-- What a formula's bytes are: its tree, parts and depth, its fault, and the code words that the reader gives.
+use Prim.Native.Nat.{ℕ, zero, suc, _+_, _*_, _/_, _%_, min}
+use mathlib.Core.Bool.{Bool, true, false, cond, not, _&&_, _||_}
+use mathlib.Core.List.{List, [], _∷_}
+use lib.Dec.{leb, ltb, eqb}
+use lib.ListN.{length, getD, take, drop}
+use lib.Seq.{sets}
+use Rattle.signals.specs.Moment.{M}
+use Rattle.formulas.specs.Tree.{Tree, Leaf, Unary, Binary, down, up, name, invert, rise, fall, ton, tof, and, or, sr, rs}
+use Rattle.formulas.specs.Code.{Part, operand, one, two, treeOf}
+use Rattle.formulas.specs.Reader.{State, Emission, readText}
+
+-- the kinds of parts: 0 and 1 the constants, 2 a name, 3 !, 4 ^, 5 ~, 6 TON, 7 TOF, 8 ., 9 +, 10 SR, 11 RS
+abbrev pub plainPart : ℕ → Part
+plainPart kind =
+    getD
+    (operand down
+    ∷ operand up
+    ∷ operand down
+    ∷ one invert
+    ∷ one rise
+    ∷ one fall
+    ∷ operand down
+    ∷ operand down
+    ∷ two and
+    ∷ two or
+    ∷ two sr
+    ∷ two rs
+    ∷ [])
+    kind
+    (operand down)
+
+unfoldable pub timedPart : ℕ → ℕ → Part
+timedPart kind n = cond (eqb kind 6) (one (ton n)) (one (tof n))
+
+-- the bytes of a text from a place on, so many
+unfoldable pub nameAt : List ℕ → ℕ → ℕ → List ℕ
+nameAt text place count = take count (drop place text)
+
+-- parts themselves
+abbrev pub spelled : List ℕ → Emission Part
+spelled text =
+    record { plain = plainPart; named = λ p k. operand (name (nameAt text p k)); timed = timedPart; ticks = λ n. n }
+
+-- Code words: the kind in the low four bits; above it a timer's ticks, M + 1 for every length above M, or of a name the count
+-- of its bytes in four bits and above it its place in the text.
+unfoldable pub nameWord : ℕ → ℕ → ℕ
+nameWord place count = (place * 16 + count) * 16 + 2
+
+unfoldable pub capped : ℕ → ℕ
+capped n = min n (M + 1)
+
+unfoldable pub timerWord : ℕ → ℕ → ℕ
+timerWord kind n = capped n * 16 + kind
+
+abbrev pub coded : Emission ℕ
+coded = record { plain = λ kind. kind; named = nameWord; timed = timerWord; ticks = capped }
+
+-- the part that a code word of a text stands for
+unfoldable pub partOf : List ℕ → ℕ → Part
+partOf text w =
+    cond (eqb (w % 16) 2) (operand (name (nameAt text (w / 256) (w / 16 % 16))))
+    (cond (eqb (w % 16) 6 || eqb (w % 16) 7) (timedPart (w % 16) (w / 16)) (plainPart (w % 16)))
+
+-- the whole text is read without a break of the grammar
+unfoldable pub accepted : List ℕ → Bool
+accepted text = readText (spelled text) text .ok && eqb (readText (spelled text) text .at) (length text)
+
+-- the parts in working-out order, the tree, the largest depth and length
+unfoldable pub partsOf : List ℕ → List Part
+partsOf text = readText (spelled text) text .out
+
+unfoldable pub formulaTree : List ℕ → Tree
+formulaTree text = treeOf (partsOf text)
+
+unfoldable pub depthOf : List ℕ → ℕ
+depthOf text = readText (spelled text) text .deepest
+
+unfoldable pub longestOf : List ℕ → ℕ
+longestOf text = readText (spelled text) text .longest
+
+-- The fault of a formula, 0 for none: 10 empty or over 1,024 bytes, 11 outside the grammar, 8 a length above M, 12 over 32 parts or depth over 16.
+unfoldable pub formulaFault : List ℕ → ℕ
+formulaFault text =
+    cond (eqb (length text) 0 || ltb 1024 (length text)) 10
+    (cond (not (accepted text)) 11
+    (cond (ltb M (longestOf text)) 8 (cond (ltb 32 (length (partsOf text)) || ltb 16 (depthOf text)) 12 0)))
+
+-- the code words of a text's parts in working-out order
+unfoldable pub codeOf : List ℕ → List ℕ
+codeOf text = readText coded text .out
+
+-- the code words after a call: the first are the formula's; as they were when it is refused
+unfoldable pub codeAfter : List ℕ → List ℕ → List ℕ
+codeAfter text old = cond (eqb (formulaFault text) 0) (sets old 0 (codeOf text)) old

@@ -1,0 +1,91 @@
+-- The reader's steps on marks, as its private contracts cite them. Not to be believed: proved equal to the steps on states.
+use Prim.Native.Nat.{ℕ, zero, suc, _+_, _*_, _-_, _≤_, _<_, max}
+use mathlib.Core.Path.{_≡_}
+use mathlib.Core.Bool.{Bool, true, false, cond, _||_}
+use mathlib.Core.List.{List, [], _∷_}
+use lib.Dec.{leb, ltb, eqb}
+use lib.ListN.{length, getD, take, drop, set}
+use Rattle.signals.specs.Moment.{M}
+use Rattle.formulas.specs.Grammar.{isLower, isDigit, isNameByte}
+use Rattle.formulas.specs.Formula.{coded}
+use Rattle.formulas.specs.Reader.{State, run, leafAt, sumAt, sumsAt, productAt, productsAt, factorAt, latchAt, timerAt}
+use Rattle.formulas.specs.declared.mark.Mark.{Mark}
+
+-- the state that a mark and the code words put out are
+abbrev pub viewOf : Mark → List ℕ → State ℕ
+viewOf m code = record { ok = m .ok; at = m .at; out = take (m .parts) code; deepest = m .deepest; longest = m .longest }
+
+-- bytes of names, bytes of lengths
+abbrev pub classOf : Bool → ℕ → Bool
+classOf true = isNameByte
+classOf false = isDigit
+
+unfoldable pub nextMark : List ℕ → Mark → ℕ
+nextMark text m = cond (m .ok) (getD text (m .at) 0) 0
+
+abbrev pub badMark : Mark → Mark
+badMark m = record { ok = false; at = m .at; parts = m .parts; deepest = m .deepest; longest = m .longest }
+
+abbrev pub movedMark : Mark → ℕ → Mark
+movedMark m to = record { ok = m .ok; at = to; parts = m .parts; deepest = m .deepest; longest = m .longest }
+
+unfoldable pub expectMark : List ℕ → ℕ → Mark → Mark
+expectMark text b m = cond (eqb (nextMark text m) b) (movedMark m (m .at + 1)) (badMark m)
+
+unfoldable pub lengthMark : List ℕ → Mark → Mark
+lengthMark text m =
+    cond (eqb (nextMark text m) 48) (movedMark m (m .at + 1))
+    (cond (isDigit (nextMark text m)) (movedMark m (m .at + run isDigit (drop (m .at) text))) (badMark m))
+
+unfoldable pub putMark : Mark → ℕ → ℕ → Mark
+putMark m deep ticks =
+    cond (m .ok) (record { ok = true; at = m .at; parts = m .parts + 1; deepest = max (m .deepest) deep; longest = max (m .longest) ticks }) m
+
+unfoldable pub putCode : Mark → ℕ → List ℕ → List ℕ
+putCode m word code = cond (m .ok) (set code (m .parts) word) code
+
+-- where a reader may begin: the text is short enough, the code words have room, and no more parts are out, nor more brackets open, than bytes passed
+pub record Ready (text code : List ℕ) (m : Mark) (deep : ℕ) : Type 0 where
+  pub short : length text ≤ 1024
+  pub room : length code ≡ 1024
+  pub within : m .at ≤ length text
+  pub fewer : m .parts ≤ m .at
+  pub opened : deep ≤ m .at
+
+-- what a reader that mirrors F leaves: each part that it put out has a byte of its own
+pub record Done (F : ℕ → State ℕ → State ℕ) (level : ℕ) (text : List ℕ) (m : Mark) (old new : List ℕ) (r : Mark) : Type 0 where
+  pub same : (n : ℕ) → 5 * (length text - m .at) + level ≤ n → viewOf r new ≡ F n (viewOf m old)
+  pub room : length new ≡ 1024
+  pub within : r .at ≤ length text
+  pub on : m .at ≤ r .at
+  pub few : r .parts + m .at ≤ m .parts + r .at
+
+abbrev pub LeafRead : List ℕ → ℕ → Mark → List ℕ → List ℕ → Mark → Type 0
+LeafRead text deep m old new r = Done (λ n. leafAt coded text deep) 0 text m old new r
+
+abbrev pub SumsRead : List ℕ → ℕ → Mark → List ℕ → List ℕ → Mark → Type 0
+SumsRead text deep m old new r = Done (λ n. sumsAt coded text n deep) 1 text m old new r
+
+abbrev pub ProductsRead : List ℕ → ℕ → Mark → List ℕ → List ℕ → Mark → Type 0
+ProductsRead text deep m old new r = Done (λ n. productsAt coded text n deep) 1 text m old new r
+
+abbrev pub FactorRead : List ℕ → ℕ → Mark → List ℕ → List ℕ → Mark → Type 0
+FactorRead text deep m old new r = Done (λ n. factorAt coded text n deep) 2 text m old new r
+
+abbrev pub ProductRead : List ℕ → ℕ → Mark → List ℕ → List ℕ → Mark → Type 0
+ProductRead text deep m old new r = Done (λ n. productAt coded text n deep) 3 text m old new r
+
+abbrev pub SumRead : List ℕ → ℕ → Mark → List ℕ → List ℕ → Mark → Type 0
+SumRead text deep m old new r = Done (λ n. sumAt coded text n deep) 4 text m old new r
+
+abbrev pub LatchRead : List ℕ → ℕ → ℕ → Mark → List ℕ → List ℕ → Mark → Type 0
+LatchRead text kind deep m old new r = Done (λ n. latchAt coded text n kind deep) 5 text m old new r
+
+abbrev pub TimerRead : List ℕ → ℕ → ℕ → Mark → List ℕ → List ℕ → Mark → Type 0
+TimerRead text kind deep m old new r = Done (λ n. timerAt coded text n kind deep) 5 text m old new r
+
+-- the fault of a text of so many bytes whose reading ended at the mark
+unfoldable pub markFault : Mark → ℕ → ℕ
+markFault m bytes =
+    cond (m .ok)
+    (cond (ltb (m .at) bytes) 11 (cond (ltb M (m .longest)) 8 (cond (ltb 32 (m .parts)) 12 (cond (ltb 16 (m .deepest)) 12 0)))) 11

@@ -1,0 +1,135 @@
+-- A reader that computes: sum, product and factor readers by fuel. Not to be believed: proved to accept exactly what the grammar derives.
+use Prim.Native.Nat.{ℕ, zero, suc, _+_, _*_, _-_, max, min}
+use mathlib.Core.Bool.{Bool, true, false, cond}
+use mathlib.Core.List.{List, [], _∷_, _++_}
+use lib.Dec.{leb, ltb, eqb}
+use lib.ListN.{length, getD, take, drop}
+use Rattle.formulas.specs.Grammar.{isLower, isDigit, isNameByte, value}
+
+-- where a reader is: whether all is well, the bytes passed, the parts put out, the largest depth and length of one
+pub record State (X : Type 0) : Type 0 where
+  pub ok : Bool
+  pub at : ℕ
+  pub out : List X
+  pub deepest : ℕ
+  pub longest : ℕ
+
+-- what is put out for a part that is its kind alone, a name by its place and count of bytes, and a timer by kind and ticks;
+-- and what is kept of a length
+pub record Emission (X : Type 0) : Type 0 where
+  pub plain : ℕ → X
+  pub named : ℕ → ℕ → X
+  pub timed : ℕ → ℕ → X
+  pub ticks : ℕ → ℕ
+
+-- how many bytes at the front have p
+unfoldable pub run : (ℕ → Bool) → List ℕ → ℕ
+run p [] = 0
+run p (b ∷ bs) = cond (p b) (suc (run p bs)) 0
+
+-- the next byte; 0 at the end and when all is not well
+unfoldable pub next : {X : Type 0} → List ℕ → State X → ℕ
+next text s = cond (s .ok) (getD text (s .at) 0) 0
+
+unfoldable pub bad : {X : Type 0} → State X → State X
+bad s = record { ok = false; at = s .at; out = s .out; deepest = s .deepest; longest = s .longest }
+
+unfoldable pub stepped : {X : Type 0} → ℕ → State X → State X
+stepped k s = record { ok = s .ok; at = s .at + k; out = s .out; deepest = s .deepest; longest = s .longest }
+
+-- passes the byte b
+unfoldable pub expect : {X : Type 0} → List ℕ → ℕ → State X → State X
+expect text b s = cond (eqb (next text s) b) (stepped 1 s) (bad s)
+
+-- puts a part out, at its depth and with its length
+unfoldable pub put : {X : Type 0} → X → ℕ → ℕ → State X → State X
+put x deep ticks s =
+    cond (s .ok)
+    (record { ok = true; at = s .at; out = s .out ++ (x ∷ []); deepest = max (s .deepest) deep; longest = max (s .longest) ticks })
+    s
+
+-- passes a length
+unfoldable pub passLength : {X : Type 0} → List ℕ → State X → State X
+passLength text s =
+    cond (eqb (next text s) 48) (stepped 1 s)
+    (cond (isDigit (next text s)) (stepped (run isDigit (drop (s .at) text)) s) (bad s))
+
+-- the number that the bytes from a up to e write
+unfoldable pub valueBetween : List ℕ → ℕ → ℕ → ℕ
+valueBetween text a e = value (take (e - a) (drop a text))
+
+-- 3 is !, 4 ^, 5 ~; 0 for any other byte
+unfoldable pub prefixKind : ℕ → ℕ
+prefixKind b = cond (eqb b 33) 3 (cond (eqb b 94) 4 (cond (eqb b 126) 5 0))
+
+module _ {X : Type 0} (E : Emission X) (text : List ℕ) where
+  -- 0, 1 and names
+  unfoldable pub leafAt : ℕ → State X → State X
+  leafAt deep s =
+      cond (eqb (next text s) 48) (put (E .plain 0) deep 0 (stepped 1 s))
+      (cond (eqb (next text s) 49) (put (E .plain 1) deep 0 (stepped 1 s))
+      (cond (isLower (next text s))
+      (cond (leb (run isNameByte (drop (s .at) text)) 8)
+      (put (E .named (s .at) (run isNameByte (drop (s .at) text))) deep 0 (stepped (run isNameByte (drop (s .at) text)) s))
+      (bad s))
+      (bad s)))
+
+  -- a timer whose length has been passed, from a to where s stands, is closed
+  unfoldable pub timed : ℕ → ℕ → ℕ → ℕ → State X → State X
+  timed kind deep a e s = put (E .timed kind (valueBetween text a e)) deep (E .ticks (valueBetween text a e)) (expect text 41 s)
+
+  unfoldable mutual
+    pub sumAt : ℕ → ℕ → State X → State X
+    sumAt zero deep s = bad s
+    sumAt (suc n) deep s = sumsAt n deep (productAt n deep s)
+
+    pub sumsAt : ℕ → ℕ → State X → State X
+    sumsAt zero deep s = bad s
+    sumsAt (suc n) deep s =
+        cond (eqb (next text s) 43) (sumsAt n deep (put (E .plain 9) deep 0 (productAt n deep (stepped 1 s)))) s
+
+    pub productAt : ℕ → ℕ → State X → State X
+    productAt zero deep s = bad s
+    productAt (suc n) deep s = productsAt n deep (factorAt n deep s)
+
+    pub productsAt : ℕ → ℕ → State X → State X
+    productsAt zero deep s = bad s
+    productsAt (suc n) deep s =
+        cond (eqb (next text s) 46) (productsAt n deep (put (E .plain 8) deep 0 (factorAt n deep (stepped 1 s)))) s
+
+    pub factorAt : ℕ → ℕ → State X → State X
+    factorAt zero deep s = bad s
+    factorAt (suc n) deep s =
+        cond (ltb 0 (prefixKind (next text s)))
+        (put (E .plain (prefixKind (next text s))) deep 0 (factorAt n (deep + 1) (stepped 1 s)))
+        (cond (eqb (next text s) 40)
+        (expect text 41 (sumAt n (deep + 1) (stepped 1 s)))
+        (cond (eqb (next text s) 83)
+        (latchAt n 10 deep (expect text 82 (stepped 1 s)))
+        (cond (eqb (next text s) 82)
+        (latchAt n 11 deep (expect text 83 (stepped 1 s)))
+        (cond (eqb (next text s) 84)
+        (cond (eqb (next text (expect text 79 (stepped 1 s))) 78)
+        (timerAt n 6 deep (stepped 1 (expect text 79 (stepped 1 s))))
+        (timerAt n 7 deep (expect text 70 (expect text 79 (stepped 1 s)))))
+        (leafAt deep s)))))
+
+    pub latchAt : ℕ → ℕ → ℕ → State X → State X
+    latchAt zero kind deep s = bad s
+    latchAt (suc n) kind deep s =
+        put (E .plain kind) deep 0
+        (expect text 41 (sumAt n (deep + 1) (expect text 44 (sumAt n (deep + 1) (expect text 40 s)))))
+
+    pub timerAt : ℕ → ℕ → ℕ → State X → State X
+    timerAt zero kind deep s = bad s
+    timerAt (suc n) kind deep s =
+        timed kind deep (expect text 40 s .at) (passLength text (expect text 40 s) .at)
+        (sumAt n (deep + 1) (expect text 44 (passLength text (expect text 40 s))))
+
+-- at the first byte, with nothing put out
+abbrev pub start : {X : Type 0} → State X
+start = record { ok = true; at = 0; out = []; deepest = 0; longest = 0 }
+
+-- reads a whole text
+unfoldable pub readText : {X : Type 0} → Emission X → List ℕ → State X
+readText E text = sumAt E text (5 * length text + 4) 0 start
