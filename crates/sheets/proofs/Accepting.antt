@@ -1,8 +1,8 @@
 -- The words of a signal on a sheet are accepted exactly when their list is.
-use Prim.Native.Nat.{ℕ, zero, suc, _+_, _-_, _*_, _≤_, _<_}
+use Prim.Native.Nat.{ℕ, zero, suc, _-_, _≤_}
 use native.Mathlib.Omega.{arith}
-use mathlib.Core.Path.{_≡_, refl, sym, ap, _∙_}
-use mathlib.Core.Bool.{Bool, true, false, cond, _||_}
+use mathlib.Core.Path.{_≡_, refl}
+use mathlib.Core.Bool.{Bool, _||_}
 use mathlib.Core.List.{List, [], _∷_, _++_, append-assoc}
 use lib.Dec.{leb, ltb}
 use lib.ListN.{length, drop, length-append}
@@ -11,7 +11,7 @@ use Rattle.signals.specs.Words.{dateOf, valueAfter, headValue, changesNothing, 
 use Rattle.sheets.proofs.Truth.{or-left, or-right}
 use Rattle.sheets.proofs.Judging.{past}
 use Rattle.sheets.proofs.Digits.{length-wordsIn, low32-written, four-past}
-use Rattle.sheets.proofs.Placing.{four, length-words}
+use Rattle.sheets.proofs.Placing.{four}
 use Rattle.sheets.specs.Bytes.{low32, bytes32, wordsIn, wordBytes, Words}
 use Rattle.sheets.specs.Reading.{laterWordsFault, sheetWordsFault}
 

@@ -1,18 +1,16 @@
 -- Appending: the cases of its faults, and the sheet with one signal more, written piece after piece.
-use Prim.Native.Nat.{ℕ, zero, suc, _+_, _-_, _*_, _≤_, _<_}
+use Prim.Native.Nat.{ℕ, _+_, _-_, _*_, _≤_, _<_}
 use native.Mathlib.Nat.{zero-add}
-use native.Mathlib.Numerals.{add-one}
 use native.Mathlib.Omega.{arith}
 use mathlib.Core.Path.{_≡_, refl, sym, ap, _∙_}
-use mathlib.Core.Bool.{Bool, true, false, not, cond, _||_}
+use mathlib.Core.Bool.{Bool, true, false, not, _||_}
 use mathlib.Core.List.{List, [], _∷_, _++_, append-assoc, append-nil}
-use lib.Dec.{leb, ltb, eqb}
+use lib.Dec.{leb, ltb}
 use lib.ListN.{length, take, drop, length-append, length-drop}
 use lib.Seq.{length-take-le}
-use borrow.Author.Tests.{ltb-false, le-ltb, lt-ltb, le-leb, lt-leb, leb-false, ne-eqb, eqb-true, eq-eqb}
+use borrow.Author.Tests.{ltb-false, le-ltb, lt-ltb, le-leb, lt-leb, leb-false, ne-eqb, eq-eqb}
 use Rattle.signals.specs.Words.{listFault}
 use Rattle.signals.specs.Answers.{writtenOf, outputOf}
-use Rattle.signals.specs.declared.Written.{Written}
 use Rattle.signals.specs.declared.Written.the-variants.{Count, Refused}
 use Rattle.sheets.proofs.Truth.{or-left, or-right, not-false-true}
 use Rattle.sheets.proofs.Judging.{past}
@@ -22,8 +20,8 @@ use Rattle.sheets.proofs.Fields.{named-short}
 use Rattle.sheets.proofs.Filling.{then-put, length-entry, two}
 use Rattle.sheets.proofs.ReadBack.{sheet-written, length-signals}
 use Rattle.sheets.specs.Names.{wellNamed, among}
-use Rattle.sheets.specs.Bytes.{low16, bytes16, Bytes}
-use Rattle.sheets.specs.Reading.{mark, orElse, sheetFault, countOn, signalsFrom, signalsOn, names, Entry, entry}
+use Rattle.sheets.specs.Bytes.{bytes16, Bytes}
+use Rattle.sheets.specs.Reading.{mark, sheetFault, countOn, signalsFrom, signalsOn, names, Entry, entry}
 use Rattle.sheets.specs.Writing.{entryBytes, entriesBytes, sheetBytes}
 use Rattle.sheets.specs.Calls.{appended, appendFault}
 use Rattle.sheets.specs.Walk.{placed}

@@ -1,21 +1,21 @@
 -- The exact faults of lookup and append.
-use Prim.Native.Nat.{ℕ, zero, suc, _≤_, _<_}
+use Prim.Native.Nat.{ℕ, suc, _≤_, _<_}
 use native.Mathlib.Omega.{arith}
-use mathlib.Core.Path.{_≡_, refl, sym, ap, _∙_}
+use mathlib.Core.Path.{_≡_, refl, sym, _∙_}
 use mathlib.Core.Bool.{Bool, true, false, not, cond, _||_}
 use mathlib.Core.List.{List, [], _∷_}
-use mathlib.Core.Logic.{_⊎_, inl, inr, _↔_}
+use mathlib.Core.Logic.{_⊎_, inl, inr}
 use lib.Dec.{leb, ltb, eqb}
 use lib.ListN.{length}
-use borrow.Author.Tests.{ltb-true, ltb-false, leb-true, leb-false, eqb-true, eqb-false, lt-ltb, le-ltb, lt-leb, le-leb, eq-eqb, ne-eqb}
+use borrow.Author.Tests.{ltb-true, leb-true, lt-ltb, le-ltb, lt-leb, le-leb, ne-eqb}
 use Rattle.signals.specs.Words.{listFault, wordsFault, dateOf, valueAfter, changesNothing, headValue}
 use Rattle.sheets.proofs.Truth.{true-false, is-false}
-use Rattle.sheets.proofs.Locating.{Found, lookup-none}
+use Rattle.sheets.proofs.Locating.{lookup-none}
 use Rattle.sheets.proofs.NameRule.{names-exact}
 use Rattle.sheets.specs.Names.{wellNamed, among}
 use Rattle.sheets.specs.Reading.{orElse, sheetFault, signalsOn, names}
 use Rattle.sheets.specs.Calls.{lookupFault, appendFault, appended}
-use Rattle.sheets.specs.Sentences.{IsName, NewName, LookupExact, LookupFaultsExact, AppendExact, AppendFaultsExact}
+use Rattle.sheets.specs.Sentences.{IsName, NewName, LookupFaultsExact, AppendFaultsExact}
 
 -- a lookup on an accepted sheet, by its two tests
 lookup-tests : (sheet name : List ℕ) → sheetFault sheet ≡ 0

@@ -1,27 +1,24 @@
 -- Each fault of a sheet is given exactly when its sentence holds and nothing earlier on the sheet has one.
-use Prim.Native.Nat.{ℕ, zero, suc, _+_, _-_, _*_, _≤_, _<_}
+use Prim.Native.Nat.{ℕ, _+_, _≤_, _<_}
 use native.Mathlib.Omega.{arith}
 use mathlib.Core.Path.{_≡_, refl, sym, ap, subst, _∙_}
 use mathlib.Core.Bool.{Bool, true, false, not, cond, _||_}
-use mathlib.Core.List.{List, [], _∷_, _++_, append-assoc}
-use mathlib.Core.Logic.{_⊎_, inl, inr, ⊎-elim, _↔_}
-use lib.Dec.{leb, ltb, eqb}
+use mathlib.Core.List.{List, _++_}
+use mathlib.Core.Logic.{_⊎_, inl, inr}
+use lib.Dec.{ltb, eqb}
 use lib.ListN.{length, take, drop, length-append, length-drop, take-append-drop}
 use lib.Seq.{take-at, drop-at, drop-drop, length-take-le}
 use borrow.Author.Tests.{ltb-true, ltb-false, eqb-true, eqb-false, lt-ltb, le-ltb, eq-eqb, ne-eqb}
-use Rattle.signals.specs.Words.{listFault}
 use Rattle.sheets.proofs.Truth.{true-false, is-false, or-left, or-right}
-use Rattle.sheets.proofs.Steps.{same-equal, same-refl}
 use Rattle.sheets.proofs.Digits.{low16-written, low16-below, written16, bytes-drop}
-use Rattle.sheets.proofs.Fields.{named-short, padded-unpadded, padded-fits, fits-named, fits-padded}
+use Rattle.sheets.proofs.Fields.{padded-unpadded, padded-fits, fits-named, fits-padded}
 use Rattle.sheets.proofs.Filling.{length-padded, two}
 use Rattle.sheets.proofs.NameRule.{names-exact}
 use Rattle.sheets.proofs.WordCuts.{cut-given, broken-given, CutAt, BrokenAt, words-found}
-use Rattle.sheets.specs.Names.{wellNamed, padded, unpadded, fieldFits, same, among}
+use Rattle.sheets.specs.Names.{wellNamed, padded, unpadded, fieldFits, among}
 use Rattle.sheets.specs.Bytes.{low16, bytes16, bytes32, wordBytes, Bytes}
-use Rattle.sheets.specs.Reading.{mark, orElse, nameAt, wordCount, signalSize, sheetWordsFault, signalFault, signalsFault, frontFault, sheetFault, countOn, Entry, entry, nameOf}
-use Rattle.sheets.specs.Writing.{entryBytes, Fits}
-use Rattle.sheets.specs.Sentences.{IsName, NewName, SoundSoFar, SignalFaulty, SignalsFaulty, SheetFaulty, SheetFaultsExact}
+use Rattle.sheets.specs.Reading.{nameAt, wordCount, sheetWordsFault, signalFault}
+use Rattle.sheets.specs.Sentences.{IsName, SignalFaulty}
 use Rattle.sheets.specs.Sentences.SignalFaulty.{nameCut, nameMalformed, nameRepeated, countCut, countOutside, wordCut, wordBroken}
 
 -- a signal that begins with a name

@@ -1,16 +1,15 @@
 -- Names and their fields: padding and its removal undo each other.
-use Prim.Native.Nat.{ℕ, zero, suc, _+_, _-_, _≤_, _<_}
+use Prim.Native.Nat.{ℕ, zero, suc, _-_, _≤_}
 use native.Mathlib.Omega.{arith}
 use mathlib.Core.Path.{_≡_, refl, sym, ap, _∙_}
-use mathlib.Core.Bool.{Bool, true, false, cond, _&&_, _||_}
+use mathlib.Core.Bool.{Bool, true, false, _||_}
 use mathlib.Core.List.{List, [], _∷_, _++_}
 use lib.Dec.{leb, eqb}
-use lib.ListN.{length, take, drop, replicate, length-append, length-replicate, length-drop, take-append-drop}
+use lib.ListN.{length, drop, replicate, length-drop, take-append-drop}
 use lib.Seq.{drop-append-seam}
-use borrow.Author.Tests.{eqb-true, eq-eqb, ne-eqb, leb-true, le-leb}
-use Rattle.sheets.proofs.Truth.{true-false, and-left, and-right, and-both}
-use Rattle.sheets.proofs.Steps.{take-unpadded, unpadded-within}
-use Rattle.sheets.proofs.Filling.{length-padded}
+use borrow.Author.Tests.{eqb-true, ne-eqb, leb-true}
+use Rattle.sheets.proofs.Truth.{and-left, and-right}
+use Rattle.sheets.proofs.Steps.{take-unpadded}
 use Rattle.sheets.specs.Names.{letter, digit, lettersOrDigits, wellNamed, padded, unpadded, zeros, fieldFits}
 
 -- a character is no zero byte

@@ -1,21 +1,17 @@
 -- Names, signals and whole sheets written piece after piece.
 use Prim.Native.Nat.{ℕ, zero, suc, _+_, _-_, _*_, _≤_, _<_}
-use native.Mathlib.Nat.{add-zero, add-assoc, zero-add}
 use native.Mathlib.Omega.{arith}
 use mathlib.Core.Path.{_≡_, refl, sym, ap, _∙_}
-use mathlib.Core.Bool.{Bool, true, false, cond}
 use mathlib.Core.List.{List, [], _∷_, _++_, append-assoc}
-use lib.Dec.{eqb, ltb}
-use lib.ListN.{length, take, drop, length-append, replicate, length-replicate}
+use lib.ListN.{length, take, length-append, replicate, length-replicate}
 use lib.Seq.{length-take-le}
 use borrow.Author.Tests.{lt-ltb, le-ltb}
 use Rattle.sheets.proofs.Placing.{placed-more, length-words}
 use Rattle.signals.specs.Answers.{writtenOf, outputOf}
-use Rattle.signals.specs.declared.Written.{Written}
 use Rattle.signals.specs.declared.Written.the-variants.{Count, Refused}
 use Rattle.sheets.specs.Names.{padded}
 use Rattle.sheets.specs.Bytes.{bytes16, wordBytes}
-use Rattle.sheets.specs.Reading.{mark, Entry, entry}
+use Rattle.sheets.specs.Reading.{mark, entry}
 use Rattle.sheets.specs.Writing.{entryBytes, entriesBytes, sheetBytes}
 use Rattle.sheets.specs.Calls.{beginFault}
 use Rattle.sheets.specs.Walk.{placed}

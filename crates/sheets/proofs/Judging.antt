@@ -1,21 +1,21 @@
 -- The tests of the front and of one signal, in order, and the signals passed, one more at a time.
 use Prim.Native.Nat.{ℕ, zero, suc, _+_, _-_, _*_, _≤_, _<_}
-use native.Mathlib.Nat.{add-zero, add-assoc, zero-add}
+use native.Mathlib.Nat.{add-assoc}
 use native.Mathlib.Numerals.{add-one}
 use native.Mathlib.Omega.{arith}
 use mathlib.Core.Path.{_≡_, refl, sym, ap, _∙_}
-use mathlib.Core.Bool.{Bool, true, false, not, cond, _&&_, _||_}
+use mathlib.Core.Bool.{Bool, true, false, not, cond, _||_}
 use mathlib.Core.List.{List, [], _∷_, _++_}
 use lib.Dec.{eqb, leb, ltb}
-use lib.ListN.{length, getD, take, drop, length-drop}
+use lib.ListN.{length, take, drop, length-drop}
 use lib.Seq.{drop-drop}
-use borrow.Author.Tests.{eq-eqb, ne-eqb, lt-leb, le-leb, lt-ltb, le-ltb, ltb-false, eqb-false, eqb-true}
+use borrow.Author.Tests.{eq-eqb, ne-eqb, lt-ltb, le-ltb, ltb-false, eqb-false, eqb-true}
 use Rattle.signals.specs.Words.{dateOf, valueAfter, headValue, changesNothing}
-use Rattle.sheets.proofs.Truth.{true-false, or-left, or-right, not-false-true}
+use Rattle.sheets.proofs.Truth.{or-left, or-right, not-false-true}
 use Rattle.sheets.proofs.Walking.{short, long, sub-step}
 use Rattle.sheets.specs.Names.{same, among, fieldFits, unpadded}
 use Rattle.sheets.specs.Bytes.{low16, low32}
-use Rattle.sheets.specs.Reading.{mark, orElse, nameAt, wordCount, signalSize, laterWordsFault, sheetWordsFault, signalFault, signalsFault, frontFault, sheetFault, countOn, signalsFrom, names, nameOf}
+use Rattle.sheets.specs.Reading.{mark, nameAt, wordCount, signalSize, laterWordsFault, sheetWordsFault, signalFault, signalsFault, frontFault, sheetFault, countOn, signalsFrom, names}
 use Rattle.sheets.specs.Calls.{placeFrom}
 use Rattle.sheets.specs.Walk.{Whole, sizeOf}
 use Rattle.sheets.specs.declared.Place.{Place}

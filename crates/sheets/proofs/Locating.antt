@@ -1,14 +1,14 @@
 -- Where a name's words stand, by the cases of a lookup.
-use Prim.Native.Nat.{ℕ, zero, suc, _+_, _-_, _*_, _≤_, _<_}
+use Prim.Native.Nat.{ℕ, zero, suc, _+_, _-_, _*_, _≤_}
 use native.Mathlib.Omega.{arith}
 use mathlib.Core.Path.{_≡_, refl, sym, ap, _∙_}
-use mathlib.Core.Bool.{Bool, true, false, not, cond, _||_}
+use mathlib.Core.Bool.{Bool, true, false, cond}
 use mathlib.Core.List.{List, [], _∷_, _++_}
 use lib.Dec.{eqb}
 use lib.ListN.{length, take, drop, length-drop}
 use borrow.Author.Tests.{eq-eqb, ne-eqb, eqb-true, eqb-false}
 use Rattle.sheets.proofs.Truth.{true-false}
-use Rattle.sheets.proofs.Judging.{sound, foundIn, found-known, Fronted, fronted, sheet-past, sheet-front}
+use Rattle.sheets.proofs.Judging.{sound, foundIn, found-known, Fronted, fronted}
 use Rattle.sheets.specs.Names.{same, among, wellNamed}
 use Rattle.sheets.specs.Bytes.{low16}
 use Rattle.sheets.specs.Reading.{orElse, nameAt, wordCount, signalSize, signalFault, signalsFault, frontFault, sheetFault, countOn, signalsOn, signalsFrom, names}

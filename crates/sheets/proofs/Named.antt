@@ -1,18 +1,15 @@
 -- The list of a name among signals, with one signal more; the bytes of a written sheet.
 use Prim.Native.Nat.{ℕ, zero, suc, _+_, _-_, _*_, _/_, _%_, _≤_, _<_}
-use native.Mathlib.Nat.{mod-lt, mul-div-cancel-left}
 use native.Mathlib.Omega.{arith}
 use mathlib.Core.Path.{_≡_, refl, sym, ap, _∙_}
-use mathlib.Core.Bool.{Bool, true, false, not, cond, _&&_, _||_}
+use mathlib.Core.Bool.{Bool, true, false, cond, _&&_, _||_}
 use mathlib.Core.List.{List, [], _∷_, _++_, append-assoc, append-nil}
-use lib.Dec.{leb, ltb, eqb}
-use lib.ListN.{length, getD, take, drop, replicate, length-drop}
+use lib.Dec.{leb}
+use lib.ListN.{length, take, drop, replicate, length-drop}
 use lib.Seq.{take-at, drop-drop}
 use borrow.Author.Tests.{leb-true}
 use Rattle.signals.specs.Words.{listFault}
 use Rattle.sheets.proofs.Truth.{true-false, and-left, and-right}
-use Rattle.sheets.proofs.Steps.{same-equal}
-use Rattle.sheets.proofs.Walking.{size-least}
 use Rattle.sheets.proofs.Fields.{named-characters}
 use Rattle.sheets.proofs.Digits.{words-written, length-wordsIn, bytes-drop}
 use Rattle.sheets.proofs.Placing.{length-words}
@@ -22,8 +19,7 @@ use Rattle.sheets.specs.Reading.{mark, nameAt, wordCount, signalSize, si
 use Rattle.sheets.specs.Writing.{entryBytes, entriesBytes, sheetBytes, Fits, AllFit, Holdable}
 use Rattle.sheets.specs.Calls.{placeFrom, partAt}
 use Rattle.sheets.specs.Walk.{Whole}
-use Rattle.sheets.specs.declared.Place.{Place}
-use Rattle.sheets.specs.declared.Place.the-variants.{At, Refused}
+use Rattle.sheets.specs.declared.Place.the-variants.{At}
 
 -- n words at the front are their bytes
 pub take-words : (n : ℕ) (b : List ℕ) → Bytes b → 4 * n ≤ length b → take (4 * n) b ≡ wordBytes (wordsIn n b)

@@ -1,23 +1,19 @@
 -- One signal, written and read.
-use Prim.Native.Nat.{ℕ, zero, suc, _+_, _-_, _*_, _≤_, _<_}
+use Prim.Native.Nat.{ℕ, _+_, _*_, _≤_}
 use native.Mathlib.Omega.{arith}
 use mathlib.Core.Path.{_≡_, refl, sym, ap, _∙_}
-use mathlib.Core.Bool.{Bool, true, false, not, cond, _||_}
-use mathlib.Core.List.{List, [], _∷_, _++_, append-assoc}
-use lib.Dec.{leb, ltb, eqb}
+use mathlib.Core.List.{List, _++_, append-assoc}
 use lib.ListN.{length, take, drop, length-append, length-drop, take-append-drop}
 use lib.Seq.{take-at, drop-at, drop-drop, length-take-le}
-use borrow.Author.Tests.{ltb-false, le-ltb, ne-eqb}
-use Rattle.signals.specs.Words.{listFault}
-use Rattle.sheets.proofs.Judging.{Sound, sound}
+use borrow.Author.Tests.{le-ltb, ne-eqb}
+use Rattle.sheets.proofs.Judging.{Sound}
 use Rattle.sheets.proofs.Digits.{length-wordsIn, wordsIn-below, low16-written, written16, words-read, words-written, bytes-drop}
 use Rattle.sheets.proofs.Fields.{named-short, padded-unpadded, padded-fits, fits-named, fits-padded}
-use Rattle.sheets.proofs.Placing.{length-words}
 use Rattle.sheets.proofs.Filling.{length-padded, length-entry, two}
 use Rattle.sheets.proofs.Accepting.{words-listed, words-accepted, listed-some}
-use Rattle.sheets.specs.Names.{padded, unpadded, fieldFits, wellNamed, among}
-use Rattle.sheets.specs.Bytes.{low16, bytes16, wordsIn, wordBytes, Bytes, Words}
-use Rattle.sheets.specs.Reading.{nameAt, wordCount, signalSize, sheetWordsFault, signalFault, Entry, entry, nameOf, listOn}
+use Rattle.sheets.specs.Names.{padded, unpadded}
+use Rattle.sheets.specs.Bytes.{low16, bytes16, wordsIn, wordBytes, Bytes}
+use Rattle.sheets.specs.Reading.{nameAt, wordCount, signalSize, signalFault, entry}
 use Rattle.sheets.specs.Writing.{entryBytes, Fits}
 
 -- a signal that is written reads back, whatever follows

@@ -1,12 +1,11 @@
 -- Bytes written at a place of an output, and then more bytes after them.
-use Prim.Native.Nat.{ℕ, zero, suc, _+_, _-_, _*_, _≤_, _<_}
-use native.Mathlib.Nat.{add-zero, add-assoc, zero-add}
+use Prim.Native.Nat.{ℕ, _+_, _*_, _≤_, _<_}
 use native.Mathlib.Numerals.{add-one, add-two, add-three}
 use native.Mathlib.Omega.{arith}
 use mathlib.Core.Path.{_≡_, refl, sym, ap, _∙_}
 use mathlib.Core.List.{List, [], _∷_, _++_, append-assoc, append-nil}
-use lib.ListN.{length, getD, set, take, drop, length-append, length-set}
-use lib.Seq.{take-length, take-all, length-take-le, take-suc, length-paste, take-paste, drop-paste, drop-drop, paste, paste-zero, paste-suc, sets, sets-eq}
+use lib.ListN.{length, getD, set, take, drop, length-append}
+use lib.Seq.{take-length, take-all, length-take-le, take-suc, length-paste, take-paste, drop-paste, drop-drop, paste, paste-zero, paste-suc, sets-eq}
 use Rattle.sheets.specs.Bytes.{bytes32, wordBytes}
 use Rattle.sheets.specs.Walk.{placed}
 

@@ -1,24 +1,23 @@
 -- Signals after signals, and whole sheets, written and read.
-use Prim.Native.Nat.{ℕ, zero, suc, _+_, _-_, _*_, _≤_, _<_}
+use Prim.Native.Nat.{ℕ, zero, suc, _+_, _≤_}
 use native.Mathlib.Nat.{add-zero, zero-add}
 use native.Mathlib.Omega.{arith}
 use mathlib.Core.Path.{_≡_, refl, sym, ap, _∙_}
-use mathlib.Core.Bool.{Bool, true, false, not, cond, _||_}
+use mathlib.Core.Bool.{true, cond}
 use mathlib.Core.List.{List, [], _∷_, _++_, append-assoc, append-nil}
-use lib.Dec.{leb, ltb, eqb}
-use lib.ListN.{length, take, drop, length-append, take-append-drop, length-drop}
-use lib.Seq.{drop-drop, drop-nil}
-use borrow.Author.Tests.{ltb-false, le-ltb, ne-eqb, eqb-true, eq-eqb}
-use Rattle.sheets.proofs.Judging.{Sound, sound, Fronted, fronted, front-fine, sheet-past, past}
+use lib.Dec.{eqb}
+use lib.ListN.{length, take, drop, take-append-drop, length-drop}
+use lib.Seq.{drop-drop}
+use borrow.Author.Tests.{ne-eqb}
+use Rattle.sheets.proofs.Judging.{sound, Fronted, front-fine, sheet-past}
 use Rattle.sheets.proofs.Locating.{both-none, front-none, signals-none}
 use Rattle.sheets.proofs.Steps.{same-equal}
 use Rattle.sheets.proofs.Digits.{low16-written, written16, bytes-drop}
-use Rattle.sheets.proofs.Filling.{two}
 use Rattle.sheets.proofs.OneSignal.{name-back, words-back, tail-back, signal-back, signal-written, signal-fits}
 use Rattle.sheets.specs.Names.{same}
 use Rattle.sheets.specs.Bytes.{low16, bytes16, wordsIn, Bytes}
-use Rattle.sheets.specs.Reading.{mark, orElse, nameAt, wordCount, signalSize, signalFault, signalsFault, frontFault, sheetFault, countOn, signalsFrom, signalsOn, names, Entry, entry, nameOf, listOn}
-use Rattle.sheets.specs.Writing.{entryBytes, entriesBytes, sheetBytes, Fits, AllFit, Holdable}
+use Rattle.sheets.specs.Reading.{mark, nameAt, wordCount, signalSize, signalFault, signalsFault, frontFault, sheetFault, countOn, signalsFrom, signalsOn, names, Entry, entry}
+use Rattle.sheets.specs.Writing.{entryBytes, entriesBytes, sheetBytes, AllFit, Holdable}
 
 -- signals that are written read back, and are accepted with what follows
 pub signals-back : (earlier : List (List ℕ)) (es : List Entry) (tail : List ℕ) → AllFit earlier es

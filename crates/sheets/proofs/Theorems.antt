@@ -1,31 +1,28 @@
 -- The terms that prove the theorems of specs/Theorems.
-use Prim.Native.Nat.{ℕ, zero, suc, _+_, _-_, _*_, _/_, _≤_, _<_}
+use Prim.Native.Nat.{ℕ, suc, _+_, _≤_}
 use native.Mathlib.Nat.{mul-div-cancel-left}
 use native.Mathlib.Omega.{arith}
 use mathlib.Core.Path.{_≡_, refl, sym, ap, _∙_}
-use mathlib.Core.Bool.{Bool, true, false, not, cond, _||_}
+use mathlib.Core.Bool.{Bool, true, false, cond, _||_}
 use mathlib.Core.List.{List, [], _∷_, _++_, append-assoc, append-nil}
-use lib.Dec.{leb, ltb, eqb}
-use lib.ListN.{length, drop, length-append}
-use borrow.Author.Tests.{eq-eqb, eqb-true, eqb-false, ne-eqb, le-leb, lt-leb, le-ltb}
-use Rattle.signals.specs.Words.{signalOf, listFault}
-use Rattle.sheets.proofs.Truth.{true-false, is-false}
+use lib.Dec.{eqb}
+use lib.ListN.{length, length-append}
+use borrow.Author.Tests.{eqb-true, eqb-false, ne-eqb, lt-leb, le-ltb}
+use Rattle.signals.specs.Words.{signalOf}
+use Rattle.sheets.proofs.Truth.{is-false}
 use Rattle.sheets.proofs.Steps.{same-equal, same-refl}
 use Rattle.sheets.proofs.Digits.{words-read}
 use Rattle.sheets.proofs.Placing.{length-words}
-use Rattle.sheets.proofs.Locating.{Found, lookup-none, sheet-whole, place-walked, place-bad-name, place-bad-sheet, place-refused}
-use Rattle.sheets.proofs.Judging.{foundIn, found-known}
+use Rattle.sheets.proofs.Locating.{Found, lookup-none, sheet-whole, place-walked}
 use Rattle.sheets.proofs.ReadBack.{sheet-read, sheet-written}
-use Rattle.sheets.proofs.Appending.{Appends, appends, length-on}
+use Rattle.sheets.proofs.Appending.{appends, length-on}
 use Rattle.sheets.proofs.Named.{part-list, among-snoc, named-other, named-new, fit-snoc, named-listed, bytes-sheet, fit-split}
 use Rattle.sheets.specs.Names.{wellNamed, same, among}
-use Rattle.sheets.specs.Bytes.{Bytes, Words, wordsIn, wordBytes}
-use Rattle.sheets.specs.Reading.{orElse, sheetFault, countOn, signalsFrom, signalsOn, names, listNamed, environmentOn, Entry, entry, nameOf}
+use Rattle.sheets.specs.Bytes.{Bytes, Words, wordBytes}
+use Rattle.sheets.specs.Reading.{sheetFault, countOn, signalsOn, names, listNamed, environmentOn, Entry, entry}
 use Rattle.sheets.specs.Writing.{sheetBytes, Fits, AllFit, Holdable}
-use Rattle.sheets.specs.Calls.{placeFrom, placeOf, partAt, lookupFault, lookupOf, appendFault, appended}
-use Rattle.sheets.specs.Theorems.{decoded, WrittenReadsBack, ReadWritesBack, PartIsList, LookupGivesTheList, AppendKeepsSheet, NewIsThere, AppendGivesNew, AsBefore, AppendKeepsOthers, appendAll, AllAppend, BegunReadsBack, OneWriting}
-use Rattle.sheets.specs.declared.Place.{Place}
-use Rattle.sheets.specs.declared.Place.the-variants.{At, Refused}
+use Rattle.sheets.specs.Calls.{placeOf, partAt, lookupFault, lookupOf, appendFault, appended}
+use Rattle.sheets.specs.Theorems.{decoded, WrittenReadsBack, ReadWritesBack, LookupGivesTheList, AppendKeepsSheet, AppendGivesNew, AppendKeepsOthers, appendAll, AllAppend, BegunReadsBack, OneWriting}
 
 pub written-reads-back : WrittenReadsBack
 written-reads-back = sheet-read

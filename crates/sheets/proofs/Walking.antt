@@ -1,22 +1,20 @@
 -- One turn of a loop over words or signals, and what is known of the signals passed.
-use Prim.Native.Nat.{ℕ, zero, suc, _+_, _-_, _*_, _≤_, _<_, _/_, _%_}
-use native.Mathlib.Nat.{add-zero, add-assoc, zero-add}
-use native.Mathlib.Numerals.{add-one}
+use Prim.Native.Nat.{ℕ, suc, _+_, _-_, _*_, _≤_, _<_, _/_, _%_}
+use native.Mathlib.Nat.{add-zero}
 use native.Mathlib.Omega.{arith}
-use mathlib.Core.Path.{_≡_, refl, sym, ap, _∙_}
-use mathlib.Core.Bool.{Bool, true, false, not, cond, Bool·beq, _&&_, _||_}
-use mathlib.Core.List.{List, [], _∷_, _++_}
-use lib.Dec.{eqb, leb, ltb}
-use lib.ListN.{length, getD, take, drop, length-drop, length-take}
+use mathlib.Core.Path.{_≡_, sym, ap, _∙_}
+use mathlib.Core.Bool.{Bool, true, false, not, cond}
+use mathlib.Core.List.{List}
+use lib.Dec.{eqb}
+use lib.ListN.{length, getD, take, drop, length-drop}
 use lib.Seq.{getD-drop, drop-drop}
-use borrow.Author.Tests.{eq-eqb, ne-eqb, lt-leb, le-leb, lt-ltb, le-ltb}
+use borrow.Author.Tests.{lt-leb, le-leb, lt-ltb, le-ltb}
 use Rattle.signals.specs.Words.{dateOf, valueAt, valueAfter, headValue, changesNothing}
-use Rattle.sheets.proofs.Truth.{true-false, and-left, and-right, or-left, or-right, is-false, not-false-true}
-use Rattle.sheets.specs.Names.{same, among, fieldFits, unpadded}
+use Rattle.sheets.specs.Names.{same, unpadded}
 use Rattle.sheets.specs.Bytes.{low16, low32}
-use Rattle.sheets.specs.Reading.{orElse, nameAt, wordCount, signalSize, laterWordsFault, sheetWordsFault, signalFault, signalsFault, signalsFrom, names, nameOf}
+use Rattle.sheets.specs.Reading.{nameAt, wordCount, signalSize, laterWordsFault, sheetWordsFault}
 use Rattle.sheets.specs.Calls.{placeFrom}
-use Rattle.sheets.specs.Walk.{Whole, sizeOf}
+use Rattle.sheets.specs.Walk.{Whole}
 use Rattle.sheets.specs.declared.Place.{Place}
 use Rattle.sheets.specs.declared.Place.the-variants.{At, Refused}
 

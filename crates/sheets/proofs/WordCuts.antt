@@ -1,5 +1,5 @@
 -- Words read up to one that is cut or breaks a rule.
-use Prim.Native.Nat.{ℕ, zero, suc, _+_, _-_, _*_, _≤_, _<_}
+use Prim.Native.Nat.{ℕ, zero, suc, _+_, _-_, _≤_, _<_}
 use native.Mathlib.Omega.{arith}
 use mathlib.Core.Path.{_≡_, refl, sym, ap, _∙_}
 use mathlib.Core.Bool.{Bool, true, false, cond, _||_}
@@ -9,11 +9,11 @@ use lib.Dec.{leb, ltb}
 use lib.ListN.{length, drop, length-append}
 use borrow.Author.Tests.{ltb-false, ltb-true, le-ltb, lt-ltb}
 use Rattle.signals.specs.Words.{dateOf, valueAfter, headValue, changesNothing, wordsFault, listFault}
-use Rattle.sheets.proofs.Truth.{true-false, or-left, or-right, is-false}
+use Rattle.sheets.proofs.Truth.{true-false, or-left, or-right}
 use Rattle.sheets.proofs.Judging.{past}
 use Rattle.sheets.proofs.Digits.{low32-written, low32-below, four-past, written32, bytes-drop}
 use Rattle.sheets.proofs.Accepting.{four-more}
-use Rattle.sheets.specs.Bytes.{low32, bytes32, wordsIn, wordBytes, Words, Bytes}
+use Rattle.sheets.specs.Bytes.{low32, bytes32, wordBytes, Words, Bytes}
 use Rattle.sheets.specs.Reading.{laterWordsFault, sheetWordsFault}
 use Rattle.sheets.specs.Sentences.{SoundSoFar}
 

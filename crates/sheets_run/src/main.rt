@@ -99,41 +99,54 @@ fn begins() {
     begun(b"begin 9", &mut nine);
 }
 
-fn appends(pair: &[u8]) {
-    let f = [0u32, 23, 36];
+// Appends to an output of 80 bytes, and looks up there.
+fn tried(label: &[u8], sheet: &[u8], name: &[u8], list: &[u32]) {
     let mut out = [7u8; 80];
-    added(
-        b"append a to empty",
-        b"SGL\x01\x00\x00\x00",
-        b"a",
-        &f,
-        &mut out,
-    );
+    added(label, sheet, name, list, &mut out);
+}
+
+fn there(pair: &[u8], list: &[u32]) {
     let mut out = [7u8; 80];
-    added(b"append c", pair, b"c", &f, &mut out);
+    added(b"append c", pair, b"c", list, &mut out);
     looked_to(b"c there", &out, 65, b"c");
     looked_to(b"a there", &out, 65, b"a");
     looked_to(b"b2 there", &out, 65, b"b2");
     looked_to(b"d there", &out, 65, b"d");
-    let mut short = [7u8; 64];
-    added(b"append to 64", pair, b"c", &f, &mut short);
-    let mut fits = [7u8; 65];
-    added(b"append to 65", pair, b"abcdefgh", &f, &mut fits);
-    looked_to(b"eight letters", &fits, 65, b"abcdefgh");
 }
 
-fn refused_appends(pair: &[u8]) {
+fn no_room(pair: &[u8], list: &[u32]) {
+    let mut out = [7u8; 64];
+    added(b"append to 64", pair, b"c", list, &mut out);
+}
+
+fn just_room(pair: &[u8], list: &[u32]) {
+    let mut out = [7u8; 65];
+    added(b"append to 65", pair, b"abcdefgh", list, &mut out);
+    looked_to(b"eight letters", &out, 65, b"abcdefgh");
+}
+
+fn appends(pair: &[u8]) {
     let f = [0u32, 23, 36];
-    let mut out = [7u8; 80];
-    added(b"append to cut", b"SGL\x01\x00\x01\x00", b"A", &f, &mut out);
-    added(b"append again", pair, b"a", &[2u32], &mut out);
-    added(b"append A", pair, b"A", &[2u32], &mut out);
-    added(b"append nameless", pair, b"", &f, &mut out);
-    added(b"append nine", pair, b"abcdefghi", &f, &mut out);
-    added(b"append [2]", pair, b"c", &[2u32], &mut out);
-    added(b"append [0,23,21]", pair, b"c", &[0u32, 23, 21], &mut out);
-    added(b"append [0,20]", pair, b"c", &[0u32, 20], &mut out);
-    added(b"append no words", pair, b"c", &f[..0], &mut out);
+    tried(b"append a to empty", b"SGL\x01\x00\x00\x00", b"a", &f);
+    there(pair, &f);
+    no_room(pair, &f);
+    just_room(pair, &f);
+}
+
+fn refused_names(pair: &[u8]) {
+    tried(b"append to cut", b"SGL\x01\x00\x01\x00", b"A", &[2u32]);
+    tried(b"append again", pair, b"a", &[2u32]);
+    tried(b"append A", pair, b"A", &[2u32]);
+    tried(b"append nameless", pair, b"", &[2u32]);
+    tried(b"append nine", pair, b"abcdefghi", &[2u32]);
+}
+
+fn refused_lists(pair: &[u8]) {
+    let f = [0u32, 23, 21];
+    tried(b"append [2]", pair, b"c", &[2u32]);
+    tried(b"append [0,23,21]", pair, b"c", &f);
+    tried(b"append [0,20]", pair, b"c", &[0u32, 20]);
+    tried(b"append no words", pair, b"c", &f[..0]);
 }
 
 fn main() {
@@ -146,7 +159,8 @@ fn main() {
     faults::words();
     faults::lookups(pair);
     appends(pair);
-    refused_appends(pair);
+    refused_names(pair);
+    refused_lists(pair);
     many::fullest();
     many::too_long();
 }

@@ -1,10 +1,10 @@
 -- `sheets::alike` meets its contract: the strings from the place on are alike when the whole ones are.
 use borrow.Author.Needs.{needs}
 use native.Mathlib.Omega.{arith}
-use Prim.Native.Nat.{ℕ, _+_, _-_, _≤_}
+use Prim.Native.Nat.{_-_, _≤_}
 use denote.Ref.{now}
-use mathlib.Core.Path.{_≡_, refl, sym, ap, _∙_}
-use lib.ListN.{length, getD, drop}
+use mathlib.Core.Path.{_≡_, refl, sym, _∙_}
+use lib.ListN.{length, drop}
 use Rattle.sheets.specs.Names.{same}
 use Rattle.sheets.proofs.Steps.{same-differ, same-agree, same-end, same-unequal}
 use Rattle.sheets.proofs.alike.Statement.{statement}
@@ -29,7 +29,10 @@ shared-slice-read-if2-2 : tie.Need-shared-slice-read-if2-2 Inv-loop μ-loop
 shared-slice-read-if2-2 c = search needs
 
 returns-2 : tie.Need-returns-2 Inv-loop μ-loop
-returns-2 c = sym (same-differ (now (c .before .before .before .before .before .before .args .a)) (now (c .before .before .before .before .before .before .args .b)) (c .before .before .before .before .loop .i) (search needs) (search needs) (c .if2 .taken)) ∙ c .before .before .before .before .loop .inv .1
+returns-2 c =
+    let args = c .before .before .before .before .before .before .args in
+    let loop = c .before .before .before .before .loop in
+    sym (same-differ (now (args .a)) (now (args .b)) (loop .i) (search needs) (search needs) (c .if2 .taken)) ∙ loop .inv .1
 
 add-i : tie.Need-add-i Inv-loop μ-loop
 add-i c = search needs
@@ -41,7 +44,10 @@ loop-again : tie.Need-loop-again Inv-loop μ-loop
 loop-again c = (omega arith, sym (same-agree (now (c .before .before .before .before .before .before .args .a)) (now (c .before .before .before .before .before .before .args .b)) (c .before .before .before .before .loop .i) (search needs) (search needs) (c .if2 .left)) ∙ c .before .before .before .before .loop .inv .1)
 
 returns-3 : tie.Need-returns-3 Inv-loop μ-loop
-returns-3 c = sym (same-end (now (c .before .before .before .args .a)) (now (c .before .before .before .args .b)) (c .before .loop .i) (search needs) (search needs)) ∙ c .before .loop .inv .1
+returns-3 c =
+    let args = c .before .before .before .args in
+    let loop = c .before .loop in
+    sym (same-end (now (args .a)) (now (args .b)) (loop .i) (search needs) (search needs)) ∙ loop .inv .1
 
 pub alike-spec : {M : Type 1} → statement M
 alike-spec =

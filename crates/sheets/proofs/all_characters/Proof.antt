@@ -1,10 +1,10 @@
 -- `sheets::all_characters` meets its contract: the bytes from the place on are letters or digits when all are.
 use borrow.Author.Needs.{needs}
 use native.Mathlib.Omega.{arith}
-use Prim.Native.Nat.{ℕ, _+_, _-_, _≤_}
+use Prim.Native.Nat.{_-_, _≤_}
 use denote.Ref.{now}
-use mathlib.Core.Path.{_≡_, refl, sym, ap, _∙_}
-use lib.ListN.{length, getD, drop}
+use mathlib.Core.Path.{_≡_, refl, sym, _∙_}
+use lib.ListN.{length, drop}
 use Rattle.sheets.specs.Names.{lettersOrDigits}
 use Rattle.sheets.proofs.Steps.{characters-letter, characters-digit, characters-not, characters-end}
 use Rattle.sheets.proofs.all_characters.Statement.{statement}
@@ -47,10 +47,22 @@ loop-less-2 : tie.Need-loop-less-2 Inv-loop μ-loop
 loop-less-2 c = search needs
 
 loop-again-2 : tie.Need-loop-again-2 Inv-loop μ-loop
-loop-again-2 c = (omega arith, sym (characters-digit (now (c .before .before .before .before .before .before .before .before .before .args .s)) (c .before .before .before .before .before .before .before .loop .i) (search needs) (sym (c .before .before .before .before .is-letter .ensures) ∙ c .before .before .before .if1 .left) (sym (c .before .is-digit .ensures) ∙ c .if2 .taken)) ∙ c .before .before .before .before .before .before .before .loop .inv .1)
+loop-again-2 c =
+    let args = c .before .before .before .before .before .before .before .before .before .args in
+    let loop = c .before .before .before .before .before .before .before .loop in
+    let is-letter = c .before .before .before .before .is-letter in
+    let if1 = c .before .before .before .if1 in
+    let is-digit = c .before .is-digit in
+    (omega arith, sym (characters-digit (now (args .s)) (loop .i) (search needs) (sym (is-letter .ensures) ∙ if1 .left) (sym (is-digit .ensures) ∙ c .if2 .taken)) ∙ loop .inv .1)
 
 returns : tie.Need-returns Inv-loop μ-loop
-returns c = sym (characters-not (now (c .before .before .before .before .before .before .before .before .before .args .s)) (c .before .before .before .before .before .before .before .loop .i) (search needs) (sym (c .before .before .before .before .is-letter .ensures) ∙ c .before .before .before .if1 .left) (sym (c .before .is-digit .ensures) ∙ c .if2 .left)) ∙ c .before .before .before .before .before .before .before .loop .inv .1
+returns c =
+    let args = c .before .before .before .before .before .before .before .before .before .args in
+    let loop = c .before .before .before .before .before .before .before .loop in
+    let is-letter = c .before .before .before .before .is-letter in
+    let if1 = c .before .before .before .if1 in
+    let is-digit = c .before .is-digit in
+    sym (characters-not (now (args .s)) (loop .i) (search needs) (sym (is-letter .ensures) ∙ if1 .left) (sym (is-digit .ensures) ∙ c .if2 .left)) ∙ loop .inv .1
 
 returns-2 : tie.Need-returns-2 Inv-loop μ-loop
 returns-2 c = sym (characters-end (now (c .before .before .before .args .s)) (c .before .loop .i) (search needs)) ∙ c .before .loop .inv .1

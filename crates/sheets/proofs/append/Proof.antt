@@ -4,50 +4,83 @@ use lib.ListN.{length-drop}
 use lib.Seq.{length-take-le}
 use borrow.Author.Needs.{needs}
 use native.Mathlib.Omega.{arith}
-use Prim.Native.Nat.{ℕ, _+_, _-_, _*_, _≤_, _/_, _%_}
-use mathlib.Core.Path.{_≡_, refl, sym, ap, _∙_}
-use lib.ListN.{length, getD, take, drop}
+use Prim.Native.Nat.{ℕ}
+use mathlib.Core.Path.{_≡_, sym, ap, _∙_}
+use lib.ListN.{length}
 use denote.Ref.{now}
-use Rattle.sheets.proofs.Locating.{count-is, front-none}
-use Rattle.sheets.proofs.Appending.{appends, append-refused, append-put, append-room}
+use mathlib.Core.List.{List}
+use Rattle.sheets.specs.Bytes.{Bytes}
+use Rattle.sheets.specs.Calls.{appendFault}
+use Rattle.sheets.proofs.Locating.{count-is}
+use Rattle.sheets.proofs.Appending.{append-refused, append-put, append-room, Roomy}
 use Rattle.sheets.proofs.append.Statement.{statement}
 use Rattle.sheets.proofs.append.Tie as tie
+
+-- past the judging: the sheet, the name, the list, the output at entry; the sheet is bytes; no fault; what fits
+abbrev S : tie.Else1 → List ℕ
+S c = now (c .before .before .before .before .before .before .args .sheet)
+
+abbrev N : tie.Else1 → List ℕ
+N c = now (c .before .before .before .before .before .before .args .name)
+
+abbrev L : tie.Else1 → List ℕ
+L c = now (c .before .before .before .before .before .before .args .list)
+
+abbrev O : tie.Else1 → List ℕ
+O c = now (c .before .before .before .before .before .before .args .out)
+
+bytes : (c : tie.Else1) → Bytes (S c)
+bytes c i = omega (arith, c .before .before .before .before .before .shared-slice-known .given i)
+
+none : (c : tie.Else1) → appendFault (S c) (N c) (L c) (length (O c)) ≡ 0
+none c = sym (c .before .append-fault .ensures) ∙ c .if1 .left
+
+fits : (c : tie.Else1) → Roomy (S c) (N c) (L c) (O c)
+fits c = append-room (S c) (N c) (L c) (O c) (bytes c) (none c)
 
 append-fault-requires : tie.Need-append-fault-requires
 append-fault-requires c κs = search needs
 
 returns : tie.Need-returns
-returns c = append-refused (now (c .before .before .before .before .before .before .args .sheet)) (now (c .before .before .before .before .before .before .args .name)) (now (c .before .before .before .before .before .before .args .list)) (now (c .before .before .before .before .before .before .args .out)) (c .before .append-fault .result) (c .before .append-fault .ensures) (c .if1 .taken)
+returns c =
+    let called = c .before in
+    append-refused (now (called .before .before .before .before .before .args .sheet)) (now (called .before .before .before .before .before .args .name))
+    (now (called .before .before .before .before .before .args .list)) (now (called .before .before .before .before .before .args .out))
+    (called .append-fault .result) (called .append-fault .ensures) (c .if1 .taken)
 
 read16-requires : tie.Need-read16-requires
-read16-requires c κs = front-none (now (c .before .before .before .before .before .before .args .sheet)) (appends (now (c .before .before .before .before .before .before .args .sheet)) (now (c .before .before .before .before .before .before .args .name)) (now (c .before .before .before .before .before .before .args .list)) (length (now (c .before .before .before .before .before .before .args .out))) (sym (c .before .append-fault .ensures) ∙ c .if1 .left) .fine) .room
+read16-requires c κs = fits c .front
 
 slice-aggregate-put : tie.Need-slice-aggregate-put
-slice-aggregate-put c = sym (length-take-le 5 (now (c .before .before .before .before .before .before .before .before .before .args .sheet)) (omega (arith, append-room (now (c .before .before .before .before .before .before .before .before .before .args .sheet)) (now (c .before .before .before .before .before .before .before .before .before .args .name)) (now (c .before .before .before .before .before .before .before .before .before .args .list)) (now (c .before .before .before .before .before .before .before .before .before .args .out)) (λ i. omega (arith, c .before .before .before .before .before .before .before .before .shared-slice-known .given i)) (sym (c .before .before .before .before .append-fault .ensures) ∙ c .before .before .before .if1 .left) .front)))
+slice-aggregate-put c = sym (length-take-le 5 (S (c .before .before .before)) (omega (arith, fits (c .before .before .before) .front)))
 
 put-requires : tie.Need-put-requires
-put-requires c κs = let k = append-room (now (c .before .before .before .before .before .before .before .before .before .args .sheet)) (now (c .before .before .before .before .before .before .before .before .before .args .name)) (now (c .before .before .before .before .before .before .before .before .before .args .list)) (now (c .before .before .before .before .before .before .before .before .before .args .out)) (λ i. omega (arith, c .before .before .before .before .before .before .before .before .shared-slice-known .given i)) (sym (c .before .before .before .before .append-fault .ensures) ∙ c .before .before .before .if1 .left) in omega (arith, length-take-le 5 (now (c .before .before .before .before .before .before .before .before .before .args .sheet)) (omega arith))
+put-requires c κs = let k = fits (c .before .before .before) in omega (arith, length-take-le 5 (S (c .before .before .before)) (omega arith))
 
 add-put16 : tie.Need-add-put16
 add-put16 c = search needs
 
 put16-requires : tie.Need-put16-requires
-put16-requires c κs = let k = append-room (now (c .before .before .before .before .before .before .before .before .before .before .before .before .before .args .sheet)) (now (c .before .before .before .before .before .before .before .before .before .before .before .before .before .args .name)) (now (c .before .before .before .before .before .before .before .before .before .before .before .before .before .args .list)) (now (c .before .before .before .before .before .before .before .before .before .before .before .before .before .args .out)) (λ i. omega (arith, c .before .before .before .before .before .before .before .before .before .before .before .before .shared-slice-known .given i)) (sym (c .before .before .before .before .before .before .before .before .append-fault .ensures) ∙ c .before .before .before .before .before .before .before .if1 .left) in omega (arith, c .before .before .before .put .kept .0)
+put16-requires c κs = let k = fits (c .before .before .before .before .before .before .before) in omega (arith, c .before .before .before .put .kept .0)
 
 sub-put : tie.Need-sub-put
-sub-put c = append-room (now (c .before .before .before .before .before .before .before .before .before .before .before .before .before .before .before .before .before .args .sheet)) (now (c .before .before .before .before .before .before .before .before .before .before .before .before .before .before .before .before .before .args .name)) (now (c .before .before .before .before .before .before .before .before .before .before .before .before .before .before .before .before .before .args .list)) (now (c .before .before .before .before .before .before .before .before .before .before .before .before .before .before .before .before .before .args .out)) (λ i. omega (arith, c .before .before .before .before .before .before .before .before .before .before .before .before .before .before .before .before .shared-slice-known .given i)) (sym (c .before .before .before .before .before .before .before .before .before .before .before .before .append-fault .ensures) ∙ c .before .before .before .before .before .before .before .before .before .before .before .if1 .left) .front
+sub-put c = fits (c .before .before .before .before .before .before .before .before .before .before .before) .front
 
 part-put-start : tie.Need-part-put-start
-part-put-start c = append-room (now (c .before .before .before .before .before .before .before .before .before .before .before .before .before .before .before .before .before .args .sheet)) (now (c .before .before .before .before .before .before .before .before .before .before .before .before .before .before .before .before .before .args .name)) (now (c .before .before .before .before .before .before .before .before .before .before .before .before .before .before .before .before .before .args .list)) (now (c .before .before .before .before .before .before .before .before .before .before .before .before .before .before .before .before .before .args .out)) (λ i. omega (arith, c .before .before .before .before .before .before .before .before .before .before .before .before .before .before .before .before .shared-slice-known .given i)) (sym (c .before .before .before .before .before .before .before .before .before .before .before .before .append-fault .ensures) ∙ c .before .before .before .before .before .before .before .before .before .before .before .if1 .left) .front
+part-put-start c = fits (c .before .before .before .before .before .before .before .before .before .before .before) .front
 
 part-put-end : tie.Need-part-put-end
 part-put-end c = search needs
 
 put-requires-2 : tie.Need-put-requires-2
-put-requires-2 c κs = let k = append-room (now (c .before .before .before .before .before .before .before .before .before .before .before .before .before .before .before .before .before .before .args .sheet)) (now (c .before .before .before .before .before .before .before .before .before .before .before .before .before .before .before .before .before .before .args .name)) (now (c .before .before .before .before .before .before .before .before .before .before .before .before .before .before .before .before .before .before .args .list)) (now (c .before .before .before .before .before .before .before .before .before .before .before .before .before .before .before .before .before .before .args .out)) (λ i. omega (arith, c .before .before .before .before .before .before .before .before .before .before .before .before .before .before .before .before .before .shared-slice-known .given i)) (sym (c .before .before .before .before .before .before .before .before .before .before .before .before .before .append-fault .ensures) ∙ c .before .before .before .before .before .before .before .before .before .before .before .before .if1 .left) in omega (arith, c .before .before .before .before .before .before .before .before .put .kept .0, c .before .before .before .before .put16 .kept .0, ap length (part-rest (now (c .before .before .before .before .before .before .before .before .before .before .before .before .before .before .before .before .before .before .args .sheet)) 7), length-drop 7 (now (c .before .before .before .before .before .before .before .before .before .before .before .before .before .before .before .before .before .before .args .sheet)))
+put-requires-2 c κs =
+    let k = fits (c .before .before .before .before .before .before .before .before .before .before .before .before) in
+    omega (arith, c .before .before .before .before .before .before .before .before .put .kept .0, c .before .before .before .before .put16 .kept .0, ap length (part-rest (S (c .before .before .before .before .before .before .before .before .before .before .before .before)) 7), length-drop 7 (S (c .before .before .before .before .before .before .before .before .before .before .before .before)))
 
 put-signal-requires : tie.Need-put-signal-requires
-put-signal-requires c κs = let k = append-room (now (c .before .before .before .before .before .before .before .before .before .before .before .before .before .before .before .before .before .before .before .before .before .before .args .sheet)) (now (c .before .before .before .before .before .before .before .before .before .before .before .before .before .before .before .before .before .before .before .before .before .before .args .name)) (now (c .before .before .before .before .before .before .before .before .before .before .before .before .before .before .before .before .before .before .before .before .before .before .args .list)) (now (c .before .before .before .before .before .before .before .before .before .before .before .before .before .before .before .before .before .before .before .before .before .before .args .out)) (λ i. omega (arith, c .before .before .before .before .before .before .before .before .before .before .before .before .before .before .before .before .before .before .before .before .before .shared-slice-known .given i)) (sym (c .before .before .before .before .before .before .before .before .before .before .before .before .before .before .before .before .before .append-fault .ensures) ∙ c .before .before .before .before .before .before .before .before .before .before .before .before .before .before .before .before .if1 .left) in (omega (arith, c .before .before .before .before .before .before .before .before .before .before .before .before .put .kept .0, c .before .before .before .before .before .before .before .before .put16 .kept .0, c .before .before .before .put2 .kept .0), k .short)
+put-signal-requires c κs =
+    let k = fits (c .before .before .before .before .before .before .before .before .before .before .before .before .before .before .before .before) in
+    (omega (arith, c .before .before .before .before .before .before .before .before .before .before .before .before .put .kept .0, c .before .before .before .before .before .before .before .before .put16 .kept .0, c .before .before .before .put2 .kept .0), k .short)
 
 mul-t24 : tie.Need-mul-t24
 mul-t24 c = search needs
@@ -56,13 +89,17 @@ add-t25 : tie.Need-add-t25
 add-t25 c = search needs
 
 add-t26 : tie.Need-add-t26
-add-t26 c = let k = append-room (now (c .before .before .before .before .before .before .before .before .before .before .before .before .before .before .before .before .before .before .before .before .before .before .before .before .before .args .sheet)) (now (c .before .before .before .before .before .before .before .before .before .before .before .before .before .before .before .before .before .before .before .before .before .before .before .before .before .args .name)) (now (c .before .before .before .before .before .before .before .before .before .before .before .before .before .before .before .before .before .before .before .before .before .before .before .before .before .args .list)) (now (c .before .before .before .before .before .before .before .before .before .before .before .before .before .before .before .before .before .before .before .before .before .before .before .before .before .args .out)) (λ i. omega (arith, c .before .before .before .before .before .before .before .before .before .before .before .before .before .before .before .before .before .before .before .before .before .before .before .before .shared-slice-known .given i)) (sym (c .before .before .before .before .before .before .before .before .before .before .before .before .before .before .before .before .before .before .before .before .append-fault .ensures) ∙ c .before .before .before .before .before .before .before .before .before .before .before .before .before .before .before .before .before .before .before .if1 .left) in omega (arith, k .all)
+add-t26 c = let k = fits (c .before .before .before .before .before .before .before .before .before .before .before .before .before .before .before .before .before .before .before) in omega (arith, k .all)
 
 same-length : tie.Need-same-length
 same-length c = search needs
 
 returns-2 : tie.Need-returns-2
-returns-2 c = append-put (now (c .before .before .before .before .before .before .before .before .before .before .before .before .before .before .before .before .before .before .before .before .before .before .before .before .before .args .sheet)) (now (c .before .before .before .before .before .before .before .before .before .before .before .before .before .before .before .before .before .before .before .before .before .before .before .before .before .args .name)) (now (c .before .before .before .before .before .before .before .before .before .before .before .before .before .before .before .before .before .before .before .before .before .before .before .before .before .args .list)) (now (c .before .before .before .before .before .before .before .before .before .before .before .before .before .before .before .before .before .before .before .before .before .before .before .before .before .args .out)) (c .before .before .before .before .before .before .before .before .before .before .before .before .before .before .before .put .last .0) (c .before .before .before .before .before .before .before .before .before .before .before .put16 .last .0) (c .before .before .before .before .before .before .put2 .last .0) (c .before .before .put-signal .last .0) (c .before .before .before .before .before .before .before .before .before .before .before .before .before .before .before .before .before .before .read16 .result) (λ i. omega (arith, c .before .before .before .before .before .before .before .before .before .before .before .before .before .before .before .before .before .before .before .before .before .before .before .before .shared-slice-known .given i)) (sym (c .before .before .before .before .before .before .before .before .before .before .before .before .before .before .before .before .before .before .before .before .append-fault .ensures) ∙ c .before .before .before .before .before .before .before .before .before .before .before .before .before .before .before .before .before .before .before .if1 .left) (count-is (now (c .before .before .before .before .before .before .before .before .before .before .before .before .before .before .before .before .before .before .before .before .before .before .before .before .before .args .sheet)) (c .before .before .before .before .before .before .before .before .before .before .before .before .before .before .before .before .before .before .read16 .result) (c .before .before .before .before .before .before .before .before .before .before .before .before .before .before .before .before .before .before .read16 .ensures .0)) (c .before .before .before .before .before .before .before .before .before .before .before .before .before .before .before .put .ensures) (c .before .before .before .before .before .before .before .before .before .before .before .put16 .ensures) (c .before .before .before .before .before .before .put2 .ensures) (c .before .before .put-signal .ensures)
+returns-2 c =
+    let d = c .before .before .before .before .before .before .before .before .before .before .before .before .before .before .before .before .before .before .before in
+    append-put (S d) (N d) (L d) (O d) (c .before .before .before .before .before .before .before .before .before .before .before .before .before .before .before .put .last .0) (c .before .before .before .before .before .before .before .before .before .before .before .put16 .last .0) (c .before .before .before .before .before .before .put2 .last .0) (c .before .before .put-signal .last .0) (c .before .before .before .before .before .before .before .before .before .before .before .before .before .before .before .before .before .before .read16 .result) (bytes d)
+    (none d) (count-is (S d) (c .before .before .before .before .before .before .before .before .before .before .before .before .before .before .before .before .before .before .read16 .result) (c .before .before .before .before .before .before .before .before .before .before .before .before .before .before .before .before .before .before .read16 .ensures .0)) (c .before .before .before .before .before .before .before .before .before .before .before .before .before .before .before .put .ensures) (c .before .before .before .before .before .before .before .before .before .before .before .put16 .ensures) (c .before .before .before .before .before .before .put2 .ensures)
+    (c .before .before .put-signal .ensures)
 
 pub append-spec : {M : Type 1} → statement M
 append-spec =

@@ -1,9 +1,5 @@
 -- `sheets::begin` meets its contract.
 use borrow.Author.Needs.{needs}
-use native.Mathlib.Omega.{arith}
-use Prim.Native.Nat.{ℕ, _+_, _-_, _*_, _≤_, _/_, _%_}
-use mathlib.Core.Path.{_≡_, refl, sym, ap, _∙_}
-use lib.ListN.{length, getD, take, drop}
 use denote.Ref.{now}
 use Rattle.sheets.proofs.Filling.{begin-short, begin-put}
 use Rattle.sheets.proofs.begin.Statement.{statement}
@@ -28,7 +24,13 @@ same-length : tie.Need-same-length
 same-length c = search needs
 
 returns-2 : tie.Need-returns-2
-returns-2 c = begin-put (now (c .before .before .before .before .before .before .before .before .before .before .before .before .before .before .before .args .out)) (c .before .before .before .before .before .before .before .before .before .before .put .last .0) (c .before .before .before .before .before .before .put16 .last .0) (c .before .before .put162 .last .0) (c .before .before .before .before .before .before .before .before .before .before .before .before .before .if1 .left) (c .before .before .before .before .before .before .before .before .before .before .put .ensures) (c .before .before .before .before .before .before .put16 .ensures) (c .before .before .put162 .ensures)
+returns-2 c =
+    let args = c .before .before .before .before .before .before .before .before .before .before .before .before .before .before .before .args in
+    let if1 = c .before .before .before .before .before .before .before .before .before .before .before .before .before .if1 in
+    let put = c .before .before .before .before .before .before .before .before .before .before .put in
+    let put16 = c .before .before .before .before .before .before .put16 in
+    let put162 = c .before .before .put162 in
+    begin-put (now (args .out)) (put .last .0) (put16 .last .0) (put162 .last .0) (if1 .left) (put .ensures) (put16 .ensures) (put162 .ensures)
 
 pub begin-spec : {M : Type 1} → statement M
 begin-spec =

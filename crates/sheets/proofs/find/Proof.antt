@@ -2,11 +2,10 @@
 use native.Mathlib.Nat.{sub-zero}
 use borrow.Author.Needs.{needs}
 use native.Mathlib.Omega.{arith}
-use Prim.Native.Nat.{ℕ, _+_, _-_, _*_, _≤_, _/_, _%_}
-use mathlib.Core.Path.{_≡_, refl, sym, ap, _∙_}
-use lib.ListN.{length, getD, take, drop}
+use Prim.Native.Nat.{_-_, _≤_}
+use mathlib.Core.Path.{_≡_, refl, sym, _∙_}
+use lib.ListN.{length, drop}
 use denote.Ref.{now}
-use Rattle.sheets.specs.Reading.{signalSize}
 use Rattle.sheets.specs.Calls.{placeFrom}
 use Rattle.sheets.specs.Walk.{Whole}
 use Rattle.sheets.proofs.Walking.{room, room10, whole-next, found, not-here, place-none}
@@ -32,22 +31,46 @@ alike-requires : tie.Need-alike-requires Inv-loop μ-loop
 alike-requires c κs = tt
 
 add-t10 : tie.Need-add-t10 Inv-loop μ-loop
-add-t10 c = omega (arith, room10 (now (c .before .before .before .before .before .before .before .before .args .sheet)) (c .before .before .before .before .before .loop .at) (c .before .before .before .before .before .before .before .before .args .count) (c .before .before .before .before .before .loop .i) (c .before .before .before .before .loop-test .taken) (c .before .before .before .before .before .loop .inv .1) (c .before .before .before .before .before .loop .inv .2))
+add-t10 c =
+    let args = c .before .before .before .before .before .before .before .before .args in
+    let loop = c .before .before .before .before .before .loop in
+    let loop-test = c .before .before .before .before .loop-test in
+    omega (arith, room10 (now (args .sheet)) (loop .at) (args .count) (loop .i) (loop-test .taken) (loop .inv .1) (loop .inv .2))
 
 word-count-requires : tie.Need-word-count-requires Inv-loop μ-loop
-word-count-requires c κs = room10 (now (c .before .before .before .before .before .before .before .before .args .sheet)) (c .before .before .before .before .before .loop .at) (c .before .before .before .before .before .before .before .before .args .count) (c .before .before .before .before .before .loop .i) (c .before .before .before .before .loop-test .taken) (c .before .before .before .before .before .loop .inv .1) (c .before .before .before .before .before .loop .inv .2)
+word-count-requires c κs =
+    let args = c .before .before .before .before .before .before .before .before .args in
+    let loop = c .before .before .before .before .before .loop in
+    let loop-test = c .before .before .before .before .loop-test in
+    room10 (now (args .sheet)) (loop .at) (args .count) (loop .i) (loop-test .taken) (loop .inv .1) (loop .inv .2)
 
 mul-t12 : tie.Need-mul-t12 Inv-loop μ-loop
 mul-t12 c = omega arith
 
 returns : tie.Need-returns Inv-loop μ-loop
-returns c = found (now (c .before .before .before .before .before .before .before .before .before .args .name)) (now (c .before .before .before .before .before .before .before .before .before .args .sheet)) (c .before .before .before .before .before .before .loop .at) (c .before .before .before .before .before .before .before .before .before .args .count) (c .before .before .before .before .before .before .loop .i) _ (c .before .before .before .before .before .loop-test .taken) (now (c .before .before .before .before .field-at .result)) (now (c .before .before .before .name-in .result)) (c .before .before .alike .result) (c .before .before .before .before .field-at .ensures) (c .before .before .before .name-in .ensures) (c .before .before .alike .ensures) (c .before .before .before .before .before .before .loop .inv .3) (c .word-count .result) (c .before .if1 .taken) (c .word-count .ensures .0)
+returns c =
+    let args = c .before .before .before .before .before .before .before .before .before .args in
+    let loop = c .before .before .before .before .before .before .loop in
+    let loop-test = c .before .before .before .before .before .loop-test in
+    let field-at = c .before .before .before .before .field-at in
+    let name-in = c .before .before .before .name-in in
+    let alike = c .before .before .alike in
+    let if1 = c .before .if1 in
+    found (now (args .name)) (now (args .sheet)) (loop .at) (args .count) (loop .i) _ (loop-test .taken) (now (field-at .result)) (now (name-in .result)) (alike .result) (field-at .ensures) (name-in .ensures) (alike .ensures) (loop .inv .3) (c .word-count .result) (if1 .taken) (c .word-count .ensures .0)
 
 signal-size-requires : tie.Need-signal-size-requires Inv-loop μ-loop
-signal-size-requires c κs = room10 (now (c .before .before .before .before .before .before .before .before .args .sheet)) (c .before .before .before .before .before .loop .at) (c .before .before .before .before .before .before .before .before .args .count) (c .before .before .before .before .before .loop .i) (c .before .before .before .before .loop-test .taken) (c .before .before .before .before .before .loop .inv .1) (c .before .before .before .before .before .loop .inv .2)
+signal-size-requires c κs =
+    let args = c .before .before .before .before .before .before .before .before .args in
+    let loop = c .before .before .before .before .before .loop in
+    let loop-test = c .before .before .before .before .loop-test in
+    room10 (now (args .sheet)) (loop .at) (args .count) (loop .i) (loop-test .taken) (loop .inv .1) (loop .inv .2)
 
 add-at : tie.Need-add-at Inv-loop μ-loop
-add-at c = omega (arith, room (now (c .before .before .before .before .before .before .before .before .before .args .sheet)) (c .before .before .before .before .before .before .loop .at) (c .before .before .before .before .before .before .before .before .before .args .count) (c .before .before .before .before .before .before .loop .i) (c .before .before .before .before .before .loop-test .taken) (c .before .before .before .before .before .before .loop .inv .1) (c .before .before .before .before .before .before .loop .inv .2))
+add-at c =
+    let args = c .before .before .before .before .before .before .before .before .before .args in
+    let loop = c .before .before .before .before .before .before .loop in
+    let loop-test = c .before .before .before .before .before .loop-test in
+    omega (arith, room (now (args .sheet)) (loop .at) (args .count) (loop .i) (loop-test .taken) (loop .inv .1) (loop .inv .2))
 
 add-i : tie.Need-add-i Inv-loop μ-loop
 add-i c = search needs
@@ -56,15 +79,25 @@ loop-less : tie.Need-loop-less Inv-loop μ-loop
 loop-less c = omega arith
 
 loop-again : tie.Need-loop-again Inv-loop μ-loop
-loop-again c = (
-  omega arith,
-  rw (c .signal-size .ensures) (room (now (c .before .before .before .before .before .before .before .before .before .args .sheet)) (c .before .before .before .before .before .before .loop .at) (c .before .before .before .before .before .before .before .before .before .args .count) (c .before .before .before .before .before .before .loop .i) (c .before .before .before .before .before .loop-test .taken) (c .before .before .before .before .before .before .loop .inv .1) (c .before .before .before .before .before .before .loop .inv .2)),
-  rw (c .signal-size .ensures) (whole-next (now (c .before .before .before .before .before .before .before .before .before .args .sheet)) (c .before .before .before .before .before .before .loop .at) (c .before .before .before .before .before .before .before .before .before .args .count) (c .before .before .before .before .before .before .loop .i) (c .before .before .before .before .before .loop-test .taken) (c .before .before .before .before .before .before .loop .inv .1) (c .before .before .before .before .before .before .loop .inv .2)),
-  rw (c .signal-size .ensures) (not-here (now (c .before .before .before .before .before .before .before .before .before .args .name)) (now (c .before .before .before .before .before .before .before .before .before .args .sheet)) (c .before .before .before .before .before .before .loop .at) (c .before .before .before .before .before .before .before .before .before .args .count) (c .before .before .before .before .before .before .loop .i) _ (c .before .before .before .before .before .loop-test .taken) (now (c .before .before .before .before .field-at .result)) (now (c .before .before .before .name-in .result)) (c .before .before .alike .result) (c .before .before .before .before .field-at .ensures) (c .before .before .before .name-in .ensures) (c .before .before .alike .ensures) (c .before .before .before .before .before .before .loop .inv .3) (c .before .if1 .left)),
-)
+loop-again c =
+    let args = c .before .before .before .before .before .before .before .before .before .args in
+    let loop = c .before .before .before .before .before .before .loop in
+    let loop-test = c .before .before .before .before .before .loop-test in
+    let field-at = c .before .before .before .before .field-at in
+    let name-in = c .before .before .before .name-in in
+    let alike = c .before .before .alike in
+    let if1 = c .before .if1 in (
+      omega arith,
+      rw (c .signal-size .ensures) (room (now (args .sheet)) (loop .at) (args .count) (loop .i) (loop-test .taken) (loop .inv .1) (loop .inv .2)),
+      rw (c .signal-size .ensures) (whole-next (now (args .sheet)) (loop .at) (args .count) (loop .i) (loop-test .taken) (loop .inv .1) (loop .inv .2)),
+      rw (c .signal-size .ensures) (not-here (now (args .name)) (now (args .sheet)) (loop .at) (args .count) (loop .i) _ (loop-test .taken) (now (field-at .result)) (now (name-in .result)) (alike .result) (field-at .ensures) (name-in .ensures) (alike .ensures) (loop .inv .3) (if1 .left)),
+    )
 
 returns-2 : tie.Need-returns-2 Inv-loop μ-loop
-returns-2 c = sym (place-none (now (c .before .before .before .before .args .name)) (c .before .loop .at) (c .before .before .before .before .args .count) (c .before .loop .i) (drop (c .before .loop .at) (now (c .before .before .before .before .args .sheet))) (c .loop-test .left)) ∙ c .before .loop .inv .3
+returns-2 c =
+    let args = c .before .before .before .before .args in
+    let loop = c .before .loop in
+    sym (place-none (now (args .name)) (loop .at) (args .count) (loop .i) (drop (loop .at) (now (args .sheet))) (c .loop-test .left)) ∙ loop .inv .3
 
 pub find-spec : {M : Type 1} → statement M
 find-spec =

@@ -1,9 +1,6 @@
 -- `sheets::front_fault` meets its contract: the tests that led to each return say which case of the definition holds.
 use borrow.Author.Needs.{needs}
-use native.Mathlib.Omega.{arith}
-use Prim.Native.Nat.{ℕ, _+_, _-_, _*_, _≤_, _/_, _%_}
-use mathlib.Core.Path.{_≡_, refl, sym, ap, _∙_}
-use lib.ListN.{length, getD, take, drop}
+use mathlib.Core.Path.{sym}
 use denote.Ref.{now}
 use lib.Seq.{length-take-le}
 use Rattle.sheets.proofs.Judging.{front-short, front-mark, front-cut, front-version, front-no-count, front-many, front-fine}
@@ -23,28 +20,72 @@ alike-requires : tie.Need-alike-requires
 alike-requires c κs = search needs
 
 returns-2 : tie.Need-returns-2
-returns-2 c = sym (front-cut (now (c .before .before .before .before .before .before .before .args .sheet)) (c .before .before .before .before .before .if1 .left) (c .before .before .alike .result) (c .before .before .alike .ensures) (c .before .if2 .taken) (c .if3 .taken))
+returns-2 c =
+    let args = c .before .before .before .before .before .before .before .args in
+    let if1 = c .before .before .before .before .before .if1 in
+    let alike = c .before .before .alike in
+    let if2 = c .before .if2 in
+    sym (front-cut (now (args .sheet)) (if1 .left) (alike .result) (alike .ensures) (if2 .taken) (c .if3 .taken))
 
 read16-requires : tie.Need-read16-requires
 read16-requires c κs = search needs
 
 returns-3 : tie.Need-returns-3
-returns-3 c = sym (front-version (now (c .before .before .before .before .before .before .before .before .before .args .sheet)) (c .before .before .before .before .before .before .before .if1 .left) (c .before .before .before .before .alike .result) (c .before .before .before .before .alike .ensures) (c .before .before .before .if2 .taken) (c .before .before .if3 .left) (c .before .read16 .result) (c .before .read16 .ensures .0) (c .if4 .taken))
+returns-3 c =
+    let args = c .before .before .before .before .before .before .before .before .before .args in
+    let if1 = c .before .before .before .before .before .before .before .if1 in
+    let alike = c .before .before .before .before .alike in
+    let if2 = c .before .before .before .if2 in
+    let if3 = c .before .before .if3 in
+    let read16 = c .before .read16 in
+    sym (front-version (now (args .sheet)) (if1 .left) (alike .result) (alike .ensures) (if2 .taken) (if3 .left) (read16 .result) (read16 .ensures .0) (c .if4 .taken))
 
 returns-4 : tie.Need-returns-4
-returns-4 c = sym (front-no-count (now (c .before .before .before .before .before .before .before .before .before .before .args .sheet)) (c .before .before .before .before .before .before .before .before .if1 .left) (c .before .before .before .before .before .alike .result) (c .before .before .before .before .before .alike .ensures) (c .before .before .before .before .if2 .taken) (c .before .before .before .if3 .left) (c .before .before .read16 .result) (c .before .before .read16 .ensures .0) (c .before .if4 .left) (c .if5 .taken))
+returns-4 c =
+    let args = c .before .before .before .before .before .before .before .before .before .before .args in
+    let if1 = c .before .before .before .before .before .before .before .before .if1 in
+    let alike = c .before .before .before .before .before .alike in
+    let if2 = c .before .before .before .before .if2 in
+    let if3 = c .before .before .before .if3 in
+    let read16 = c .before .before .read16 in
+    let if4 = c .before .if4 in
+    sym (front-no-count (now (args .sheet)) (if1 .left) (alike .result) (alike .ensures) (if2 .taken) (if3 .left) (read16 .result) (read16 .ensures .0) (if4 .left) (c .if5 .taken))
 
 read16-requires-2 : tie.Need-read16-requires-2
 read16-requires-2 c κs = search needs
 
 returns-5 : tie.Need-returns-5
-returns-5 c = sym (front-many (now (c .before .before .before .before .before .before .before .before .before .before .before .before .args .sheet)) (c .before .before .before .before .before .before .before .before .before .before .if1 .left) (c .before .before .before .before .before .before .before .alike .result) (c .before .before .before .before .before .before .before .alike .ensures) (c .before .before .before .before .before .before .if2 .taken) (c .before .before .before .before .before .if3 .left) (c .before .before .before .before .read16 .result) (c .before .before .before .before .read16 .ensures .0) (c .before .before .before .if4 .left) (c .before .before .if5 .left) (c .before .read162 .result) (c .before .read162 .ensures .0) (c .if6 .taken))
+returns-5 c =
+    let args = c .before .before .before .before .before .before .before .before .before .before .before .before .args in
+    let if1 = c .before .before .before .before .before .before .before .before .before .before .if1 in
+    let alike = c .before .before .before .before .before .before .before .alike in
+    let if2 = c .before .before .before .before .before .before .if2 in
+    let if3 = c .before .before .before .before .before .if3 in
+    let read16 = c .before .before .before .before .read16 in
+    let if4 = c .before .before .before .if4 in
+    let if5 = c .before .before .if5 in
+    let read162 = c .before .read162 in
+    sym (front-many (now (args .sheet)) (if1 .left) (alike .result) (alike .ensures) (if2 .taken) (if3 .left) (read16 .result) (read16 .ensures .0) (if4 .left) (if5 .left) (read162 .result) (read162 .ensures .0) (c .if6 .taken))
 
 returns-6 : tie.Need-returns-6
-returns-6 c = sym (front-fine (now (c .before .before .before .before .before .before .before .before .before .before .before .before .args .sheet)) (c .before .before .before .before .before .before .before .before .before .before .if1 .left) (c .before .before .before .before .before .before .before .alike .result) (c .before .before .before .before .before .before .before .alike .ensures) (c .before .before .before .before .before .before .if2 .taken) (c .before .before .before .before .before .if3 .left) (c .before .before .before .before .read16 .result) (c .before .before .before .before .read16 .ensures .0) (c .before .before .before .if4 .left) (c .before .before .if5 .left) (c .before .read162 .result) (c .before .read162 .ensures .0) (c .if6 .left))
+returns-6 c =
+    let args = c .before .before .before .before .before .before .before .before .before .before .before .before .args in
+    let if1 = c .before .before .before .before .before .before .before .before .before .before .if1 in
+    let alike = c .before .before .before .before .before .before .before .alike in
+    let if2 = c .before .before .before .before .before .before .if2 in
+    let if3 = c .before .before .before .before .before .if3 in
+    let read16 = c .before .before .before .before .read16 in
+    let if4 = c .before .before .before .if4 in
+    let if5 = c .before .before .if5 in
+    let read162 = c .before .read162 in
+    sym (front-fine (now (args .sheet)) (if1 .left) (alike .result) (alike .ensures) (if2 .taken) (if3 .left) (read16 .result) (read16 .ensures .0) (if4 .left) (if5 .left) (read162 .result) (read162 .ensures .0) (c .if6 .left))
 
 returns-7 : tie.Need-returns-7
-returns-7 c = sym (front-mark (now (c .before .before .before .before .before .before .args .sheet)) (c .before .before .before .before .if1 .left) (c .before .alike .result) (c .before .alike .ensures) (c .if2 .left))
+returns-7 c =
+    let args = c .before .before .before .before .before .before .args in
+    let if1 = c .before .before .before .before .if1 in
+    let alike = c .before .alike in
+    sym (front-mark (now (args .sheet)) (if1 .left) (alike .result) (alike .ensures) (c .if2 .left))
 
 pub front-fault-spec : {M : Type 1} → statement M
 front-fault-spec =

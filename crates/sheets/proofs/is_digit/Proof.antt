@@ -1,6 +1,4 @@
 -- `sheets::is_digit` meets its contract.
-use borrow.Author.Needs.{needs}
-use native.Mathlib.Omega.{arith}
 use borrow.Author.Tests.{lt-leb, le-leb}
 use Rattle.sheets.specs.Names.{digit}
 use Rattle.sheets.proofs.is_digit.Statement.{statement}

@@ -1,6 +1,4 @@
 -- `sheets::is_letter` meets its contract.
-use borrow.Author.Needs.{needs}
-use native.Mathlib.Omega.{arith}
 use borrow.Author.Tests.{lt-leb, le-leb}
 use Rattle.sheets.specs.Names.{letter}
 use Rattle.sheets.proofs.is_letter.Statement.{statement}

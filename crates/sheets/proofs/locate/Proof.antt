@@ -1,11 +1,10 @@
 -- `sheets::locate` meets its contract.
 use borrow.Author.Needs.{needs}
-use native.Mathlib.Omega.{arith}
-use Prim.Native.Nat.{ℕ, _+_, _-_, _*_, _≤_, _/_, _%_}
-use mathlib.Core.Path.{_≡_, refl, sym, ap, _∙_}
-use lib.ListN.{length, getD, take, drop}
+use Prim.Native.Nat.{ℕ}
+use mathlib.Core.Path.{sym, ap, _∙_}
+use lib.ListN.{drop}
 use denote.Ref.{now}
-use Rattle.sheets.specs.declared.Place.the-variants.{At, Refused}
+use Rattle.sheets.specs.declared.Place.the-variants.{Refused}
 use Rattle.sheets.specs.Calls.{placeFrom}
 use Rattle.sheets.proofs.Locating.{count-is, front-none, sheet-whole, place-bad-sheet, place-bad-name, place-walked}
 use Rattle.sheets.proofs.locate.Statement.{statement}
@@ -15,22 +14,45 @@ sheet-fault-requires : tie.Need-sheet-fault-requires
 sheet-fault-requires c κs = search needs
 
 returns : tie.Need-returns
-returns c = ap Refused (c .before .sheet-fault .ensures) ∙ place-bad-sheet (now (c .before .before .before .before .args .sheet)) (now (c .before .before .before .before .args .name)) (λ e. c .if1 .taken (c .before .sheet-fault .ensures ∙ e))
+returns c =
+    let args = c .before .before .before .before .args in
+    let sheet-fault = c .before .sheet-fault in
+    ap Refused (sheet-fault .ensures) ∙ place-bad-sheet (now (args .sheet)) (now (args .name)) (λ e. c .if1 .taken (sheet-fault .ensures ∙ e))
 
 well-named-requires : tie.Need-well-named-requires
 well-named-requires c κs = search needs
 
 read16-requires : tie.Need-read16-requires
-read16-requires c κs = front-none (now (c .before .before .before .before .before .before .args .sheet)) (sym (c .before .before .before .sheet-fault .ensures) ∙ c .before .before .if1 .left) .room
+read16-requires c κs =
+    let args = c .before .before .before .before .before .before .args in
+    let sheet-fault = c .before .before .before .sheet-fault in
+    let if1 = c .before .before .if1 in
+    front-none (now (args .sheet)) (sym (sheet-fault .ensures) ∙ if1 .left) .room
 
 find-requires : tie.Need-find-requires
-find-requires c κs = (front-none (now (c .before .before .before .before .before .before .before .args .sheet)) (sym (c .before .before .before .before .sheet-fault .ensures) ∙ c .before .before .before .if1 .left) .room, rw (count-is (now (c .before .before .before .before .before .before .before .args .sheet)) (c .read16 .result) (c .read16 .ensures .0)) (sheet-whole (now (c .before .before .before .before .before .before .before .args .sheet)) (sym (c .before .before .before .before .sheet-fault .ensures) ∙ c .before .before .before .if1 .left)))
+find-requires c κs =
+    let args = c .before .before .before .before .before .before .before .args in
+    let sheet-fault = c .before .before .before .before .sheet-fault in
+    let if1 = c .before .before .before .if1 in
+    (front-none (now (args .sheet)) (sym (sheet-fault .ensures) ∙ if1 .left) .room, rw (count-is (now (args .sheet)) (c .read16 .result) (c .read16 .ensures .0)) (sheet-whole (now (args .sheet)) (sym (sheet-fault .ensures) ∙ if1 .left)))
 
 returns-2 : tie.Need-returns-2
-returns-2 c = c .find .ensures ∙ ap (λ (k : ℕ). placeFrom (now (c .before .before .before .before .before .before .before .before .args .name)) 7 k (drop 7 (now (c .before .before .before .before .before .before .before .before .args .sheet)))) (count-is (now (c .before .before .before .before .before .before .before .before .args .sheet)) (c .before .read16 .result) (c .before .read16 .ensures .0)) ∙ place-walked (now (c .before .before .before .before .before .before .before .before .args .sheet)) (now (c .before .before .before .before .before .before .before .before .args .name)) (sym (c .before .before .before .before .before .sheet-fault .ensures) ∙ c .before .before .before .before .if1 .left) (sym (c .before .before .before .well-named .ensures) ∙ c .before .before .if2 .taken)
+returns-2 c =
+    let args = c .before .before .before .before .before .before .before .before .args in
+    let sheet-fault = c .before .before .before .before .before .sheet-fault in
+    let if1 = c .before .before .before .before .if1 in
+    let well-named = c .before .before .before .well-named in
+    let if2 = c .before .before .if2 in
+    let read16 = c .before .read16 in
+    c .find .ensures ∙ ap (λ (k : ℕ). placeFrom (now (args .name)) 7 k (drop 7 (now (args .sheet)))) (count-is (now (args .sheet)) (read16 .result) (read16 .ensures .0)) ∙ place-walked (now (args .sheet)) (now (args .name)) (sym (sheet-fault .ensures) ∙ if1 .left) (sym (well-named .ensures) ∙ if2 .taken)
 
 returns-3 : tie.Need-returns-3
-returns-3 c = place-bad-name (now (c .before .before .before .before .before .before .args .sheet)) (now (c .before .before .before .before .before .before .args .name)) (sym (c .before .before .before .sheet-fault .ensures) ∙ c .before .before .if1 .left) (sym (c .before .well-named .ensures) ∙ c .if2 .left)
+returns-3 c =
+    let args = c .before .before .before .before .before .before .args in
+    let sheet-fault = c .before .before .before .sheet-fault in
+    let if1 = c .before .before .if1 in
+    let well-named = c .before .well-named in
+    place-bad-name (now (args .sheet)) (now (args .name)) (sym (sheet-fault .ensures) ∙ if1 .left) (sym (well-named .ensures) ∙ c .if2 .left)
 
 pub locate-spec : {M : Type 1} → statement M
 locate-spec =

@@ -1,9 +1,7 @@
 -- `sheets::lookup` meets its contract.
 use borrow.Author.Needs.{needs}
 use native.Mathlib.Omega.{arith}
-use Prim.Native.Nat.{ℕ, _+_, _-_, _*_, _≤_, _/_, _%_}
-use mathlib.Core.Path.{_≡_, refl, sym, ap, _∙_}
-use lib.ListN.{length, getD, take, drop}
+use mathlib.Core.Path.{sym, ap, _∙_}
 use denote.Ref.{now}
 use Rattle.sheets.specs.Calls.{lookupOf, partAt}
 use Rattle.sheets.proofs.Locating.{place-within, part-is}
@@ -26,7 +24,11 @@ part-result-start : tie.Need-part-result-start
 part-result-start c = search needs
 
 part-result-end : tie.Need-part-result-end
-part-result-end c = place-within (now (c .before .before .before .before .before .before .args .sheet)) (now (c .before .before .before .before .before .before .args .name)) (c .before .start .given .0 .0) (c .before .start .given .0 .1 .0) (sym (c .before .before .before .locate .ensures) ∙ c .before .start .given .1) .1
+part-result-end c =
+    let args = c .before .before .before .before .before .before .args in
+    let locate = c .before .before .before .locate in
+    let start = c .before .start in
+    place-within (now (args .sheet)) (now (args .name)) (start .given .0 .0) (start .given .0 .1 .0) (sym (locate .ensures) ∙ start .given .1) .1
 
 enum-told : tie.Need-enum-told
 enum-told c = search needs
@@ -35,11 +37,19 @@ slice-aggregate-result : tie.Need-slice-aggregate-result
 slice-aggregate-result c = search needs
 
 returns : tie.Need-returns
-returns c = part-is (now (c .before .before .before .before .before .before .before .args .sheet)) (now (c .before .before .before .before .before .before .before .args .name)) (c .before .before .start .given .0 .0) (c .before .before .start .given .0 .1 .0) (sym (c .before .before .before .before .locate .ensures) ∙ c .before .before .start .given .1)
+returns c =
+    let args = c .before .before .before .before .before .before .before .args in
+    let locate = c .before .before .before .before .locate in
+    let start = c .before .before .start in
+    part-is (now (args .sheet)) (now (args .name)) (start .given .0 .0) (start .given .0 .1 .0) (sym (locate .ensures) ∙ start .given .1)
 
 returns-2 : tie.Need-returns-2
 unfolding lookupOf
-returns-2 c = sym (ap (partAt (now (c .before .before .before .before .before .before .args .sheet))) (sym (c .before .before .before .locate .ensures) ∙ c .before .enum-told .given .1))
+returns-2 c =
+    let args = c .before .before .before .before .before .before .args in
+    let locate = c .before .before .before .locate in
+    let enum-told = c .before .enum-told in
+    sym (ap (partAt (now (args .sheet))) (sym (locate .ensures) ∙ enum-told .given .1))
 
 pub lookup-spec : {M : Type 1} → statement M
 lookup-spec =

@@ -1,9 +1,6 @@
 -- `sheets::lookup_fault` meets its contract.
 use borrow.Author.Needs.{needs}
-use native.Mathlib.Omega.{arith}
-use Prim.Native.Nat.{ℕ, _+_, _-_, _*_, _≤_, _/_, _%_}
-use mathlib.Core.Path.{_≡_, refl, sym, ap, _∙_}
-use lib.ListN.{length, getD, take, drop}
+use mathlib.Core.Path.{sym, ap, _∙_}
 use denote.Ref.{now}
 use Rattle.sheets.proofs.Locating.{faultAt, place-fault}
 use Rattle.sheets.proofs.lookup_fault.Statement.{statement}
@@ -19,10 +16,17 @@ enum-known-fault : tie.Need-enum-known-fault
 enum-known-fault c = search needs
 
 returns : tie.Need-returns
-returns c = sym (ap faultAt (c .enum-told .given .1)) ∙ ap faultAt (c .before .before .locate .ensures) ∙ place-fault (now (c .before .before .before .before .before .args .sheet)) (now (c .before .before .before .before .before .args .name))
+returns c =
+    let args = c .before .before .before .before .before .args in
+    let locate = c .before .before .locate in
+    sym (ap faultAt (c .enum-told .given .1)) ∙ ap faultAt (locate .ensures) ∙ place-fault (now (args .sheet)) (now (args .name))
 
 returns-2 : tie.Need-returns-2
-returns-2 c = sym (ap faultAt (c .before .fault .given .1)) ∙ ap faultAt (c .before .before .before .locate .ensures) ∙ place-fault (now (c .before .before .before .before .before .before .args .sheet)) (now (c .before .before .before .before .before .before .args .name))
+returns-2 c =
+    let args = c .before .before .before .before .before .before .args in
+    let locate = c .before .before .before .locate in
+    let fault = c .before .fault in
+    sym (ap faultAt (fault .given .1)) ∙ ap faultAt (locate .ensures) ∙ place-fault (now (args .sheet)) (now (args .name))
 
 pub lookup-fault-spec : {M : Type 1} → statement M
 lookup-fault-spec =

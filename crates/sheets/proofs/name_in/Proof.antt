@@ -1,8 +1,6 @@
 -- `sheets::name_in` meets its contract.
 use borrow.Author.Needs.{needs}
-use native.Mathlib.Omega.{arith}
-use mathlib.Core.Path.{_≡_, sym, ap, _∙_}
-use lib.ListN.{length, take}
+use mathlib.Core.Path.{sym}
 use denote.Ref.{now}
 use lib.Seq.{length-take-le}
 use Rattle.sheets.proofs.Steps.{unpadded-within, take-unpadded}
@@ -13,7 +11,10 @@ name-len-requires : tie.Need-name-len-requires
 name-len-requires c κs = search needs
 
 slice-aggregate-result : tie.Need-slice-aggregate-result
-slice-aggregate-result c = sym (length-take-le (c .before .name-len .result) (now (c .before .before .before .args .field)) (rw (c .before .name-len .ensures) (unpadded-within (now (c .before .before .before .args .field)))))
+slice-aggregate-result c =
+    let args = c .before .before .before .args in
+    let name-len = c .before .name-len in
+    sym (length-take-le (name-len .result) (now (args .field)) (rw (name-len .ensures) (unpadded-within (now (args .field)))))
 
 returns : tie.Need-returns
 returns c = rw (c .before .name-len .ensures) (take-unpadded (now (c .before .before .before .args .field)))

@@ -1,10 +1,10 @@
 -- `sheets::name_len` meets its contract: the bytes passed and those of the name from there on are the whole.
 use borrow.Author.Needs.{needs}
 use native.Mathlib.Omega.{arith}
-use Prim.Native.Nat.{ℕ, _+_, _-_, _≤_}
+use Prim.Native.Nat.{_+_, _-_, _≤_}
 use denote.Ref.{now}
-use mathlib.Core.Path.{_≡_, refl, sym, ap, _∙_}
-use lib.ListN.{length, getD, drop}
+use mathlib.Core.Path.{_≡_}
+use lib.ListN.{length, drop}
 use Rattle.sheets.specs.Names.{unpadded}
 use Rattle.sheets.proofs.Steps.{unpadded-stop, unpadded-step, unpadded-end}
 use Rattle.sheets.proofs.name_len.Statement.{statement}

@@ -1,14 +1,13 @@
 -- `sheets::put` meets its contract: so far the first i bytes are written.
 use borrow.Author.Needs.{needs}
 use native.Mathlib.Omega.{arith}
-use Prim.Native.Nat.{ℕ, _+_, _-_, _*_, _≤_, _/_, _%_}
-use mathlib.Core.Path.{_≡_, refl, sym, ap, _∙_}
-use lib.ListN.{length, getD, take, drop, length-set}
+use Prim.Native.Nat.{ℕ, _-_, _≤_}
+use mathlib.Core.Path.{_≡_, refl, ap, _∙_}
+use lib.ListN.{length, length-set}
 use denote.Ref.{now}
 use native.Mathlib.Nat.{le-antisymm}
-use lib.Seq.{paste, paste-zero, length-paste}
-use Rattle.sheets.specs.Walk.{placed}
-use Rattle.sheets.proofs.Placing.{put-turn, placed-as-paste, length-placed}
+use lib.Seq.{paste, paste-zero}
+use Rattle.sheets.proofs.Placing.{put-turn, placed-as-paste}
 use Rattle.sheets.proofs.put.Statement.{statement}
 use Rattle.sheets.proofs.put.Tie as tie
 
@@ -43,7 +42,10 @@ same-length : tie.Need-same-length Inv-loop μ-loop
 same-length c = c .before .loop .inv .1
 
 returns : tie.Need-returns Inv-loop μ-loop
-returns c = c .before .loop .inv .2 ∙ ap (λ (k : ℕ). paste (now (c .before .before .args .out)) (c .before .before .args .at) (now (c .before .before .args .bytes)) k) (le-antisymm (c .before .loop .inv .0) (c .loop-test .left)) ∙ placed-as-paste (now (c .before .before .args .out)) (c .before .before .args .at) (now (c .before .before .args .bytes))
+returns c =
+    let args = c .before .before .args in
+    let loop = c .before .loop in
+    loop .inv .2 ∙ ap (λ (k : ℕ). paste (now (args .out)) (args .at) (now (args .bytes)) k) (le-antisymm (loop .inv .0) (c .loop-test .left)) ∙ placed-as-paste (now (args .out)) (args .at) (now (args .bytes))
 
 pub put-spec : {M : Type 1} → statement M
 put-spec =

@@ -1,9 +1,5 @@
 -- `sheets::put_signal` meets its contract.
 use borrow.Author.Needs.{needs}
-use native.Mathlib.Omega.{arith}
-use Prim.Native.Nat.{ℕ, _+_, _-_, _*_, _≤_, _/_, _%_}
-use mathlib.Core.Path.{_≡_, refl, sym, ap, _∙_}
-use lib.ListN.{length, getD, take, drop}
 use denote.Ref.{now}
 use Rattle.sheets.proofs.Filling.{signal-put}
 use Rattle.sheets.proofs.put_signal.Statement.{statement}
@@ -28,7 +24,13 @@ same-length : tie.Need-same-length
 same-length c = search needs
 
 returns : tie.Need-returns
-returns c = signal-put (now (c .before .before .before .before .before .before .before .before .before .before .before .before .before .before .before .args .out)) (c .before .before .before .before .before .before .before .before .before .before .put-name .last .0) (c .before .before .before .before .before .before .put16 .last .0) (c .before .before .put-words .last .0) (c .before .before .before .before .before .before .before .before .before .before .before .before .before .before .before .args .at) (now (c .before .before .before .before .before .before .before .before .before .before .before .before .before .before .before .args .name)) (now (c .before .before .before .before .before .before .before .before .before .before .before .before .before .before .before .args .list)) (c .before .before .before .before .before .before .before .before .before .before .before .before .before .before .before .pre .1) (c .before .before .before .before .before .before .before .before .before .before .before .before .before .before .before .pre .0) (c .before .before .before .before .before .before .before .before .before .before .put-name .ensures) (c .before .before .before .before .before .before .put16 .ensures) (c .before .before .put-words .ensures)
+returns c =
+    let args = c .before .before .before .before .before .before .before .before .before .before .before .before .before .before .before .args in
+    let pre = c .before .before .before .before .before .before .before .before .before .before .before .before .before .before .before .pre in
+    let put-name = c .before .before .before .before .before .before .before .before .before .before .put-name in
+    let put16 = c .before .before .before .before .before .before .put16 in
+    let put-words = c .before .before .put-words in
+    signal-put (now (args .out)) (put-name .last .0) (put16 .last .0) (put-words .last .0) (args .at) (now (args .name)) (now (args .list)) (pre .1) (pre .0) (put-name .ensures) (put16 .ensures) (put-words .ensures)
 
 pub put-signal-spec : {M : Type 1} → statement M
 put-signal-spec =

@@ -1,11 +1,10 @@
 -- `sheets::put_words` meets its contract: so far the first i words are written.
 use borrow.Author.Needs.{needs}
 use native.Mathlib.Omega.{arith}
-use Prim.Native.Nat.{ℕ, _+_, _-_, _*_, _≤_, _/_, _%_}
-use mathlib.Core.Path.{_≡_, refl, sym, ap, _∙_}
-use lib.ListN.{length, getD, take, drop}
+use Prim.Native.Nat.{_-_, _≤_}
+use mathlib.Core.Path.{_≡_, refl, _∙_}
+use lib.ListN.{length, take}
 use denote.Ref.{now}
-use native.Mathlib.Nat.{le-antisymm}
 use Rattle.sheets.specs.Bytes.{wordBytes}
 use Rattle.sheets.specs.Walk.{placed}
 use Rattle.sheets.proofs.Placing.{words-turn, words-all, words-none}
@@ -43,13 +42,23 @@ loop-less : tie.Need-loop-less Inv-loop μ-loop
 loop-less c = omega arith
 
 loop-again : tie.Need-loop-again Inv-loop μ-loop
-loop-again c = (omega arith, c .before .before .put32 .kept .0 ∙ c .before .before .before .before .before .before .loop .inv .1, words-turn (now (c .before .before .before .before .before .before .before .before .before .args .out)) (c .before .before .before .before .before .before .before .before .before .args .at) (now (c .before .before .before .before .before .before .before .before .before .args .list)) (c .before .before .before .before .before .before .before .before .before .pre) (c .before .before .before .before .before .before .loop .i) (c .before .before .before .before .before .before .loop .out) (c .before .before .put32 .last .0) (c .before .before .before .before .before .loop-test .taken) (c .before .before .before .before .before .before .loop .inv .2) (c .before .before .put32 .ensures))
+loop-again c =
+    let args = c .before .before .before .before .before .before .before .before .before .args in
+    let pre = c .before .before .before .before .before .before .before .before .before .pre in
+    let loop = c .before .before .before .before .before .before .loop in
+    let loop-test = c .before .before .before .before .before .loop-test in
+    let put32 = c .before .before .put32 in
+    (omega arith, put32 .kept .0 ∙ loop .inv .1, words-turn (now (args .out)) (args .at) (now (args .list)) (pre) (loop .i) (loop .out) (put32 .last .0) (loop-test .taken) (loop .inv .2) (put32 .ensures))
 
 same-length : tie.Need-same-length Inv-loop μ-loop
 same-length c = c .before .loop .inv .1
 
 returns : tie.Need-returns Inv-loop μ-loop
-returns c = words-all (now (c .before .before .before .before .args .out)) (c .before .before .before .before .args .at) (now (c .before .before .before .before .args .list)) (c .before .before .before .before .pre) (c .before .loop .i) (c .before .loop .out) (c .before .loop .inv .0) (c .loop-test .left) (c .before .loop .inv .2)
+returns c =
+    let args = c .before .before .before .before .args in
+    let pre = c .before .before .before .before .pre in
+    let loop = c .before .loop in
+    words-all (now (args .out)) (args .at) (now (args .list)) (pre) (loop .i) (loop .out) (loop .inv .0) (c .loop-test .left) (loop .inv .2)
 
 pub put-words-spec : {M : Type 1} → statement M
 put-words-spec =

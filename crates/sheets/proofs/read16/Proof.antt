@@ -1,9 +1,8 @@
 -- `sheets::read16` meets its contract.
 use borrow.Author.Needs.{needs}
 use native.Mathlib.Omega.{arith}
-use Prim.Native.Nat.{ℕ, _+_, _-_, _*_, _≤_, _/_, _%_}
-use mathlib.Core.Path.{_≡_, refl, sym, ap, _∙_}
-use lib.ListN.{length, getD, take, drop}
+use Prim.Native.Nat.{_+_}
+use mathlib.Core.Path.{sym}
 use denote.Ref.{now}
 use Rattle.sheets.proofs.Walking.{low16-at}
 use Rattle.sheets.proofs.read16.Statement.{statement}

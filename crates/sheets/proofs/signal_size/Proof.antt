@@ -1,9 +1,6 @@
 -- `sheets::signal_size` meets its contract.
 use borrow.Author.Needs.{needs}
-use native.Mathlib.Omega.{arith}
-use Prim.Native.Nat.{ℕ, _+_, _-_, _*_, _≤_, _/_, _%_}
-use mathlib.Core.Path.{_≡_, refl, sym, ap, _∙_}
-use lib.ListN.{length, getD, take, drop}
+use lib.ListN.{drop}
 use denote.Ref.{now}
 use Rattle.sheets.proofs.Walking.{size-at}
 use Rattle.sheets.proofs.signal_size.Statement.{statement}

@@ -1,10 +1,8 @@
 -- `sheets::well_named` meets its contract.
 use Rattle.sheets.proofs.Steps.{part-rest}
 use borrow.Author.Needs.{needs}
-use native.Mathlib.Omega.{arith}
-use mathlib.Core.Path.{_≡_, sym, ap, _∙_}
+use mathlib.Core.Path.{sym, _∙_}
 use denote.Ref.{now}
-use Rattle.sheets.specs.Names.{wellNamed}
 use Rattle.sheets.proofs.Steps.{named-empty, named-long, named-fits}
 use Rattle.sheets.proofs.well_named.Statement.{statement}
 use Rattle.sheets.proofs.well_named.Tie as tie
@@ -39,7 +37,11 @@ returns-3 c =
     ∙ rw (part-rest (now (c .before .before .before .before .before .before .before .before .args .name)) 1, named-fits (now (c .before .before .before .before .before .before .before .before .args .name)) (c .before .before .before .before .before .before .if1 .left) (search needs), ← c .before .before .before .is-letter .ensures, c .before .before .if3 .taken)
 
 returns-4 : tie.Need-returns-4
-returns-4 c = sym (rw (named-fits (now (c .before .before .before .before .before .before .args .name)) (c .before .before .before .before .if1 .left) (search needs), ← c .before .is-letter .ensures, c .if3 .left))
+returns-4 c =
+    let args = c .before .before .before .before .before .before .args in
+    let if1 = c .before .before .before .before .if1 in
+    let is-letter = c .before .is-letter in
+    sym (rw (named-fits (now (args .name)) (if1 .left) (search needs), ← is-letter .ensures, c .if3 .left))
 
 pub well-named-spec : {M : Type 1} → statement M
 well-named-spec =

@@ -1,9 +1,5 @@
 -- `sheets::word_count` meets its contract.
 use borrow.Author.Needs.{needs}
-use native.Mathlib.Omega.{arith}
-use Prim.Native.Nat.{ℕ, _+_, _-_, _*_, _≤_, _/_, _%_}
-use mathlib.Core.Path.{_≡_, refl, sym, ap, _∙_}
-use lib.ListN.{length, getD, take, drop}
 use denote.Ref.{now}
 use Rattle.sheets.proofs.Walking.{count-at}
 use Rattle.sheets.proofs.word_count.Statement.{statement}

@@ -2,13 +2,11 @@
 use Rattle.sheets.proofs.Walking.{words-cut, words-high, words-next, later-cut, later-date, later-same, later-next, later-end}
 use borrow.Author.Needs.{needs}
 use native.Mathlib.Omega.{arith}
-use Prim.Native.Nat.{ℕ, _+_, _-_, _*_, _≤_, _/_, _%_}
-use mathlib.Core.Path.{_≡_, refl, sym, ap, _∙_}
-use lib.ListN.{length, getD, take, drop}
+use Prim.Native.Nat.{_-_, _≤_}
+use mathlib.Core.Path.{_≡_, sym, _∙_}
+use lib.ListN.{length, drop}
 use denote.Ref.{now}
-use Rattle.sheets.specs.Bytes.{low32}
 use Rattle.sheets.specs.Reading.{sheetWordsFault, laterWordsFault}
-use Rattle.signals.specs.Words.{headValue}
 use Rattle.sheets.proofs.words_fault.Statement.{statement}
 use Rattle.sheets.proofs.words_fault.Tie as tie
 
@@ -28,7 +26,11 @@ read32-requires : tie.Need-read32-requires Inv-loop μ-loop
 read32-requires c κs = omega arith
 
 returns-2 : tie.Need-returns-2 Inv-loop μ-loop
-returns-2 c = sym (words-high (c .before .before .before .before .args .n) (now (c .before .before .before .before .args .s)) (c .before .before .before .before .args .from) (c .before .read32 .result) (c .before .read32 .ensures) (c .before .before .if1 .left) (c .if2 .taken))
+returns-2 c =
+    let args = c .before .before .before .before .args in
+    let if1 = c .before .before .if1 in
+    let read32 = c .before .read32 in
+    sym (words-high (args .n) (now (args .s)) (args .from) (read32 .result) (read32 .ensures) (if1 .left) (c .if2 .taken))
 
 add-at : tie.Need-add-at Inv-loop μ-loop
 add-at c = omega arith
@@ -40,19 +42,37 @@ sub-if3 : tie.Need-sub-if3 Inv-loop μ-loop
 sub-if3 c = search needs
 
 returns-3 : tie.Need-returns-3 Inv-loop μ-loop
-returns-3 c = sym (later-cut (c .before .before .loop .last) (c .before .before .loop .before) (c .before .before .before .before .before .before .before .args .n) (c .before .before .loop .i) (now (c .before .before .before .before .before .before .before .args .s)) (c .before .before .loop .at) (c .before .loop-test .taken) (c .if3 .taken)) ∙ c .before .before .loop .inv .2
+returns-3 c =
+    let args = c .before .before .before .before .before .before .before .args in
+    let loop = c .before .before .loop in
+    let loop-test = c .before .loop-test in
+    sym (later-cut (loop .last) (loop .before) (args .n) (loop .i) (now (args .s)) (loop .at) (loop-test .taken) (c .if3 .taken)) ∙ loop .inv .2
 
 read32-requires-2 : tie.Need-read32-requires-2 Inv-loop μ-loop
 read32-requires-2 c κs = omega arith
 
 returns-4 : tie.Need-returns-4 Inv-loop μ-loop
-returns-4 c = sym (later-date (c .before .before .before .before .loop .last) (c .before .before .before .before .loop .before) (c .before .before .before .before .before .before .before .before .before .args .n) (c .before .before .before .before .loop .i) (now (c .before .before .before .before .before .before .before .before .before .args .s)) (c .before .before .before .before .loop .at) (c .before .before .before .loop-test .taken) (c .before .read322 .result) (c .before .read322 .ensures) (c .before .before .if3 .left) (c .if4 .taken)) ∙ c .before .before .before .before .loop .inv .2
+returns-4 c =
+    let args = c .before .before .before .before .before .before .before .before .before .args in
+    let loop = c .before .before .before .before .loop in
+    let loop-test = c .before .before .before .loop-test in
+    let if3 = c .before .before .if3 in
+    let read322 = c .before .read322 in
+    sym (later-date (loop .last) (loop .before) (args .n) (loop .i) (now (args .s)) (loop .at) (loop-test .taken) (read322 .result) (read322 .ensures) (if3 .left) (c .if4 .taken)) ∙ loop .inv .2
 
 changes-nothing-requires : tie.Need-changes-nothing-requires Inv-loop μ-loop
 changes-nothing-requires c κs = tt
 
 returns-5 : tie.Need-returns-5 Inv-loop μ-loop
-returns-5 c = sym (later-same (c .before .before .before .before .before .before .loop .last) (c .before .before .before .before .before .before .loop .before) (c .before .before .before .before .before .before .before .before .before .before .before .args .n) (c .before .before .before .before .before .before .loop .i) (now (c .before .before .before .before .before .before .before .before .before .before .before .args .s)) (c .before .before .before .before .before .before .loop .at) (c .before .before .before .before .before .loop-test .taken) (c .before .before .before .read322 .result) (c .before .before .before .read322 .ensures) (c .before .before .before .before .if3 .left) (c .before .before .if4 .left) (sym (c .before .changes-nothing .ensures) ∙ c .if5 .taken)) ∙ c .before .before .before .before .before .before .loop .inv .2
+returns-5 c =
+    let args = c .before .before .before .before .before .before .before .before .before .before .before .args in
+    let loop = c .before .before .before .before .before .before .loop in
+    let loop-test = c .before .before .before .before .before .loop-test in
+    let if3 = c .before .before .before .before .if3 in
+    let read322 = c .before .before .before .read322 in
+    let if4 = c .before .before .if4 in
+    let changes-nothing = c .before .changes-nothing in
+    sym (later-same (loop .last) (loop .before) (args .n) (loop .i) (now (args .s)) (loop .at) (loop-test .taken) (read322 .result) (read322 .ensures) (if3 .left) (if4 .left) (sym (changes-nothing .ensures) ∙ c .if5 .taken)) ∙ loop .inv .2
 
 add-at-2 : tie.Need-add-at-2 Inv-loop μ-loop
 add-at-2 c = omega arith
@@ -64,10 +84,21 @@ loop-less : tie.Need-loop-less Inv-loop μ-loop
 loop-less c = omega arith
 
 loop-again : tie.Need-loop-again Inv-loop μ-loop
-loop-again c = (omega arith, omega arith, later-next (c .before .before .before .before .before .before .loop .last) (c .before .before .before .before .before .before .loop .before) (c .before .before .before .before .before .before .before .before .before .before .before .args .n) (c .before .before .before .before .before .before .loop .i) (now (c .before .before .before .before .before .before .before .before .before .before .before .args .s)) (c .before .before .before .before .before .before .loop .at) (c .before .before .before .before .before .loop-test .taken) (c .before .before .before .read322 .result) (c .before .before .before .read322 .ensures) (c .before .before .before .before .if3 .left) (c .before .before .if4 .left) (sym (c .before .changes-nothing .ensures) ∙ c .if5 .left) ∙ c .before .before .before .before .before .before .loop .inv .2)
+loop-again c =
+    let args = c .before .before .before .before .before .before .before .before .before .before .before .args in
+    let loop = c .before .before .before .before .before .before .loop in
+    let loop-test = c .before .before .before .before .before .loop-test in
+    let if3 = c .before .before .before .before .if3 in
+    let read322 = c .before .before .before .read322 in
+    let if4 = c .before .before .if4 in
+    let changes-nothing = c .before .changes-nothing in
+    (omega arith, omega arith, later-next (loop .last) (loop .before) (args .n) (loop .i) (now (args .s)) (loop .at) (loop-test .taken) (read322 .result) (read322 .ensures) (if3 .left) (if4 .left) (sym (changes-nothing .ensures) ∙ c .if5 .left) ∙ loop .inv .2)
 
 returns-6 : tie.Need-returns-6 Inv-loop μ-loop
-returns-6 c = sym (later-end _ _ (c .before .before .before .before .before .before .args .n) (c .before .loop .i) (drop (c .before .loop .at) (now (c .before .before .before .before .before .before .args .s))) (c .loop-test .left)) ∙ c .before .loop .inv .2
+returns-6 c =
+    let args = c .before .before .before .before .before .before .args in
+    let loop = c .before .loop in
+    sym (later-end _ _ (args .n) (loop .i) (drop (loop .at) (now (args .s))) (c .loop-test .left)) ∙ loop .inv .2
 
 pub words-fault-spec : {M : Type 1} → statement M
 words-fault-spec =

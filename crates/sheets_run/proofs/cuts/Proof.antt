@@ -1,10 +1,9 @@
 -- `sheets_run::cuts` ends.
 use lib.Seq.{length-take-le}
 use borrow.Author.Needs.{needs}
-use native.Mathlib.Omega.{arith}
-use Prim.Native.Nat.{ℕ, _+_, _-_, _*_, _≤_, _/_, _%_}
-use mathlib.Core.Path.{_≡_, refl, sym, ap, _∙_}
-use lib.ListN.{length, getD, take, drop}
+use Prim.Native.Nat.{_+_, _-_, _≤_}
+use mathlib.Core.Path.{sym}
+use lib.ListN.{length}
 use denote.Ref.{now}
 use Rattle.sheets_run.proofs.cuts.Statement.{statement}
 use Rattle.sheets_run.proofs.cuts.Tie as tie

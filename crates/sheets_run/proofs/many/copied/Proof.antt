@@ -1,10 +1,9 @@
 -- `sheets_run::many::copied` ends.
 use borrow.Author.Needs.{needs}
 use native.Mathlib.Omega.{arith}
-use Prim.Native.Nat.{ℕ, _+_, _-_, _*_, _≤_, _/_, _%_}
-use mathlib.Core.Path.{_≡_, refl, sym, ap, _∙_}
-use lib.ListN.{length, getD, take, drop}
-use denote.Ref.{now}
+use Prim.Native.Nat.{_-_, _≤_}
+use mathlib.Core.Path.{_≡_}
+use lib.ListN.{length}
 use lib.ListN.{length-set}
 use Rattle.sheets_run.proofs.many.copied.Statement.{statement}
 use Rattle.sheets_run.proofs.many.copied.Tie as tie
