@@ -9,7 +9,7 @@ ghost use Rattle.formulas.specs.Formula.{capped};
 ghost use Rattle.formulas.specs.Marks.{classOf, nextMark, badMark, movedMark, expectMark, lengthMark, putMark, putCode};
 
 // M + 1, which stands for every length above M.
-const TOO_LONG: usize = 1073741824;
+const TOO_LONG: usize = signals::M as usize + 1;
 
 // Whether all is well, the bytes passed, the parts put out, and the largest depth and length of a part.
 pub struct Mark {
