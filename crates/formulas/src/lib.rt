@@ -1,4 +1,5 @@
 // The formula reader: the fault of a formula, or its parts as code words in working-out order.
+pub mod kind;
 mod mark;
 mod reader;
 
