@@ -1,17 +1,22 @@
 -- Facts on bytes: tests joined by and, runs of bytes, and which bytes a lowercase letter or a digit is not.
-use Prim.Native.Nat.{ℕ, zero, suc, _+_, _*_, _-_, _≤_, _<_}
+use Prim.Native.Nat.{ℕ, zero, _≤_}
 use native.Mathlib.Omega.{arith}
-use mathlib.Core.Path.{_≡_, refl, sym, ap, _∙_}
-use mathlib.Core.Bool.{Bool, true, false, cond, not, _&&_, _||_}
+use mathlib.Core.Path.{_≡_, refl}
+use mathlib.Core.Bool.{Bool, true, false, cond, _&&_}
 use mathlib.Core.List.{List, [], _∷_, _++_}
-use lib.Dec.{leb, ltb, eqb}
-use lib.ListN.{length, getD, take, drop}
-use borrow.Author.Tests.{eqb-true, ne-eqb, leb-true, lt-leb}
-use Rattle.formulas.specs.Grammar.{isLower, isDigit, isNameByte, allOf}
+use lib.Dec.{leb, eqb}
+use lib.ListN.{length, getD}
+use borrow.Author.Tests.{ne-eqb, leb-true}
+use Rattle.formulas.specs.Grammar.{isLower, allOf}
 use Rattle.formulas.specs.Reader.{run, prefixKind}
 
 pub never : {A : Type 0} → _≡_ {A = Bool} false true → A
 never {A} e = absurd (let z : _≡_ {A = ℕ} 0 1 = cc in omega arith)
+
+-- of a choice, by the test
+pub by-cond : {A : Type 0} (P : A → Type 0) (b : Bool) {x y : A} → (b ≡ true → P x) → (b ≡ false → P y) → P (cond b x y)
+by-cond P true f g = f refl
+by-cond P false f g = g refl
 
 pub and-left : (a b : Bool) → a && b ≡ true → a ≡ true
 and-left true b e = refl

@@ -1,16 +1,15 @@
 -- The reader puts out one thing or another for a part and goes the same way: what one run puts out is carried to what the other does.
-use Prim.Native.Nat.{ℕ, zero, suc, _+_, _*_, _-_, _≤_, _<_, max}
-use native.Mathlib.Omega.{arith}
-use mathlib.Core.Path.{_≡_, refl, sym, ap, _∙_, subst}
-use mathlib.Core.Bool.{Bool, true, false, cond, not, _&&_, _||_}
-use mathlib.Core.List.{List, [], _∷_, _++_, map, map-append}
+use Prim.Native.Nat.{ℕ, zero, suc, _+_, _*_, _≤_, max}
+use mathlib.Core.Path.{_≡_, refl, ap, _∙_}
+use mathlib.Core.Bool.{Bool, true, false, cond, _||_}
+use mathlib.Core.List.{List, [], _∷_, map, map-append}
 use lib.Dec.{leb, ltb, eqb}
-use lib.ListN.{length, getD, take, drop}
+use lib.ListN.{length, getD, drop}
 use borrow.Author.Tests.{leb-true}
 use Rattle.formulas.specs.Grammar.{isLower, isDigit, isNameByte}
 use Rattle.formulas.specs.Reader.{State, Emission, run, next, bad, stepped, expect, put, passLength, valueBetween, prefixKind, leafAt, timed, sumAt, sumsAt, productAt, productsAt, factorAt, latchAt, timerAt, readText, start}
+use Rattle.formulas.proofs.Bytes.{by-cond}
 use Rattle.formulas.proofs.Standing.{state-eq}
-use Rattle.formulas.proofs.Sound.{by-cond}
 
 -- the kinds that are a part by themselves, and those of timers
 abbrev pub isPlain : ℕ → Bool

@@ -1,25 +1,25 @@
 -- Code words stand for the parts: the reader that puts out words and the one that puts out parts go the same way.
-use Prim.Native.Nat.{ℕ, zero, suc, _+_, _*_, _-_, _/_, _%_, _≤_, _<_, max, min}
+use Prim.Native.Nat.{ℕ, _+_, _*_, _/_, _%_, _≤_, _<_, min}
 use native.Mathlib.Nat.{mod-eq-of-lt}
 use native.Mathlib.Omega.{arith}
 use native.Mathlib.Decide.{decLt}
-use mathlib.Core.Path.{_≡_, refl, sym, ap, _∙_, subst}
-use mathlib.Core.Bool.{Bool, true, false, cond, not, _&&_, _||_}
+use mathlib.Core.Path.{_≡_, refl, sym, ap, _∙_}
+use mathlib.Core.Bool.{Bool, true, false, cond}
 use mathlib.Core.List.{List, [], _∷_, _++_, map, map-append}
 use mathlib.Core.Logic.{_⊎_, inl, inr, ⊎-elim}
-use lib.Dec.{leb, ltb, eqb}
-use lib.ListN.{length, getD, take, drop, List·getD-eq-default, List·getD-map}
-use borrow.Author.Tests.{eq-eqb, eqb-true, ne-eqb}
+use lib.Dec.{eqb}
+use lib.ListN.{length, length-map, List·getD-eq-default, List·getD-map}
+use borrow.Author.Tests.{eqb-true, ne-eqb}
 use Rattle.signals.specs.Moment.{M}
-use Rattle.formulas.specs.Tree.{Tree, Leaf, Unary, Binary, leaf, unary, binary, down, up, name, invert, rise, fall, ton, tof, and, or, sr, rs}
+use Rattle.formulas.specs.Tree.{Tree, Unary, leaf, unary, binary, down, up, name, invert, rise, fall, ton, tof, and, or, sr, rs}
 use Rattle.formulas.specs.Code.{Part, operand, one, two, code, longest, ticksOf}
 use Rattle.formulas.specs.Reader.{State, Emission, readText}
+use Rattle.formulas.specs.Formula.{accepted, formulaTree, plainPart, timedPart, nameAt, nameWord, timerWord, capped, spelled, coded, partOf, partsOf, codeOf}
+use Rattle.formulas.specs.Exactness.{CodeExact, AcceptedCode, Eleven, Twelve}
 use Rattle.formulas.specs.Grammar.{Sum}
-use Rattle.formulas.specs.Formula.{plainPart, timedPart, nameAt, nameWord, timerWord, capped, spelled, coded, partOf, partsOf, codeOf, longestOf}
-use Rattle.formulas.specs.Exactness.{CodeExact, Eight}
 use Rattle.formulas.proofs.Bytes.{never}
-use Rattle.formulas.proofs.Carried.{isPlain, isTimer, Carries, carried, text-carried}
-use Rattle.formulas.proofs.Reading.{parts-exact, in-longest, longest-in}
+use Rattle.formulas.proofs.Carried.{isPlain, isTimer, Carries, text-carried}
+use Rattle.formulas.proofs.Reading.{parts-exact, longest-in, faults-exact, derived-of, tree-of, accepted-of}
 
 -- parts with every length above M taken as M + 1
 abbrev cut : List ℕ → Emission Part
@@ -142,3 +142,26 @@ code-exact w t d x small = coded-run w .out ∙ ap (map cutPart) (parts-exact w 
     go : Dec (M < longest t) → longest t ≤ M
     go (yes h) = let l = longest-in M t h in absurd (small (t, d, l .0, x, l .1, l .2))
     go (no h) = omega (arith, h)
+
+-- words and parts are as many
+pub as-many : (w : List ℕ) → length (codeOf w) ≡ length (partsOf w)
+unfolding codeOf partsOf
+as-many w = sym (length-map (codeOf w) (partOf w)) ∙ ap length (coded-run w .out) ∙ length-map (partsOf w) cutPart
+
+few-words : (w : List ℕ) (t : Tree) (d : ℕ) → Sum w t d → (Twelve w → ⊥) → length (codeOf w) ≤ 32
+few-words w t d x h = go (decLt 32 (length (code t)))
+  where
+    go : Dec (32 < length (code t)) → length (codeOf w) ≤ 32
+    go (yes k) = absurd (h (t, d, x, inl k))
+    go (no k) = let p = ap length (parts-exact w t d x) in let q = as-many w in omega (arith, k)
+
+pub accepted-code : AcceptedCode
+accepted-code w e =
+    let none = faults-exact w .4 .0 e in
+    let g = derived-of w (go (accepted w) refl (none .1)) in
+    let t : formulaTree w ≡ g .0 = tree-of w (g .0) (g .1) (g .2) in
+    (code-exact w (g .0) (g .1) (g .2) (none .2) ∙ ap code (sym t), few-words w (g .0) (g .1) (g .2) (none .3))
+  where
+    go : (z : Bool) → accepted w ≡ z → (Eleven w → ⊥) → accepted w ≡ true
+    go true z h = z
+    go false z h = absurd (h (λ t d x. never (sym z ∙ accepted-of w t d x)))

@@ -1,21 +1,19 @@
 -- What the grammar derives, the reader reads: with the tree's parts, its depth and its longest length.
-use Prim.Native.Nat.{ℕ, zero, suc, _+_, _*_, _-_, _≤_, _<_, max}
-use native.Mathlib.Nat.{add-zero, add-assoc}
-use native.Mathlib.Numerals.{add-one, one-add}
+use Prim.Native.Nat.{ℕ, zero, suc, _+_, _*_, _-_, _≤_, max}
 use native.Mathlib.Omega.{arith}
-use mathlib.Core.Path.{_≡_, refl, sym, ap, _∙_, subst}
-use mathlib.Core.Bool.{Bool, true, false, cond, not, _&&_, _||_}
-use mathlib.Core.List.{List, [], _∷_, _++_, append-assoc, append-nil}
+use mathlib.Core.Path.{_≡_, refl, ap, _∙_}
+use mathlib.Core.Bool.{Bool, true, false, not, _&&_, _||_}
+use mathlib.Core.List.{List, [], _∷_, _++_, append-assoc}
 use lib.Dec.{leb, ltb, eqb, eqb·suc-zero}
-use lib.ListN.{length, getD, take, drop, length-append}
+use lib.ListN.{length, getD, length-append}
 use lib.Seq.{take-append-seam}
-use borrow.Author.Tests.{eq-eqb, eqb-true, ne-eqb, eqb-false, leb-true, leb-false, le-leb, lt-leb}
+use borrow.Author.Tests.{leb-true, le-leb}
 use Rattle.formulas.specs.Tree.{Tree, Unary, Binary, leaf, unary, binary, invert, rise, fall, ton, tof, and, or, sr, rs, name, down, up}
-use Rattle.formulas.specs.Code.{Part, code, longest, operand, one, two, ticksOf}
+use Rattle.formulas.specs.Code.{Part, code, longest, one, two, ticksOf}
 use Rattle.formulas.specs.Grammar.{Sum, Product, Factor, isLower, isDigit, isNameByte, allOf, isName, isLength, value}
-use Rattle.formulas.specs.Reader.{State, Emission, run, next, bad, stepped, expect, put, passLength, valueBetween, prefixKind, leafAt, timed, sumAt, sumsAt, productAt, productsAt, factorAt, latchAt, timerAt}
+use Rattle.formulas.specs.Reader.{State, stepped, put, passLength, valueBetween, prefixKind, leafAt, timed, sumAt, sumsAt, productAt, productsAt, factorAt, latchAt, timerAt}
 use Rattle.formulas.specs.Formula.{plainPart, timedPart, nameAt, spelled}
-use Rattle.formulas.proofs.Bytes.{never, and-left, and-right, run-all, NotLower, lower-not}
+use Rattle.formulas.proofs.Bytes.{never, and-left, and-right, run-all, lower-not}
 use Rattle.formulas.proofs.Standing.{state-eq, At, next-of, step-at, steps-at, expect-at, after, after-at}
 use Rattle.formulas.proofs.Steps.{joined, prefixed, bracketed, latched, clocked, two-letters, three-letters, regroup}
 

@@ -5,19 +5,18 @@ use native.Mathlib.Numerals.{add-one}
 use mathlib.Core.Path.{_≡_, refl, sym, ap, _∙_, subst}
 use mathlib.Core.Bool.{Bool, true, false, cond}
 use mathlib.Core.List.{List, [], _∷_, _++_}
-use lib.Dec.{leb, ltb, eqb}
-use lib.ListN.{length, getD, take, drop, set, length-set, length-drop}
+use lib.Dec.{eqb}
+use lib.ListN.{length, take, drop, set, length-set, length-drop}
 use lib.Seq.{take-suc-set}
 use borrow.Author.Tests.{eqb-true}
 use Rattle.formulas.specs.Grammar.{isDigit}
-use Rattle.formulas.specs.Reader.{State, run, next, bad, stepped, expect, put, passLength}
-use Rattle.formulas.specs.Marks.{viewOf, nextMark, badMark, movedMark, expectMark, lengthMark, putMark, putCode, Ready, Done}
+use Rattle.formulas.specs.Reader.{State, next, bad, stepped, expect, put, passLength}
+use Rattle.formulas.specs.Marks.{viewOf, nextMark, movedMark, expectMark, lengthMark, putMark, putCode, Ready, Done}
 use Rattle.formulas.specs.declared.mark.Mark.{Mark}
-use Rattle.formulas.proofs.Bytes.{never}
+use Rattle.formulas.proofs.Bytes.{by-cond, never}
 use Rattle.formulas.proofs.Standing.{state-eq}
-use Rattle.formulas.proofs.Sound.{by-cond}
 use Rattle.formulas.proofs.Carried.{both-ways}
-use Rattle.formulas.proofs.Marking.{Inside, inside, run-most}
+use Rattle.formulas.proofs.Marking.{inside, run-most}
 
 pub view-next : (text : List ℕ) (m : Mark) (code : List ℕ) → next text (viewOf m code) ≡ nextMark text m
 unfolding next nextMark

@@ -1,19 +1,19 @@
 -- The paths through `leaf`, over plain values.
-use Prim.Native.Nat.{ℕ, zero, suc, _+_, _*_, _-_, _≤_, _<_, max}
+use Prim.Native.Nat.{ℕ, zero, _+_, _≤_, _<_}
 use native.Mathlib.Omega.{arith}
 use mathlib.Core.Path.{_≡_, refl, sym, ap, _∙_, subst}
-use mathlib.Core.Bool.{Bool, true, false, cond, _||_}
-use mathlib.Core.List.{List, [], _∷_}
-use lib.Dec.{leb, ltb, eqb}
-use lib.ListN.{length, getD, take, drop, length-drop}
-use borrow.Author.Tests.{eq-eqb, ne-eqb, le-leb, lt-leb}
-use Rattle.formulas.specs.Grammar.{isLower, isDigit, isNameByte}
-use Rattle.formulas.specs.Reader.{State, run, next, bad, stepped, put, leafAt}
+use mathlib.Core.Bool.{true, false}
+use mathlib.Core.List.{List}
+use lib.Dec.{eqb}
+use lib.ListN.{length, getD, drop, length-drop}
+use borrow.Author.Tests.{le-leb, lt-leb}
+use Rattle.formulas.specs.Grammar.{isLower, isNameByte}
+use Rattle.formulas.specs.Reader.{State, run, bad, stepped, put, leafAt}
 use Rattle.formulas.specs.Formula.{coded, nameWord}
-use Rattle.formulas.specs.Marks.{viewOf, nextMark, badMark, movedMark, putMark, putCode, Ready, Done, LeafRead}
+use Rattle.formulas.specs.Marks.{viewOf, nextMark, badMark, movedMark, putMark, putCode, Ready, LeafRead}
 use Rattle.formulas.specs.declared.mark.Mark.{Mark}
-use Rattle.formulas.proofs.Bytes.{lower-low, NotLower, lower-not}
-use Rattle.formulas.proofs.Marking.{Inside, inside, run-on, run-most}
+use Rattle.formulas.proofs.Bytes.{lower-low, lower-not}
+use Rattle.formulas.proofs.Marking.{inside, run-on, run-most}
 use Rattle.formulas.proofs.Doing.{view-next, starting, moving-by, moving, putting, becoming, turned, roomy}
 
 module _ (text old : List ℕ) (m : Mark) (deep : ℕ) (g : Ready text old m deep) where

@@ -3,6 +3,9 @@ pub mod Standing
 pub mod Bytes
 pub mod Steps
 pub mod Complete
+pub mod Found
+pub mod FoundLeaves
+pub mod FoundBlocks
 pub mod Sound
 pub mod Working
 pub mod Reading

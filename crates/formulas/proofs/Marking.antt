@@ -1,13 +1,12 @@
 -- Facts on marks and runs of bytes that the proofs of the reader's steps cite.
-use Prim.Native.Nat.{ℕ, zero, suc, _+_, _*_, _-_, _≤_, _<_, max, min}
+use Prim.Native.Nat.{ℕ, suc, _+_, _*_, _-_, _≤_, _<_}
 use native.Mathlib.Omega.{arith}
 use native.Mathlib.Decide.{decLt}
 use native.Mathlib.Numerals.{add-one}
-use mathlib.Core.Path.{_≡_, refl, sym, ap, _∙_, subst}
+use mathlib.Core.Path.{_≡_, refl}
 use mathlib.Core.Bool.{Bool, true, false, cond}
-use mathlib.Core.List.{List, [], _∷_, _++_}
-use lib.Dec.{leb, ltb, eqb}
-use lib.ListN.{length, getD, take, drop, set, List·getD-eq-default, drop-of-length-le, length-drop}
+use mathlib.Core.List.{List, [], _∷_}
+use lib.ListN.{length, getD, take, drop, List·getD-eq-default, drop-of-length-le, length-drop}
 use lib.Seq.{drop-cons, take-suc, getD-drop}
 use Rattle.signals.specs.Moment.{M}
 use Rattle.formulas.specs.Grammar.{value, valueFrom}

@@ -1,18 +1,18 @@
 -- The paths through the readers that call each other, over plain values: each is put together from its steps.
-use Prim.Native.Nat.{ℕ, zero, suc, _+_, _*_, _-_, _≤_, _<_, max}
+use Prim.Native.Nat.{ℕ, zero, suc, _+_, _*_, _-_, _≤_, _<_}
 use native.Mathlib.Omega.{arith}
-use mathlib.Core.Path.{_≡_, refl, sym, ap, _∙_, subst}
-use mathlib.Core.Bool.{Bool, true, false, cond}
-use mathlib.Core.List.{List, [], _∷_}
-use lib.Dec.{leb, ltb, eqb}
-use lib.ListN.{length, getD, take, drop}
-use borrow.Author.Tests.{eq-eqb, ne-eqb, lt-ltb, le-ltb}
-use Rattle.formulas.specs.Reader.{State, next, stepped, expect, put, passLength, valueBetween, prefixKind, timed, leafAt, sumAt, sumsAt, productAt, productsAt, factorAt, latchAt, timerAt}
+use mathlib.Core.Path.{_≡_, refl, sym, ap, _∙_}
+use mathlib.Core.Bool.{true, false}
+use mathlib.Core.List.{List}
+use lib.Dec.{eqb}
+use lib.ListN.{length}
+use borrow.Author.Tests.{lt-ltb, le-ltb}
+use Rattle.formulas.specs.Reader.{State, next, stepped, expect, passLength, valueBetween, prefixKind, timed, sumAt, sumsAt, productAt, productsAt, factorAt, latchAt, timerAt}
 use Rattle.formulas.specs.Formula.{coded, capped, timerWord}
 use Rattle.formulas.specs.Marks.{viewOf, nextMark, movedMark, expectMark, lengthMark, putMark, putCode, Ready, Done, LeafRead, SumRead, SumsRead, ProductRead, ProductsRead, FactorRead, LatchRead, TimerRead}
 use Rattle.formulas.specs.declared.mark.Mark.{Mark}
-use Rattle.formulas.proofs.Marking.{Inside, inside}
-use Rattle.formulas.proofs.Doing.{view-next, view-expect, view-length, Expected, expected, Put, put-is, ready-on, ready-deeper, starting, turned, moving, expecting, passing, calling, roomy, putting, finishing, becoming}
+use Rattle.formulas.proofs.Marking.{inside}
+use Rattle.formulas.proofs.Doing.{view-next, expected, put-is, ready-on, ready-deeper, starting, turned, moving, expecting, passing, calling, roomy, putting, finishing}
 
 -- a byte with a prefix's kind is not 0
 pub prefix-above : (b kind : ℕ) → kind ≡ prefixKind b → 0 < kind → 0 < b

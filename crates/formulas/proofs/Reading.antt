@@ -1,22 +1,22 @@
 -- The reader accepts exactly the bytes that the grammar derives, with that tree and depth; each fault is given exactly when its sentence holds.
-use Prim.Native.Nat.{ℕ, zero, suc, _+_, _*_, _-_, _≤_, _<_, max}
+use Prim.Native.Nat.{ℕ, _+_, _*_, _≤_, _<_, max}
 use native.Mathlib.Omega.{arith}
 use mathlib.Core.Path.{_≡_, refl, sym, ap, _∙_, subst}
-use mathlib.Core.Bool.{Bool, true, false, cond, not, _&&_, _||_}
-use mathlib.Core.List.{List, [], _∷_, _++_, append-assoc, append-nil}
+use mathlib.Core.Bool.{Bool, true, false, cond, not, _||_}
+use mathlib.Core.List.{List, [], _∷_, _++_, append-nil}
 use mathlib.Core.Logic.{_⊎_, inl, inr, _↔_, ⊎-elim}
-use lib.Dec.{leb, ltb, eqb}
-use lib.ListN.{length, getD, take, drop, length-append}
-use borrow.Author.Tests.{eq-eqb, eqb-true, eqb-false, ltb-true, ltb-false, lt-ltb, le-ltb, not-true, not-false}
+use lib.Dec.{ltb, eqb}
+use lib.ListN.{length, length-append}
+use borrow.Author.Tests.{eq-eqb, eqb-true, eqb-false, ltb-true, ltb-false, not-true, not-false}
 use Rattle.signals.specs.Moment.{M}
-use Rattle.formulas.specs.Tree.{Tree, Unary, Binary, leaf, unary, binary, ton, tof, invert, rise, fall}
-use Rattle.formulas.specs.Code.{Part, code, longest, treeOf, ticksOf}
+use Rattle.formulas.specs.Tree.{Tree, Unary, leaf, unary, binary, ton, tof, invert, rise, fall}
+use Rattle.formulas.specs.Code.{Part, longest, treeOf, ticksOf}
 use Rattle.formulas.specs.Grammar.{Sum}
 use Rattle.formulas.specs.Reader.{State, start, readText, sumAt}
 use Rattle.formulas.specs.Formula.{spelled, accepted, formulaTree, depthOf, partsOf, longestOf, formulaFault}
-use Rattle.formulas.specs.Exactness.{ReaderExact, OneTree, PartsExact, LengthIn, of-ton, of-tof, under, first, second, Ten, Eleven, Eight, Twelve, FaultsExact}
-use Rattle.formulas.proofs.Bytes.{never, and-left, and-right, and-both}
-use Rattle.formulas.proofs.Standing.{At, after}
+use Rattle.formulas.specs.Exactness.{ReaderExact, OneTree, PartsExact, LengthIn, of-ton, of-tof, under, first, second, FaultsExact}
+use Rattle.formulas.proofs.Bytes.{never, and-left, and-right}
+use Rattle.formulas.proofs.Standing.{after}
 use Rattle.formulas.proofs.Complete.{whole, sum-reads, ended}
 use Rattle.formulas.proofs.Sound.{sum-found}
 use Rattle.formulas.proofs.Working.{tree-back}

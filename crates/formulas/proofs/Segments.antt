@@ -1,13 +1,13 @@
 -- A place in working-out order ends exactly one part; replacing that part is replacing its segment of the code.
-use Prim.Native.Nat.{ℕ, zero, suc, _+_, _-_, _≤_, _<_}
+use Prim.Native.Nat.{ℕ, suc, _+_, _-_, _≤_, _<_}
 use native.Mathlib.Omega.{arith}
 use native.Mathlib.Decide.{decLt}
-use mathlib.Core.Path.{_≡_, refl, sym, ap, _∙_, subst}
+use mathlib.Core.Path.{_≡_, refl, sym, ap, _∙_}
 use mathlib.Core.List.{List, [], _∷_, _++_, append-assoc, append-nil}
 use lib.ListN.{length, take, drop, length-append}
 use lib.Seq.{take-at, drop-at}
 use Rattle.formulas.specs.Tree.{Tree, Leaf, Unary, Binary, leaf, unary, binary}
-use Rattle.formulas.specs.Code.{Part, operand, one, two, code}
+use Rattle.formulas.specs.Code.{Part, one, two, code}
 use Rattle.formulas.specs.Places.{Around, whole, under, first, second, with-part, before, EndsAt, OnePartEnds, SegmentReplaced}
 
 -- the code before and after a part's own

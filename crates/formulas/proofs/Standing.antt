@@ -1,18 +1,15 @@
 -- Where a reader stands in a text: the next byte, a step, and what a reader makes of bytes that it has read.
-use Prim.Native.Nat.{ℕ, zero, suc, _+_, _*_, _≤_, _<_, max}
-use native.Mathlib.Nat.{add-zero, add-assoc}
-use native.Mathlib.Numerals.{add-one, one-add}
-use native.Mathlib.Omega.{arith}
-use mathlib.Core.Path.{_≡_, refl, sym, ap, _∙_, subst}
-use mathlib.Core.Bool.{Bool, true, false, cond}
-use mathlib.Core.List.{List, [], _∷_, _++_, append-assoc}
-use lib.Dec.{leb, ltb, eqb}
-use lib.ListN.{length, getD, take, drop, length-append, drop-of-length-le, List·getD-eq-default}
-use lib.Seq.{drop-drop, getD-drop, drop-append-seam, drop-cons}
-use borrow.Author.Tests.{eq-eqb, eqb-true}
+use Prim.Native.Nat.{ℕ, _+_, max}
+use native.Mathlib.Nat.{add-zero}
+use mathlib.Core.Path.{_≡_, refl, sym, ap, _∙_}
+use mathlib.Core.Bool.{true}
+use mathlib.Core.List.{List, _∷_, _++_}
+use lib.ListN.{length, getD, drop}
+use lib.Seq.{drop-drop, getD-drop, drop-append-seam}
+use borrow.Author.Tests.{eq-eqb}
 use Rattle.formulas.specs.Tree.{Tree}
 use Rattle.formulas.specs.Code.{Part, code, longest}
-use Rattle.formulas.specs.Reader.{State, next, bad, stepped, expect, put}
+use Rattle.formulas.specs.Reader.{State, next, stepped, expect}
 
 module _ {X : Type 0} where
   pub state-eq : {a b : State X} → a .ok ≡ b .ok → a .at ≡ b .at → a .out ≡ b .out → a .deepest ≡ b .deepest → a .longest ≡ b .longest → a ≡ b

@@ -1,11 +1,11 @@
 -- Each rule of the grammar as a step of states: what was read of the operands, put together, is what was read of the whole.
-use Prim.Native.Nat.{ℕ, zero, suc, _+_, _*_, _-_, _≤_, _<_, max}
+use Prim.Native.Nat.{ℕ, _+_, max}
 use native.Mathlib.Omega.{arith}
-use mathlib.Core.Path.{_≡_, refl, sym, ap, _∙_}
+use mathlib.Core.Path.{_≡_, refl, ap, _∙_}
 use mathlib.Core.List.{List, [], _∷_, _++_, append-assoc}
 use lib.ListN.{length, length-append}
-use Rattle.formulas.specs.Tree.{Tree, Unary, Binary, leaf, unary, binary}
-use Rattle.formulas.specs.Code.{Part, code, longest, operand, one, two, ticksOf}
+use Rattle.formulas.specs.Tree.{Tree, Unary, Binary, unary, binary}
+use Rattle.formulas.specs.Code.{Part, code, longest, one, two, ticksOf}
 use Rattle.formulas.specs.Reader.{State, stepped, put}
 use Rattle.formulas.specs.Formula.{plainPart, timedPart}
 use Rattle.formulas.proofs.Standing.{state-eq, after}

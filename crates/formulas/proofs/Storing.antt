@@ -1,6 +1,6 @@
 -- Storing a list's elements one after the other.
-use Prim.Native.Nat.{ℕ, zero, suc, _+_, _≤_, _<_}
-use native.Mathlib.Nat.{add-zero, add-suc, suc-add, zero-add}
+use Prim.Native.Nat.{ℕ, suc, _+_, _≤_, _<_}
+use native.Mathlib.Nat.{add-zero, zero-add}
 use native.Mathlib.Numerals.{add-one}
 use native.Mathlib.Omega.{arith}
 use mathlib.Core.Path.{_≡_, refl, sym, ap, _∙_}
@@ -10,7 +10,7 @@ use lib.Dec.{eqb}
 use lib.Seq.{sets, sets-eq, take-suc, length-take-le, length-sets}
 use borrow.Author.Tests.{eq-eqb}
 use Rattle.formulas.specs.Formula.{formulaFault, codeOf, codeAfter}
-use Rattle.formulas.proofs.Sound.{by-cond}
+use Rattle.formulas.proofs.Bytes.{by-cond}
 
 sets-more : (vs l : List ℕ) (i : ℕ) (w : ℕ) → sets l i (vs ++ (w ∷ [])) ≡ set (sets l i vs) (i + length vs) w
 sets-more [] l i w = rw (add-zero i) refl

@@ -1,24 +1,22 @@
 -- A text read from its first byte on, over plain values: the mark's fault is the formula's, and the words put out are its code words.
-use Prim.Native.Nat.{ℕ, zero, suc, _+_, _*_, _-_, _≤_, _<_, max}
+use Prim.Native.Nat.{ℕ, _+_, _*_, _≤_, _<_}
 use native.Mathlib.Omega.{arith}
 use native.Mathlib.Decide.{decLt}
-use mathlib.Core.Path.{_≡_, refl, sym, ap, _∙_, subst}
+use mathlib.Core.Path.{_≡_, refl, sym, ap, _∙_}
 use mathlib.Core.Bool.{Bool, true, false, cond, not, _&&_, _||_}
-use mathlib.Core.List.{List, [], _∷_, map}
-use lib.Dec.{leb, ltb, eqb}
+use mathlib.Core.List.{List}
+use lib.Dec.{ltb, eqb}
 use lib.ListN.{length, take, length-map}
 use lib.Seq.{length-take-le, sets}
 use borrow.Author.Tests.{eq-eqb, ne-eqb, lt-ltb, le-ltb}
 use Rattle.signals.specs.Moment.{M}
 use Rattle.signals.specs.Answers.{writtenOf}
-use Rattle.signals.specs.declared.Written.{Written}
 use Rattle.signals.specs.declared.Written.the-variants as written
-use Rattle.formulas.specs.Code.{Part}
-use Rattle.formulas.specs.Reader.{State, readText, sumAt}
+use Rattle.formulas.specs.Reader.{State, readText}
 use Rattle.formulas.specs.Formula.{spelled, coded, capped, partOf, accepted, partsOf, depthOf, longestOf, formulaFault, codeOf, codeAfter}
-use Rattle.formulas.specs.Marks.{viewOf, Ready, Done, SumRead, markFault}
+use Rattle.formulas.specs.Marks.{viewOf, Ready, SumRead, markFault}
 use Rattle.formulas.specs.declared.mark.Mark.{Mark}
-use Rattle.formulas.proofs.Coding.{CodedRun, coded-run, cutPart}
+use Rattle.formulas.proofs.Coding.{coded-run, cutPart}
 
 abbrev pub first : Mark
 first = record { ok = true; at = 0; parts = 0; deepest = 0; longest = 0 }

@@ -1,15 +1,15 @@
 -- Statements on the grammar and its reader, and the sentences of faults 10, 11, 8 and 12 through the grammar.
-use Prim.Native.Nat.{ℕ, _+_, _≤_, _<_}
+use Prim.Native.Nat.{_≤_, ℕ, _<_}
 use mathlib.Core.Path.{_≡_}
-use mathlib.Core.Bool.{Bool, true, false}
-use mathlib.Core.List.{List, [], _∷_, _++_, map}
+use mathlib.Core.Bool.{true}
+use mathlib.Core.List.{List, map}
 use mathlib.Core.Logic.{_⊎_, _↔_}
 use lib.ListN.{length}
 use Rattle.signals.specs.Moment.{M}
 use Rattle.formulas.specs.Tree.{Tree, Leaf, Unary, Binary, leaf, unary, binary, name, down, up, ton, tof}
-use Rattle.formulas.specs.Code.{Part, code, longest}
+use Rattle.formulas.specs.Code.{code}
 use Rattle.formulas.specs.Grammar.{Sum, isName}
-use Rattle.formulas.specs.Formula.{accepted, formulaTree, depthOf, partsOf, longestOf, formulaFault, partOf, codeOf}
+use Rattle.formulas.specs.Formula.{accepted, formulaTree, depthOf, partsOf, formulaFault, partOf, codeOf}
 
 -- The reader accepts exactly the bytes that the grammar derives, with that tree and depth.
 abbrev pub ReaderExact : Type 0
@@ -75,3 +75,7 @@ FaultsExact =
 -- The code words of an accepted formula without a length above M stand for its tree's parts in working-out order.
 abbrev pub CodeExact : Type 0
 CodeExact = (w : List ℕ) (t : Tree) (d : ℕ) → Sum w t d → (Eight w → ⊥) → map (partOf w) (codeOf w) ≡ code t
+
+-- The code words of a formula without a fault, at most 32, stand for its tree's parts in working-out order.
+abbrev pub AcceptedCode : Type 0
+AcceptedCode = (w : List ℕ) → formulaFault w ≡ 0 → (map (partOf w) (codeOf w) ≡ code (formulaTree w)) × (length (codeOf w) ≤ 32)

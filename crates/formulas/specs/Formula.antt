@@ -1,14 +1,14 @@
 -- What a formula's bytes are: its tree, parts and depth, its fault, and the code words that the reader gives.
-use Prim.Native.Nat.{ℕ, zero, suc, _+_, _*_, _/_, _%_, min}
-use mathlib.Core.Bool.{Bool, true, false, cond, not, _&&_, _||_}
+use Prim.Native.Nat.{ℕ, _+_, _*_, _/_, _%_, min}
+use mathlib.Core.Bool.{Bool, cond, not, _&&_, _||_}
 use mathlib.Core.List.{List, [], _∷_}
-use lib.Dec.{leb, ltb, eqb}
+use lib.Dec.{ltb, eqb}
 use lib.ListN.{length, getD, take, drop}
 use lib.Seq.{sets}
 use Rattle.signals.specs.Moment.{M}
-use Rattle.formulas.specs.Tree.{Tree, Leaf, Unary, Binary, down, up, name, invert, rise, fall, ton, tof, and, or, sr, rs}
+use Rattle.formulas.specs.Tree.{Tree, down, up, name, invert, rise, fall, ton, tof, and, or, sr, rs}
 use Rattle.formulas.specs.Code.{Part, operand, one, two, treeOf}
-use Rattle.formulas.specs.Reader.{State, Emission, readText}
+use Rattle.formulas.specs.Reader.{Emission, readText}
 
 -- the kinds of parts: 0 and 1 the constants, 2 a name, 3 !, 4 ^, 5 ~, 6 TON, 7 TOF, 8 ., 9 +, 10 SR, 11 RS
 abbrev pub plainPart : ℕ → Part

@@ -5,7 +5,7 @@ use mathlib.Core.Bool.{Bool, true, false, not, _&&_, _||_}
 use mathlib.Core.List.{List, [], _∷_, _++_}
 use lib.Dec.{leb, eqb}
 use lib.ListN.{length}
-use Rattle.formulas.specs.Tree.{Tree, Leaf, Unary, Binary}
+use Rattle.formulas.specs.Tree.{Tree}
 use Rattle.formulas.specs.Tree as tree
 
 -- lowercase letters, digits

@@ -1,12 +1,12 @@
 -- The reader's steps on marks, as its private contracts cite them. Not to be believed: proved equal to the steps on states.
-use Prim.Native.Nat.{ℕ, zero, suc, _+_, _*_, _-_, _≤_, _<_, max}
+use Prim.Native.Nat.{ℕ, _+_, _*_, _-_, _≤_, max}
 use mathlib.Core.Path.{_≡_}
-use mathlib.Core.Bool.{Bool, true, false, cond, _||_}
-use mathlib.Core.List.{List, [], _∷_}
-use lib.Dec.{leb, ltb, eqb}
+use mathlib.Core.Bool.{Bool, true, false, cond}
+use mathlib.Core.List.{List}
+use lib.Dec.{ltb, eqb}
 use lib.ListN.{length, getD, take, drop, set}
 use Rattle.signals.specs.Moment.{M}
-use Rattle.formulas.specs.Grammar.{isLower, isDigit, isNameByte}
+use Rattle.formulas.specs.Grammar.{isDigit, isNameByte}
 use Rattle.formulas.specs.Formula.{coded}
 use Rattle.formulas.specs.Reader.{State, run, leafAt, sumAt, sumsAt, productAt, productsAt, factorAt, latchAt, timerAt}
 use Rattle.formulas.specs.declared.mark.Mark.{Mark}

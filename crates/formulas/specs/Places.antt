@@ -1,10 +1,10 @@
 -- Statements on places: a place in working-out order ends exactly one part, and replacing that part is replacing its segment of the code.
-use Prim.Native.Nat.{ℕ, zero, suc, _+_, _-_, _<_}
+use Prim.Native.Nat.{ℕ, suc, _+_, _<_}
 use mathlib.Core.Path.{_≡_}
-use mathlib.Core.List.{List, [], _∷_, _++_}
+use mathlib.Core.List.{_++_}
 use lib.ListN.{length, take, drop}
-use Rattle.formulas.specs.Tree.{Tree, Unary, Binary, leaf, unary, binary}
-use Rattle.formulas.specs.Code.{Part, code}
+use Rattle.formulas.specs.Tree.{Tree, Unary, Binary, unary, binary}
+use Rattle.formulas.specs.Code.{code}
 
 -- The code of a tree in working-out order determines the tree.
 abbrev pub CodeDetermines : Type 0

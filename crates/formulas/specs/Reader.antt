@@ -1,5 +1,5 @@
 -- A reader that computes: sum, product and factor readers by fuel. Not to be believed: proved to accept exactly what the grammar derives.
-use Prim.Native.Nat.{ℕ, zero, suc, _+_, _*_, _-_, max, min}
+use Prim.Native.Nat.{ℕ, zero, suc, _+_, _*_, _-_, max}
 use mathlib.Core.Bool.{Bool, true, false, cond}
 use mathlib.Core.List.{List, [], _∷_, _++_}
 use lib.Dec.{leb, ltb, eqb}

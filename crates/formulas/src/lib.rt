@@ -1,4 +1,5 @@
 // The formula reader: the fault of a formula, or its parts as code words in working-out order.
+pub mod kind;
 mod mark;
 mod reader;
 
@@ -20,7 +21,7 @@ const PARTS: usize = 32;
 const DEPTH: usize = 16;
 
 // M, the largest length.
-const LONGEST: usize = 1073741823;
+const LONGEST: usize = signals::M as usize;
 
 // The fault of a text of so many bytes that was read up to the mark: 11, 8, 12, 0 for none.
 fn fault_of(m: Mark, bytes: usize) -> u32

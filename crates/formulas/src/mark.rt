@@ -7,9 +7,10 @@ ghost use Rattle.formulas.specs.Grammar.{isLower, isDigit};
 ghost use Rattle.formulas.specs.Reader.{run, prefixKind, valueBetween};
 ghost use Rattle.formulas.specs.Formula.{capped};
 ghost use Rattle.formulas.specs.Marks.{classOf, nextMark, badMark, movedMark, expectMark, lengthMark, putMark, putCode};
+use crate::kind;
 
 // M + 1, which stands for every length above M.
-const TOO_LONG: usize = 1073741824;
+const TOO_LONG: usize = signals::M as usize + 1;
 
 // Whether all is well, the bytes passed, the parts put out, and the largest depth and length of a part.
 pub struct Mark {
@@ -29,19 +30,19 @@ pub fn larger(a: usize, b: usize) -> usize
 pub fn is_lower(b: u8) -> bool
     ensures { λ r. ⌜ r ≡ isLower b ⌝ }
 {
-    if b < 97 {
+    if b < b'a' {
         return false;
     }
-    b <= 122
+    b <= b'z'
 }
 
 pub fn is_digit(b: u8) -> bool
     ensures { λ r. ⌜ r ≡ isDigit b ⌝ }
 {
-    if b < 48 {
+    if b < b'0' {
         return false;
     }
-    b <= 57
+    b <= b'9'
 }
 
 // A byte of a name, or of a length.
@@ -76,7 +77,7 @@ pub fn run_end(text: &[u8], at: usize, letters: bool) -> usize
 fn digit(b: u8) -> usize
     ensures { λ r. ⌜ r ≡ b - 48 ⌝ }
 {
-    if b < 48 { 0 } else { (b - 48) as usize }
+    if b < b'0' { 0 } else { (b - b'0') as usize }
 }
 
 // The number that the bytes from `from` up to `to` write, M + 1 for every one above M.
@@ -150,7 +151,7 @@ pub fn pass_length(text: &[u8], m: Mark) -> Mark
 {
     let at = m.at;
     let b = next(text, m);
-    if b == 48 {
+    if b == b'0' {
         return moved(m, at + 1);
     }
     if is_digit(b) {
@@ -182,14 +183,14 @@ pub fn put(code: &mut [u64; 1024], m: Mark, word: u64, deep: usize, ticks: usize
 pub fn prefix_kind(b: u8) -> u64
     ensures { λ r. ⌜ r ≡ prefixKind b ⌝ }
 {
-    if b == 33 {
-        return 3;
+    if b == b'!' {
+        return kind::NOT;
     }
-    if b == 94 {
-        return 4;
+    if b == b'^' {
+        return kind::RISING;
     }
-    if b == 126 {
-        return 5;
+    if b == b'~' {
+        return kind::FALLING;
     }
     0
 }

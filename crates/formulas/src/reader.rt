@@ -2,6 +2,7 @@
 ghost use mathlib.Core.Path.{_≡_};
 ghost use Prim.Native.Nat.{_+_, _<_};
 ghost use Rattle.formulas.specs.Marks.{Ready, LeafRead, SumRead, SumsRead, ProductRead, ProductsRead, FactorRead, LatchRead, TimerRead};
+use crate::kind;
 use crate::mark::Mark;
 use crate::mark::bad;
 use crate::mark::expect;
@@ -21,17 +22,17 @@ fn leaf(text: &[u8], code: &mut [u64; 1024], m: Mark, deep: usize) -> Mark
 {
     let at = m.at;
     let b = next(text, m);
-    if b == 48 {
-        return put(code, moved(m, at + 1), 0, deep, 0);
+    if b == b'0' {
+        return put(code, moved(m, at + 1), kind::DOWN, deep, 0);
     }
-    if b == 49 {
-        return put(code, moved(m, at + 1), 1, deep, 0);
+    if b == b'1' {
+        return put(code, moved(m, at + 1), kind::UP, deep, 0);
     }
     if is_lower(b) {
         let end = run_end(text, at, true);
         let count = end - at;
         if count <= 8 {
-            let word = (at as u64 * 16 + count as u64) * 16 + 2;
+            let word = (at as u64 * 16 + count as u64) * 16 + kind::NAME;
             return put(code, moved(m, end), word, deep, 0);
         }
         return bad(m);
@@ -53,10 +54,10 @@ fn sums(text: &[u8], code: &mut [u64; 1024], m: Mark, deep: usize) -> Mark
     requires { ⌜ Ready (now text) (now code) m deep ⌝ }
     ensures { λ r. ⌜ SumsRead (now (text .entry)) deep m (now (code .entry)) (now (code .exit)) r ⌝ }
 {
-    if next(text, m) == 43 {
+    if next(text, m) == b'+' {
         let at = m.at;
         let operand = product(text, code, moved(m, at + 1), deep);
-        let both = put(code, operand, 9, deep, 0);
+        let both = put(code, operand, kind::OR, deep, 0);
         return sums(text, code, both, deep);
     }
     m
@@ -76,10 +77,10 @@ fn products(text: &[u8], code: &mut [u64; 1024], m: Mark, deep: usize) -> Mark
     requires { ⌜ Ready (now text) (now code) m deep ⌝ }
     ensures { λ r. ⌜ ProductsRead (now (text .entry)) deep m (now (code .entry)) (now (code .exit)) r ⌝ }
 {
-    if next(text, m) == 46 {
+    if next(text, m) == b'.' {
         let at = m.at;
         let operand = factor(text, code, moved(m, at + 1), deep);
-        let both = put(code, operand, 8, deep, 0);
+        let both = put(code, operand, kind::AND, deep, 0);
         return products(text, code, both, deep);
     }
     m
@@ -97,53 +98,53 @@ fn factor(text: &[u8], code: &mut [u64; 1024], m: Mark, deep: usize) -> Mark
         let operand = factor(text, code, moved(m, at + 1), deep + 1);
         return put(code, operand, prefix, deep, 0);
     }
-    if b == 40 {
+    if b == b'(' {
         let inner = sum(text, code, moved(m, at + 1), deep + 1);
-        return expect(text, inner, 41);
+        return expect(text, inner, b')');
     }
-    if b == 83 {
-        let named = expect(text, moved(m, at + 1), 82);
-        return latch(text, code, named, 10, deep);
+    if b == b'S' {
+        let named = expect(text, moved(m, at + 1), b'R');
+        return latch(text, code, named, kind::SR, deep);
     }
-    if b == 82 {
-        let named = expect(text, moved(m, at + 1), 83);
-        return latch(text, code, named, 11, deep);
+    if b == b'R' {
+        let named = expect(text, moved(m, at + 1), b'S');
+        return latch(text, code, named, kind::RS, deep);
     }
-    if b == 84 {
-        let letters = expect(text, moved(m, at + 1), 79);
-        if next(text, letters) == 78 {
+    if b == b'T' {
+        let letters = expect(text, moved(m, at + 1), b'O');
+        if next(text, letters) == b'N' {
             let end = letters.at;
-            return timer(text, code, moved(letters, end + 1), 6, deep);
+            return timer(text, code, moved(letters, end + 1), kind::TON, deep);
         }
-        let named = expect(text, letters, 70);
-        return timer(text, code, named, 7, deep);
+        let named = expect(text, letters, b'F');
+        return timer(text, code, named, kind::TOF, deep);
     }
     leaf(text, code, m, deep)
 }
 
 // (sum,sum), after SR or RS
-fn latch(text: &[u8], code: &mut [u64; 1024], m: Mark, kind: u64, deep: usize) -> Mark
+fn latch(text: &[u8], code: &mut [u64; 1024], m: Mark, part: u64, deep: usize) -> Mark
     requires { ⌜ Ready (now text) (now code) m (deep + 1) ⌝ }
-    ensures { λ r. ⌜ LatchRead (now (text .entry)) kind deep m (now (code .entry)) (now (code .exit)) r ⌝ }
+    ensures { λ r. ⌜ LatchRead (now (text .entry)) part deep m (now (code .entry)) (now (code .exit)) r ⌝ }
 {
-    let first = sum(text, code, expect(text, m, 40), deep + 1);
-    let second = sum(text, code, expect(text, first, 44), deep + 1);
-    put(code, expect(text, second, 41), kind, deep, 0)
+    let first = sum(text, code, expect(text, m, b'('), deep + 1);
+    let second = sum(text, code, expect(text, first, b','), deep + 1);
+    put(code, expect(text, second, b')'), part, deep, 0)
 }
 
 // (length,sum), after TON or TOF
-fn timer(text: &[u8], code: &mut [u64; 1024], m: Mark, kind: u64, deep: usize) -> Mark
-    requires { ⌜ (Ready (now text) (now code) m (deep + 1)) × (kind < 16) ⌝ }
-    ensures { λ r. ⌜ TimerRead (now (text .entry)) kind deep m (now (code .entry)) (now (code .exit)) r ⌝ }
+fn timer(text: &[u8], code: &mut [u64; 1024], m: Mark, part: u64, deep: usize) -> Mark
+    requires { ⌜ (Ready (now text) (now code) m (deep + 1)) × (part < 16) ⌝ }
+    ensures { λ r. ⌜ TimerRead (now (text .entry)) part deep m (now (code .entry)) (now (code .exit)) r ⌝ }
 {
-    let opened = expect(text, m, 40);
+    let opened = expect(text, m, b'(');
     let passed = pass_length(text, opened);
     let n = ticks(text, opened.at, passed.at);
-    let operand = sum(text, code, expect(text, passed, 44), deep + 1);
+    let operand = sum(text, code, expect(text, passed, b','), deep + 1);
     put(
         code,
-        expect(text, operand, 41),
-        n as u64 * 16 + kind,
+        expect(text, operand, b')'),
+        n as u64 * 16 + part,
         deep,
         n,
     )

@@ -1,8 +1,8 @@
 -- `formulas::copy` meets its contract. The loop's invariant: the first `i` words are stored over the old ones. The measure is what is left to copy.
-use Prim.Native.Nat.{ℕ, _+_, _-_, _≤_}
+use Prim.Native.Nat.{ℕ, _-_, _≤_}
 use native.Mathlib.Omega.{arith}
-use mathlib.Core.Path.{_≡_, refl, sym, ap, _∙_}
-use lib.ListN.{length, take, drop, getD}
+use mathlib.Core.Path.{_≡_, refl, ap, _∙_}
+use lib.ListN.{take}
 use lib.Seq.{sets}
 use Rattle.formulas.proofs.Storing.{sets-next}
 use Rattle.formulas.proofs.copy.Statement.{statement}

@@ -1,5 +1,4 @@
 -- `formulas::fault_of` meets its contract: at each `return` the tests that led there say which case holds.
-use mathlib.Core.Path.{refl}
 use borrow.Author.Tests.{lt-ltb, le-ltb}
 use Rattle.formulas.specs.Marks.{markFault}
 use Rattle.formulas.proofs.fault_of.Statement.{statement}

@@ -1,10 +1,10 @@
 -- `formulas::read` meets its contract: each path is one of `WholeRead`.
 use borrow.Author.Needs.{needs}
 use native.Mathlib.Omega.{arith}
-use mathlib.Core.Path.{_≡_, refl, sym, ap, _∙_}
-use lib.ListN.{length, take, length-replicate}
+use mathlib.Core.Path.{sym, ap, _∙_}
+use lib.ListN.{length}
 use lib.Seq.{sets}
-use Rattle.formulas.proofs.WholeRead.{ready-first, empty-is, long-is, refused-is, written-is, few-words, few-parts, words-are, words-length, fault-is}
+use Rattle.formulas.proofs.WholeRead.{empty-is, long-is, refused-is, written-is, few-words, few-parts, words-are, words-length, fault-is}
 use Rattle.formulas.proofs.read.Statement.{statement}
 use Rattle.formulas.proofs.read.Tie as tie
 use Rattle.formulas.proofs.read.Reads as reads

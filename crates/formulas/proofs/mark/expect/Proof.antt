@@ -2,7 +2,7 @@
 use borrow.Author.Needs.{needs}
 use borrow.Author.Tests.{eq-eqb, ne-eqb}
 use native.Mathlib.Omega.{arith}
-use mathlib.Core.Path.{refl, sym, _∙_}
+use mathlib.Core.Path.{sym, _∙_}
 use Rattle.formulas.specs.Marks.{nextMark, expectMark}
 use Rattle.formulas.proofs.Marking.{inside}
 use Rattle.formulas.proofs.mark.expect.Statement.{statement}

@@ -1,8 +1,7 @@
 -- `formulas::mark::pass_length` meets its contract.
 use borrow.Author.Needs.{needs}
 use borrow.Author.Tests.{eq-eqb, ne-eqb}
-use Prim.Native.Nat.{ℕ, _+_}
-use mathlib.Core.Path.{_≡_, refl, sym, ap, _∙_}
+use mathlib.Core.Path.{_≡_, sym, ap, _∙_}
 use mathlib.Core.Bool.{true, false}
 use Rattle.formulas.specs.Grammar.{isDigit}
 use Rattle.formulas.specs.Marks.{nextMark, movedMark, lengthMark}

@@ -1,5 +1,4 @@
 -- `formulas::mark::prefix_kind` meets its contract.
-use mathlib.Core.Path.{refl}
 use borrow.Author.Tests.{eq-eqb, ne-eqb}
 use Rattle.formulas.specs.Reader.{prefixKind}
 use Rattle.formulas.proofs.mark.prefix_kind.Statement.{statement}

@@ -1,7 +1,7 @@
 -- `formulas::mark::put` meets its contract.
 use borrow.Author.Needs.{needs}
 use native.Mathlib.Omega.{arith}
-use mathlib.Core.Path.{refl, sym, ap, _∙_}
+use mathlib.Core.Path.{refl}
 use Rattle.formulas.specs.Marks.{putMark, putCode}
 use Rattle.formulas.proofs.mark.put.Statement.{statement}
 use Rattle.formulas.proofs.mark.put.Tie as tie

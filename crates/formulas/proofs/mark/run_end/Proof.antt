@@ -1,9 +1,9 @@
 -- `formulas::mark::run_end` meets its contract.
-use Prim.Native.Nat.{ℕ, _+_, _-_, _≤_}
+use Prim.Native.Nat.{_+_, _-_, _≤_}
 use native.Mathlib.Omega.{arith}
 use borrow.Author.Needs.{needs}
 use mathlib.Core.Path.{_≡_, refl, sym, _∙_}
-use lib.ListN.{length, drop, getD}
+use lib.ListN.{length, drop}
 use Rattle.formulas.specs.Reader.{run}
 use Rattle.formulas.specs.Marks.{classOf}
 use Rattle.formulas.proofs.Marking.{run-on, run-off, run-end}

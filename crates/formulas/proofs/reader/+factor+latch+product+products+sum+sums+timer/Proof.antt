@@ -2,8 +2,8 @@
 -- 5 × (bytes left) + (open depth) + (the reader's level).
 use Prim.Native.Nat.{ℕ, _+_, _*_, _-_, _<_}
 use native.Mathlib.Omega.{arith}
-use borrow.Author.Tests.{eq-eqb, ne-eqb}
-use mathlib.Core.Path.{_≡_, refl, sym, ap, _∙_}
+use borrow.Author.Tests.{ne-eqb}
+use mathlib.Core.Path.{sym, ap, _∙_}
 use lib.ListN.{length}
 use borrow.Author.Needs.{needs}
 use Rattle.formulas.specs.Marks.{nextMark}
@@ -295,7 +295,7 @@ latch-put-requires t c κs = (
 )
 
 latch-returns : (t : ℕ) → latch-lts.Need-returns (latch-calls t) (latch-at t) latch.Post
-latch-returns t c = paths.latch-path (c .before .before .before .before .before .before .before .before .before .before .args .deep) (c .before .before .before .before .before .before .before .before .before .before .pre .1) (c .before .before .before .before .before .before .before .expect .ensures) (c .before .before .before .before .before .before .sum .ensures) (c .before .before .before .before .expect2 .ensures) (c .before .before .before .sum2 .ensures) (c .before .expect3 .ensures) (c .before .before .before .before .before .before .before .before .before .before .args .kind) (c .put .ensures .1) (c .put .ensures .0)
+latch-returns t c = paths.latch-path (c .before .before .before .before .before .before .before .before .before .before .args .deep) (c .before .before .before .before .before .before .before .before .before .before .pre .1) (c .before .before .before .before .before .before .before .expect .ensures) (c .before .before .before .before .before .before .sum .ensures) (c .before .before .before .before .expect2 .ensures) (c .before .before .before .sum2 .ensures) (c .before .expect3 .ensures) (c .before .before .before .before .before .before .before .before .before .before .args .part) (c .put .ensures .1) (c .put .ensures .0)
 
 product-factor-requires : (t : ℕ) → product-lts.Need-factor-requires (product-calls t) (product-at t) product.Post
 product-factor-requires t c κs = (omega (arith, c .before .before .pre .0), c .before .before .pre .1)
@@ -418,7 +418,7 @@ timer-put-requires : (t : ℕ) → timer-lts.Need-put-requires (timer-calls t) (
 timer-put-requires t c κs = (paths.timer-closed (c .before .before .before .before .before .before .before .before .before .args .deep) (c .before .before .before .before .before .before .before .before .before .pre .1 .0) (c .before .before .before .before .before .before .before .expect .ensures) (c .before .before .before .before .before .before .pass-length .ensures) (c .before .before .before .expect2 .ensures) (c .before .before .sum .ensures) (c .expect3 .ensures) .room, paths.timer-room (c .before .before .before .before .before .before .before .before .before .args .deep) (c .before .before .before .before .before .before .before .before .before .pre .1 .0) (c .before .before .before .before .before .before .before .expect .ensures) (c .before .before .before .before .before .before .pass-length .ensures) (c .before .before .before .expect2 .ensures) (c .before .before .sum .ensures) (c .expect3 .ensures))
 
 timer-returns : (t : ℕ) → timer-lts.Need-returns (timer-calls t) (timer-at t) timer.Post
-timer-returns t c = paths.timer-path (c .before .before .before .before .before .before .before .before .before .before .args .deep) (c .before .before .before .before .before .before .before .before .before .before .pre .1 .0) (c .before .before .before .before .before .before .before .before .expect .ensures) (c .before .before .before .before .before .before .before .pass-length .ensures) (c .before .before .before .before .expect2 .ensures) (c .before .before .before .sum .ensures) (c .before .expect3 .ensures) (c .before .before .before .before .before .before .before .before .before .before .args .kind) (c .before .before .before .before .before .before .ticks .result) (c .before .before .before .before .before .before .ticks .ensures) (c .put .ensures .1) (c .put .ensures .0)
+timer-returns t c = paths.timer-path (c .before .before .before .before .before .before .before .before .before .before .args .deep) (c .before .before .before .before .before .before .before .before .before .before .pre .1 .0) (c .before .before .before .before .before .before .before .before .expect .ensures) (c .before .before .before .before .before .before .before .pass-length .ensures) (c .before .before .before .before .expect2 .ensures) (c .before .before .before .sum .ensures) (c .before .expect3 .ensures) (c .before .before .before .before .before .before .before .before .before .before .args .part) (c .before .before .before .before .before .before .ticks .result) (c .before .before .before .before .before .before .ticks .ensures) (c .put .ensures .1) (c .put .ensures .0)
 
 pub +factor+latch+product+products+sum+sums+timer-spec : {M : Type 1} → statement M
 +factor+latch+product+products+sum+sums+timer-spec =

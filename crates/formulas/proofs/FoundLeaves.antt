@@ -1,0 +1,121 @@
+-- What the reader finds where it passes a length, a constant or a name.
+use Prim.Native.Nat.{ℕ, zero, suc, _≤_, _<_}
+use native.Mathlib.Omega.{arith}
+use mathlib.Core.Path.{_≡_, refl}
+use mathlib.Core.Bool.{Bool, true, false, cond, _||_}
+use mathlib.Core.List.{List, [], _∷_, _++_}
+use lib.Dec.{leb, eqb}
+use lib.ListN.{length, take, drop, take-append-drop}
+use lib.Seq.{length-take-le}
+use borrow.Author.Tests.{eqb-true, leb-true, le-leb}
+use Rattle.formulas.specs.Tree.{Leaf, leaf, name, down, up}
+use Rattle.formulas.specs.Code.{Part, code, longest, operand, one}
+use Rattle.formulas.specs.Grammar.{Factor, isLower, isDigit, isNameByte, allOf, isName, isLength}
+use Rattle.formulas.specs.Reader.{State, run, next, bad, stepped, put, passLength, leafAt}
+use Rattle.formulas.specs.Formula.{nameAt, spelled}
+use Rattle.formulas.proofs.Bytes.{never, by-cond, and-left}
+use Rattle.formulas.proofs.Standing.{state-eq, At, after}
+use Rattle.formulas.proofs.Found.{next-inv, Found, Finds}
+
+-- a run of bytes is the front of a list, all of which has the property
+run-front : (p : ℕ → Bool) (l : List ℕ) → (allOf p (take (run p l) l) ≡ true) × (run p l ≤ length l)
+unfolding run allOf
+run-front p [] = (refl, omega arith)
+run-front p (b ∷ l) = go (p b) refl (run-front p l)
+  where
+    go : (z : Bool) → p b ≡ z → (allOf p (take (run p l) l) ≡ true) × (run p l ≤ length l) →
+        (allOf p (take (cond z (suc (run p l)) 0) (b ∷ l)) ≡ true) × (cond z (suc (run p l)) 0 ≤ length (b ∷ l))
+    go true z ih = (rw z (ih .0), omega (arith, ih .1))
+    go false z ih = (refl, omega arith)
+
+or-true : (a : Bool) → a || true ≡ true
+or-true true = refl
+or-true false = refl
+
+digit-pos : (b : ℕ) → isDigit b ≡ true → 0 < b
+unfolding isDigit
+digit-pos b e = let h = leb-true 48 b (and-left (leb 48 b) (leb b 57) e) in omega arith
+
+lower-pos : (b : ℕ) → isLower b ≡ true → 0 < b
+unfolding isLower
+lower-pos b e = let h = leb-true 97 b (and-left (leb 97 b) (leb b 122) e) in omega arith
+
+-- a constant or a name
+leaf-eq : (x : Leaf) (w : List ℕ) (deep : ℕ) (s : State Part) → s .ok ≡ true → put (operand x) deep 0 (stepped (length w) s) ≡ after w (leaf x) 0 deep s
+unfolding put after stepped code longest
+leaf-eq x w deep s e = rw e (state-eq refl refl refl (omega arith) (omega arith))
+
+module _ (text : List ℕ) where
+  pub record LengthFound (s r : State Part) : Type 0 where
+    pub digits : List ℕ
+    pub rest : List ℕ
+    pub here : At text s (digits ++ rest)
+    pub number : isLength digits ≡ true
+    pub gives : r ≡ stepped (length digits) s
+
+  -- a first byte and the run after it
+  digits-found : (s : State Part) (b : ℕ) (l : List ℕ) → At text s (b ∷ l) → isDigit b ≡ true → eqb b 48 ≡ false →
+      LengthFound s (stepped (run isDigit (drop (s .at) text)) s)
+  unfolding run isLength
+  digits-found s b l a dig z =
+      let k = run-front isDigit l in
+      let size : length (take (run isDigit l) l) ≡ run isDigit l = length-take-le (run isDigit l) l (k .1) in
+      record {
+        digits = b ∷ take (run isDigit l) l;
+        rest = drop (run isDigit l) l;
+        here = rw (take-append-drop (run isDigit l) l) a;
+        number = rw (dig, k .0, z) (or-true (eqb (length (take (run isDigit l) l)) 0));
+        gives = rw (a .left, dig, size) refl;
+      }
+
+  pub length-inv : (s : State Part) → (passLength text s) .ok ≡ true → LengthFound s (passLength text s)
+  unfolding passLength bad isLength isDigit allOf
+  length-inv s =
+      by-cond (λ (r : State Part). r .ok ≡ true → LengthFound s r) (eqb (next text s) 48)
+      (λ e h.
+      let x = next-inv text s 48 (eqb-true (next text s) 48 e) (omega arith) in
+      record { digits = 48 ∷ []; rest = x .0; here = x .1; number = refl; gives = refl })
+      (λ e. by-cond (λ (r : State Part). r .ok ≡ true → LengthFound s r) (isDigit (next text s))
+      (λ dig h.
+      let x = next-inv text s (next text s) refl (digit-pos (next text s) dig) in
+      digits-found s (next text s) (x .0) (x .1) dig e)
+      (λ dig h. never h))
+
+  name-found : (deep : ℕ) (s : State Part) (b : ℕ) (l : List ℕ) → At text s (b ∷ l) → isLower b ≡ true → leb (run isNameByte (drop (s .at) text)) 8 ≡ true →
+      Found text Factor deep s (put (operand (name (nameAt text (s .at) (run isNameByte (drop (s .at) text))))) deep 0 (stepped (run isNameByte (drop (s .at) text)) s))
+  unfolding run nameAt isNameByte isName
+  name-found deep s b l a low short =
+      let k = run-front isNameByte l in
+      let w = b ∷ take (run isNameByte l) l in
+      let size : length (take (run isNameByte l) l) ≡ run isNameByte l = length-take-le (run isNameByte l) l (k .1) in
+      let all : run isNameByte (drop (s .at) text) ≡ length w = rw (a .left, low, size) refl in
+      let these : take (length w) (drop (s .at) text) ≡ w = rw (a .left, size) refl in
+      let short2 : length w ≤ 8 = leb-true (length w) 8 (rw all at short) in
+      record {
+        bytes = w;
+        tree = leaf (name w);
+        depth = 0;
+        rest = drop (run isNameByte l) l;
+        here = rw (take-append-drop (run isNameByte l) l) a;
+        derived = Factor.named {w = w} (rw (low, k .0, le-leb (length (take (run isNameByte l) l)) 7 (omega arith)) refl);
+        gives = rw (all, these) (leaf-eq (name w) w deep s (a .fine));
+      }
+
+  pub leaf-step : (deep : ℕ) (s : State Part) → Finds text Factor deep s (leafAt (spelled text) text deep s)
+  unfolding leafAt bad
+  leaf-step deep s =
+      by-cond (Finds text Factor deep s) (eqb (next text s) 48)
+      (λ e h.
+      let x = next-inv text s 48 (eqb-true (next text s) 48 e) (omega arith) in
+      record { bytes = 48 ∷ []; tree = leaf down; depth = 0; rest = x .0; here = x .1; derived = Factor.zero; gives = leaf-eq down (48 ∷ []) deep s (x .1 .fine) })
+      (λ e0. by-cond (Finds text Factor deep s) (eqb (next text s) 49)
+      (λ e h.
+      let x = next-inv text s 49 (eqb-true (next text s) 49 e) (omega arith) in
+      record { bytes = 49 ∷ []; tree = leaf up; depth = 0; rest = x .0; here = x .1; derived = Factor.one; gives = leaf-eq up (49 ∷ []) deep s (x .1 .fine) })
+      (λ e1. by-cond (Finds text Factor deep s) (isLower (next text s))
+      (λ low. by-cond (Finds text Factor deep s) (leb (run isNameByte (drop (s .at) text)) 8)
+      (λ short h.
+      let x = next-inv text s (next text s) refl (lower-pos (next text s) low) in
+      name-found deep s (next text s) (x .0) (x .1) low short)
+      (λ long h. never h))
+      (λ low h. never h)))
