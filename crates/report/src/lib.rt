@@ -5,7 +5,7 @@ ghost use lib.ListN.{length, take, drop};
 ghost use Rattle.sheets.specs.Walk.{placed};
 ghost use Rattle.report.specs.Input.{toLineFeed, pastLineFeed, counted as Input·counted};
 ghost use Rattle.report.specs.Line.{decimal as Line·decimal, line as Line·line, lineOf};
-ghost use Rattle.report.specs.Reporting.{lineAnswer, lineOutput};
+ghost use Rattle.report.specs.Reporting.{lineAnswer, lineOutput, firstFaultOf, reportAnswer, reportOutput};
 use signals::Verdict;
 use signals::Written;
 
@@ -119,4 +119,18 @@ fn tell(verdict: Verdict, out: &mut [u8]) -> Written
         Verdict::FailsAfter(k) => write_number(b"fails after ", k, out),
         Verdict::Refused(n) => write_number(b"refused ", n, out),
     }
+}
+
+// The report of an input: the line of the claim that it makes, or 7 when the output is shorter. After a claim that passed check 18 the
+// work area is free.
+pub fn report(input: &[u8], work: &mut [u32], out: &mut [u8]) -> Written
+    ensures { λ r. ⌜ (r ≡ reportAnswer (now (input .entry)) (length (now (work .entry))) (now (out .entry))) × (now (out .exit) ≡ reportOutput (now (input .entry)) (length (now (work .entry))) (now (out .entry))) × ((firstFaultOf (now (input .entry)) (length (now (work .entry))) ≡ 0 → ⊥) → now (work .exit) ≡ now (work .entry)) ⌝ }
+{
+    let text = counted(input);
+    let after = rest(text);
+    let sheet = rest(after);
+    let f = first_line(text);
+    let g = first_line(after);
+    let verdict = evaluation::claim(sheet, f, g, work);
+    tell(verdict, out)
 }
