@@ -67,7 +67,10 @@ fn line_feeds() {
     reported(b"F empty", b"\n1\nSGL\x01\x00\x00\x00");
     reported(b"G empty", b"1\n\nSGL\x01\x00\x00\x00");
     reported(b"carriage returns", b"1\r\n1\r\nSGL\x01\x00\x00\x00");
-    reported(b"a line feed after the sheet", b"1\n1\nSGL\x01\x00\x00\x00\n");
+    reported(
+        b"a line feed after the sheet",
+        b"1\n1\nSGL\x01\x00\x00\x00\n",
+    );
     reported(
         b"line feeds in the sheet",
         b"a\n0\nSGL\x01\x00\x01\x00a\x00\x00\x00\x00\x00\x00\x00\x02\x00\x00\x00\x00\x00\x0a\x0a\x00\x00",
@@ -78,18 +81,21 @@ fn line_feeds() {
 fn refusals() {
     reported(b"sheet before formulas", b"+\n+\nSGL\x02\x00\x00\x00");
     reported(b"cut sheet", b"1\n1\nSGL\x01\x00\x01\x00");
-    reported(b"bad name", b"1\n1\nSGL\x01\x00\x01\x00A\x00\x00\x00\x00\x00\x00\x00");
+    reported(
+        b"bad name",
+        b"1\n1\nSGL\x01\x00\x01\x00A\x00\x00\x00\x00\x00\x00\x00",
+    );
     reported(
         b"bad words",
         b"1\n1\nSGL\x01\x00\x01\x00a\x00\x00\x00\x00\x00\x00\x00\x00\x00",
     );
     reported(b"F before G", b"b\n+\nSGL\x01\x00\x00\x00");
     reported(b"G after F", b"1\n+\nSGL\x01\x00\x00\x00");
-    reported(b"length above M", b"TON(1073741824,1)\n+\nSGL\x01\x00\x00\x00");
     reported(
-        b"depth 17",
-        b"1\n!!!!!!!!!!!!!!!!!1\nSGL\x01\x00\x00\x00",
+        b"length above M",
+        b"TON(1073741824,1)\n+\nSGL\x01\x00\x00\x00",
     );
+    reported(b"depth 17", b"1\n!!!!!!!!!!!!!!!!!1\nSGL\x01\x00\x00\x00");
     reported(
         b"change after M",
         b"TOF(1,a)\n1\nSGL\x01\x00\x01\x00a\x00\x00\x00\x00\x00\x00\x00\x02\x00\x00\x00\x00\x00\xfe\xff\xff\xff",

@@ -6,69 +6,49 @@ use lib.Seq.{length-take-le}
 use Rattle.report.proofs.Room.{count-fits}
 use Rattle.claim.proofs.main.Statement.{statement}
 use Rattle.claim.proofs.main.Tie as tie
-use Rattle.claim.proofs.main.Reads as reads
-use Rattle.claim.proofs.main.Lts as lts
-use Rattle.io.proofs.large_buffer.Reads as large-buffer-reads
-use Rattle.io.proofs.read_full.Reads as read-full-reads
-use Rattle.io.proofs.write_all.Reads as write-all-reads
-use Rattle.report.proofs.report.Reads as report-reads
 
--- src/main.rt:7:21
 large-buffer-requires : tie.Need-large-buffer-requires
 large-buffer-requires c κs = search needs
 
--- src/main.rt:8:41
 slice-aggregate-read-full : tie.Need-slice-aggregate-read-full
 slice-aggregate-read-full c = search needs
 
--- src/main.rt:8:9
 read-full-requires : tie.Need-read-full-requires
 read-full-requires c κs = search needs
 
--- src/main.rt:11:26
 array-share-prefix-input : tie.Need-array-share-prefix-input
 array-share-prefix-input c = search needs
 
--- src/main.rt:11:26
 slice-aggregate-report : tie.Need-slice-aggregate-report
 slice-aggregate-report c = search needs
 
--- src/main.rt:11:39
 slice-aggregate-report-2 : tie.Need-slice-aggregate-report-2
 slice-aggregate-report-2 c = search needs
 
--- src/main.rt:11:50
 slice-aggregate-report-3 : tie.Need-slice-aggregate-report-3
 slice-aggregate-report-3 c = search needs
 
--- src/main.rt:11:11
 report-requires : tie.Need-report-requires
 report-requires c κs = search needs
 
--- src/main.rt:12:24
 enum-known-count : tie.Need-enum-known-count
 enum-known-count c = search needs
 
--- src/main.rt:13:42
 array-share-prefix-out : tie.Need-array-share-prefix-out
 array-share-prefix-out c = omega (arith, count-fits _ _ _ _ _ (c .before .before .before .before .before .report .ensures .0) (c .before .count .given .1), c .before .before .before .before .before .report .kept .1 .1 .0)
 
--- src/main.rt:13:42
 slice-aggregate-write-all : tie.Need-slice-aggregate-write-all
 slice-aggregate-write-all c = sym (length-take-le _ (c .before .before .before .before .before .before .report .last .1 .1 .0) (omega (arith, count-fits _ _ _ _ _ (c .before .before .before .before .before .before .report .ensures .0) (c .before .before .count .given .1), c .before .before .before .before .before .before .report .kept .1 .1 .0)))
 
--- src/main.rt:13:13
 write-all-requires : tie.Need-write-all-requires
 write-all-requires c κs = search needs
 
 enum-told : tie.Need-enum-told
 enum-told c = search needs
 
--- src/main.rt:6:1
 returns : tie.Need-returns
 returns c = search needs
 
--- src/main.rt:6:1
 returns-2 : tie.Need-returns-2
 returns-2 c = search needs
 

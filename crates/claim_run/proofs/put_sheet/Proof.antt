@@ -6,8 +6,6 @@ use mathlib.Core.Path.{_≡_, refl}
 use lib.ListN.{length, length-set}
 use Rattle.claim_run.proofs.put_sheet.Statement.{statement}
 use Rattle.claim_run.proofs.put_sheet.Tie as tie
-use Rattle.claim_run.proofs.put_sheet.Reads as reads
-use Rattle.claim_run.proofs.put_sheet.Lts as lts
 
 abbrev Inv-loop : tie.InvT-loop
 Inv-loop input₀ at bytes i₀ input i = (i ≤ 9) × (length input ≡ length input₀)
@@ -15,39 +13,30 @@ Inv-loop input₀ at bytes i₀ input i = (i ≤ 9) × (length input ≡ length 
 abbrev μ-loop : tie.MeasureT-loop
 μ-loop input₀ at bytes i₀ input i = 9 - i
 
--- src/main.rt:119:5
 loop-holds : tie.Need-loop-holds Inv-loop μ-loop
 loop-holds c = (omega arith, refl)
 
--- src/main.rt:120:25
 array-read-input : tie.Need-array-read-input Inv-loop μ-loop
 array-read-input c = search needs
 
--- src/main.rt:120:15
 add-input : tie.Need-add-input Inv-loop μ-loop
 add-input c = search needs
 
--- src/main.rt:120:9
 slice-write-input : tie.Need-slice-write-input Inv-loop μ-loop
 slice-write-input c = search needs
 
--- src/main.rt:121:9
 add-i : tie.Need-add-i Inv-loop μ-loop
 add-i c = search needs
 
--- src/main.rt:119:5
 loop-less : tie.Need-loop-less Inv-loop μ-loop
 loop-less c = search needs
 
--- src/main.rt:119:5
 loop-again : tie.Need-loop-again Inv-loop μ-loop
 loop-again c = (omega arith, simp length-set (omega arith))
 
--- src/main.rt:114:1
 same-length : tie.Need-same-length Inv-loop μ-loop
 same-length c = c .before .loop .inv .1
 
--- src/main.rt:114:1
 returns : tie.Need-returns Inv-loop μ-loop
 returns c = search needs
 
