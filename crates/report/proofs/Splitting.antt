@@ -1,0 +1,82 @@
+-- The input up to a line feed and past it: one turn of the loop that looks for it, and what its place says.
+use Prim.Native.Nat.{ℕ, zero, suc, _+_, _-_, _≤_, _<_}
+use native.Mathlib.Numerals.{add-one}
+use native.Mathlib.Omega.{arith}
+use mathlib.Core.Path.{_≡_, refl, sym, ap, _∙_}
+use mathlib.Core.Bool.{Bool, true, false, cond}
+use mathlib.Core.List.{List, [], _∷_}
+use lib.Dec.{eqb}
+use lib.ListN.{length, getD, take, drop, length-drop}
+use lib.Seq.{length-take-le, take-all}
+use borrow.Author.Tests.{eq-eqb, ne-eqb}
+use Rattle.sheets.proofs.Steps.{drop-step, drop-end}
+use Rattle.report.specs.Input.{toLineFeed, pastLineFeed, counted}
+
+module _ (s : List ℕ) (i : ℕ) where
+  pub feed-found : i < length s → getD s i 0 ≡ 10 → length (toLineFeed (drop i s)) ≡ 0
+  unfolding toLineFeed
+  feed-found p h = rw (drop-step s i p, eq-eqb _ _ h)
+
+  pub feed-passed : i < length s → (getD s i 0 ≡ 10 → ⊥)
+      → length (toLineFeed (drop i s)) ≡ suc (length (toLineFeed (drop (i + 1) s)))
+  unfolding toLineFeed
+  feed-passed p h = rw (drop-step s i p, ne-eqb _ _ h)
+
+  pub feed-none : length s ≤ i → length (toLineFeed (drop i s)) ≡ 0
+  unfolding toLineFeed
+  feed-none p = rw (drop-end s i p)
+
+pub feed-within : (s : List ℕ) → length (toLineFeed s) ≤ length s
+unfolding toLineFeed
+feed-within [] = omega arith
+feed-within (b ∷ bs) = go (eqb b 10) (feed-within bs)
+  where
+    go : (t : Bool) → length (toLineFeed bs) ≤ length bs → length (cond t [] (b ∷ toLineFeed bs)) ≤ suc (length bs)
+    go true h = omega arith
+    go false h = omega arith
+
+pub take-to-feed : (s : List ℕ) → take (length (toLineFeed s)) s ≡ toLineFeed s
+unfolding toLineFeed
+take-to-feed [] = refl
+take-to-feed (b ∷ bs) = go (eqb b 10) (take-to-feed bs)
+  where
+    go : (t : Bool) → take (length (toLineFeed bs)) bs ≡ toLineFeed bs
+        → take (length (cond t [] (b ∷ toLineFeed bs))) (b ∷ bs) ≡ cond t [] (b ∷ toLineFeed bs)
+    go true h = refl
+    go false h = ap (λ (l : List ℕ). b ∷ l) h
+
+-- the bytes past the line feed, whether there is one or not
+pub drop-past-feed : (s : List ℕ) → drop (suc (length (toLineFeed s))) s ≡ pastLineFeed s
+unfolding toLineFeed pastLineFeed
+drop-past-feed [] = refl
+drop-past-feed (b ∷ bs) = go (eqb b 10) (drop-past-feed bs)
+  where
+    go : (t : Bool) → drop (suc (length (toLineFeed bs))) bs ≡ pastLineFeed bs
+        → drop (length (cond t [] (b ∷ toLineFeed bs))) bs ≡ cond t bs (pastLineFeed bs)
+    go true h = refl
+    go false h = h
+
+-- what is left of a part that starts where the loop stopped
+pub past-found : (s : List ℕ) (n : ℕ) → n ≡ length (toLineFeed s) → take (length s - (n + 1)) (drop (n + 1) s) ≡ pastLineFeed s
+past-found s n e =
+    take-all (length s - (n + 1)) (drop (n + 1) s) (rw (length-drop (n + 1) s) (omega arith))
+    ∙ rw (add-one n, e) (drop-past-feed s)
+
+pub past-none : (s : List ℕ) (n : ℕ) → n ≡ length (toLineFeed s) → length s ≤ n → take (length s - n) (drop n s) ≡ pastLineFeed s
+past-none s n e h =
+    take-all (length s - n) (drop n s) (rw (length-drop n s) (omega arith))
+    ∙ drop-end s n h
+    ∙ sym (drop-end s (suc n) (omega arith))
+    ∙ rw e (drop-past-feed s)
+
+-- the bytes that count
+pub counted-length : (s : List ℕ) → 65536 < length s → 65536 ≡ length (take 65536 s)
+counted-length s h = sym (length-take-le 65536 s (omega arith))
+
+pub counted-cut : (s : List ℕ) → take 65536 s ≡ counted s
+unfolding counted
+counted-cut s = refl
+
+pub counted-all : (s : List ℕ) → length s ≤ 65536 → s ≡ counted s
+unfolding counted
+counted-all s h = sym (take-all 65536 s h)

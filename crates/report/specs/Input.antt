@@ -1,0 +1,31 @@
+-- Document 01: "The program reads standard input: formula F to the first line feed, G to the second, then the sheet (of the first 65,536
+-- bytes; those past them are dropped). [..] Without a line feed, what follows is empty."
+use Prim.Native.Nat.{ℕ}
+use mathlib.Core.Bool.{cond}
+use mathlib.Core.List.{List, [], _∷_}
+use lib.Dec.{eqb}
+use lib.ListN.{take}
+
+-- the bytes before the first line feed, which is 10; all of them when there is none
+unfoldable pub toLineFeed : List ℕ → List ℕ
+toLineFeed [] = []
+toLineFeed (b ∷ bs) = cond (eqb b 10) [] (b ∷ toLineFeed bs)
+
+-- the bytes after the first line feed; none when there is none
+unfoldable pub pastLineFeed : List ℕ → List ℕ
+pastLineFeed [] = []
+pastLineFeed (b ∷ bs) = cond (eqb b 10) bs (pastLineFeed bs)
+
+-- the bytes of the input that count
+unfoldable pub counted : List ℕ → List ℕ
+counted input = take 65536 input
+
+-- F, G and the sheet
+unfoldable pub formulaF : List ℕ → List ℕ
+formulaF input = toLineFeed (counted input)
+
+unfoldable pub formulaG : List ℕ → List ℕ
+formulaG input = toLineFeed (pastLineFeed (counted input))
+
+unfoldable pub sheetIn : List ℕ → List ℕ
+sheetIn input = pastLineFeed (pastLineFeed (counted input))
