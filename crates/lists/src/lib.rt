@@ -38,7 +38,7 @@ fn one_less(n: usize) -> usize
 }
 
 // The value after the words passed.
-pub fn held_value(words: &[u32], passed: usize) -> bool
+fn held_value_at(words: &[u32], passed: usize) -> bool
     ensures { λ r. ⌜ r ≡ heldValue (now (words .entry)) passed ⌝ }
 {
     let last = one_less(passed);
@@ -64,7 +64,7 @@ fn next_date_at(words: &[u32], passed: usize) -> Date
 fn past_at(words: &[u32], passed: usize, date: Date) -> Step
     ensures { λ r. ⌜ r ≡ stepPast (now (words .entry)) passed (date .0) ⌝ }
 {
-    let before = held_value(words, passed);
+    let before = held_value_at(words, passed);
     if passed < words.len() {
         let w = words[passed];
         if w / 4 == date.0 {
@@ -105,6 +105,13 @@ impl<'a> Reader<'a> {
         self.passed
     }
 
+    // The value after the words passed.
+    pub fn held(self) -> bool
+        ensures { λ r. ⌜ r ≡ heldValue (now (self .entry .words)) (self .entry .passed) ⌝ }
+    {
+        held_value_at(self.words, self.passed)
+    }
+
     // The date of the next word.
     pub fn next_date(self) -> Date
         ensures { λ r. ⌜ r .0 ≡ nextDate (now (self .entry .words)) (self .entry .passed) ⌝ }
@@ -118,6 +125,13 @@ impl<'a> Reader<'a> {
     {
         past_at(self.words, self.passed, date)
     }
+}
+
+// The value after the words passed.
+pub fn held_value(words: &[u32], passed: usize) -> bool
+    ensures { λ r. ⌜ r ≡ heldValue (now (words .entry)) passed ⌝ }
+{
+    reader_at(words, passed).held()
 }
 
 // The date of the next word.

@@ -5,8 +5,8 @@ use borrow.Author.Needs.{needs}
 use Rattle.lists.proofs.past_at.Statement.{statement}
 use Rattle.lists.proofs.past_at.Tie as tie
 
-held-value-requires : tie.Need-held-value-requires
-held-value-requires c κs = search needs
+held-value-at-requires : tie.Need-held-value-at-requires
+held-value-at-requires c κs = search needs
 
 mul-w : tie.Need-mul-w
 mul-w c = search needs
@@ -20,17 +20,17 @@ add-t17 c = search needs
 returns : tie.Need-returns
 unfolding dateOf valueAt valueAfter
 returns c =
-    step-taken _ _ _ _ (c .before .before .before .before .held-value .ensures) (is-next _ _ _ (c .before .before .before .if1 .taken) (c .if2 .taken))
+    step-taken _ _ _ _ (c .before .before .before .before .held-value-at .ensures) (is-next _ _ _ (c .before .before .before .if1 .taken) (c .if2 .taken))
 
 returns-2 : tie.Need-returns-2
 unfolding dateOf valueAt valueAfter
-returns-2 c = step-kept _ _ _ _ (c .before .before .before .before .held-value .ensures) (not-next _ _ _ (c .if2 .left))
+returns-2 c = step-kept _ _ _ _ (c .before .before .before .before .held-value-at .ensures) (not-next _ _ _ (c .if2 .left))
 
 returns-3 : tie.Need-returns-3
 unfolding dateOf valueAt valueAfter
-returns-3 c = step-kept _ _ _ _ (c .before .held-value .ensures) (none-next _ _ _ (c .if1 .left))
+returns-3 c = step-kept _ _ _ _ (c .before .held-value-at .ensures) (none-next _ _ _ (c .if1 .left))
 
 pub past-at-spec : {M : Type 1} → statement M
 past-at-spec =
     tie.close
-    (tie.spec held-value-requires mul-w shared-slice-read-w add-t17 returns returns-2 returns-3)
+    (tie.spec held-value-at-requires mul-w shared-slice-read-w add-t17 returns returns-2 returns-3)
