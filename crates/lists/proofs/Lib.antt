@@ -8,3 +8,4 @@ pub mod Verdicts
 pub mod Equality
 pub mod Implication
 pub mod Keepings
+pub mod Apart
