@@ -9,3 +9,4 @@ pub mod Equality
 pub mod Implication
 pub mod Keepings
 pub mod Apart
+pub mod Above
