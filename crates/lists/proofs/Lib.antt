@@ -8,3 +8,5 @@ pub mod Verdicts
 pub mod Equality
 pub mod Implication
 pub mod Keepings
+pub mod Apart
+pub mod Above

@@ -1,24 +1,31 @@
--- `lists::next_date` gives the next word's date.
-use borrow.Author.Tests.{lt-ltb, le-ltb}
+-- `lists::next_date` meets its contract: a reader is made of the words and the number, and asked for the next word's date.
+use mathlib.Core.Path.{_≡_}
+use Prim.Native.Nat.{ℕ}
+use mathlib.Core.List.{List}
+use contract.Running.{givenOf, tables, tablesOf}
+use denote.Struct.Laws as LL
+use denote.Triple.Table.{entered, cited}
 use Rattle.lists.specs.Reading.{nextDate}
-use Rattle.signals.specs.Words.{dateOf}
-use borrow.Author.Needs.{needs}
-use Rattle.lists.proofs.next_date.Statement.{statement}
-use Rattle.lists.proofs.next_date.Tie as tie
+use Rattle.signals.specs.declared.Date.{Date}
+use Rattle.signals.proofs.Date as R
+use Rattle.signals.proofs.Date.Laws as R′
+use Rattle.lists.proofs.Apart.{Plain, OfReader}
+use Rattle.lists.proofs.Above.{Made, above-meets}
+use Rattle.lists.proofs.reader_at.Symbol as maker
+use Rattle.lists.proofs.reader_at.Met as maker-thm
+use Rattle.lists.proofs.Reader.next_date.Symbol as callee
+use Rattle.lists.proofs.Reader.next_date.Met as callee-thm
+use Rattle.lists.proofs.next_date.Key.{name as #next-date}
+use Rattle.lists.proofs.next_date.Statement as stated
+use Rattle.lists.proofs.next_date.Code as code
 
-mul-t6 : tie.Need-mul-t6
-mul-t6 c = search needs
+abbrev P : List ℕ → ℕ → Date → Type 0
+P words passed r = r .0 ≡ nextDate words passed
 
-shared-slice-read-t8 : tie.Need-shared-slice-read-t8
-shared-slice-read-t8 c = search needs
-
-returns : tie.Need-returns
-unfolding nextDate dateOf
-returns c = simp (lt-ltb _ _ (c .before .if1 .taken))
-
-returns-2 : tie.Need-returns-2
-unfolding nextDate
-returns-2 c = simp (le-ltb _ _ (c .if1 .left))
-
-pub next-date-spec : {M : Type 1} → statement M
-next-date-spec = tie.close (tie.spec mul-t6 shared-slice-read-t8 returns returns-2)
+pub next-date-spec : {M : Type 1} → stated.statement M
+unfolding code.routine tablesOf
+next-date-spec 𝓤 H 𝓜 𝓖 𝓡 =
+    entered 𝓤 H (Plain R.the-row P 𝓤 H (𝓖 .A)) (tables 𝓤 H 𝓜 𝓡 code.env .C) (tables 𝓤 H 𝓜 𝓡 code.env .Λ) #next-date code.function (code.unfolded 𝓤 H 𝓜 𝓡)
+    (above-meets R.the-row P R′.mir maker.name callee.name (λ r u is. LL.lawful R.the-type R′.the-laws 𝓤 H (𝓖 .A) (givenOf 𝓤 H 𝓜 𝓖) .typed r _ is .0) 𝓤 H (𝓖 .A) (givenOf 𝓤 H 𝓜 𝓖) (tablesOf 𝓤 H 𝓜 (tables 𝓤 H 𝓜 𝓡 code.env))
+    (cited 𝓤 H (Made 𝓤 H (𝓖 .A)) 𝓜 𝓡 code.env maker.name maker.routine code.calls-lists·reader-at (maker-thm.met 𝓤 H 𝓜 𝓖 𝓡))
+    (cited 𝓤 H (OfReader R.the-row P 𝓤 H (𝓖 .A)) 𝓜 𝓡 code.env callee.name callee.routine code.calls-lists·Reader·next-date (callee-thm.met 𝓤 H 𝓜 𝓖 𝓡)))
