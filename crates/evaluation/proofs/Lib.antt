@@ -8,4 +8,7 @@ pub mod Applying
 pub mod Stepping
 pub mod Dispatch
 pub mod Looping
+pub mod Preparing
+pub mod Calling
+pub mod Claiming
 pub mod Tracing

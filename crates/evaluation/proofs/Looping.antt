@@ -35,7 +35,7 @@ unfolding writtenOf
 counted-is f l n z e = rw (eq-eqb f 0 z, e)
 
 -- the parts left after i
-pub rest : List ℕ → List ℕ → ℕ → ℕ → List Part
+unfoldable pub rest : List ℕ → List ℕ → ℕ → ℕ → List Part
 rest text codes n i = map (partOf text) (drop i (take n codes))
 
 pub rest-next : (text codes : List ℕ) (n i : ℕ) → n ≤ length codes → i < n → rest text codes n i ≡ partOf text (getD codes i 0) ∷ rest text codes n (i + 1)

@@ -8,17 +8,19 @@ use lib.ListN.{length, take, drop, getD, set}
 use lib.Seq.{paste}
 use Rattle.signals.specs.Answers.{writtenOf}
 use Rattle.signals.specs.declared.Written.{Written}
+use Rattle.signals.specs.declared.Verdict.{Verdict}
+use Rattle.signals.specs.declared.Verdict.the-variants.{Refused}
 use Rattle.signals.specs.Moment.{M}
 use Rattle.signals.specs.Signal.{Table, tableOf, NOT, rising, falling, SR, RS, TON, TOF, connective}
 use Rattle.signals.specs.Words.{listFault}
-use Rattle.operations.specs.Calls.{exactOfOne, exactOfTwo, exactOfDelay}
+use Rattle.operations.specs.Calls.{firstOf, exactOfOne, exactOfTwo, exactOfDelay}
 use Rattle.formulas.specs.Tree.{Tree, Leaf, Unary, Binary, leaf, unary, binary, down, up, name, invert, rise, fall, ton, tof, and, or, sr, rs}
 use Rattle.formulas.specs.Code.{Part, operand, one, two, ticksOf, top, code}
-use Rattle.formulas.specs.Formula.{nameAt, partOf}
+use Rattle.formulas.specs.Formula.{nameAt, partOf, codeOf, formulaTree}
 use Rattle.sheets.specs.Names.{wellNamed, among}
 use Rattle.sheets.specs.Reading.{signalsOn, names}
 use Rattle.calls.specs.OnSheet.{exactOn, leafFound}
-use Rattle.calls.specs.Calls.{partFault, partsFault}
+use Rattle.calls.specs.Calls.{partFault, partsFault, readingFault, workFault, workingFault, roomFault, wordsOn, claimVerdict}
 use Rattle.laws.specs.Rewriting.{parts}
 use Rattle.evaluation.specs.declared.Next.{Next}
 
@@ -161,3 +163,46 @@ pub record WorkedOut (sheet before after : List ℕ) (base : ℕ) (t : Tree) (an
   pub answer-is : answer ≡ writtenOf (partsFault sheet (parts t)) (exactOn sheet t)
   pub stands : partsFault sheet (parts t) ≡ 0 → InSlot after base (length (exactOn sheet t)) (exactOn sheet t)
   pub kept : take (256 * base) after ≡ take (256 * base) before
+
+-- the sheet has the names of the parts
+abbrev pub partFound : List ℕ → Part → Bool
+partFound sheet (operand l) = leafFound sheet l
+partFound sheet (one o) = true
+partFound sheet (two o) = true
+
+unfoldable pub allFound : List ℕ → List Part → Bool
+allFound sheet [] = true
+allFound sheet (p ∷ ps) = partFound sheet p && allFound sheet ps
+
+-- what reading a formula for a sheet says: 10, 11, 8, 12 or 13, or how many code words stand for its parts
+pub record Prepared (sheet text codes : List ℕ) (answer : Written) : Type 0 where
+  pub answer-is : answer ≡ writtenOf (readingFault sheet text) (codeOf text)
+  pub few : readingFault sheet text ≡ 0 → length (codeOf text) ≤ 32
+  pub parts-are : readingFault sheet text ≡ 0 → partsIn text codes (length (codeOf text)) ≡ code (formulaTree text)
+  pub known : readingFault sheet text ≡ 0 → AllKnown sheet (code (formulaTree text))
+
+-- n code words stand for the parts of the formula that the text is
+pub record Coded (sheet text codes : List ℕ) (n : ℕ) : Type 0 where
+  pub few : n ≤ 32
+  pub enough : n ≤ length codes
+  pub parts-are : partsIn text codes n ≡ code (formulaTree text)
+  pub known : AllKnown sheet (code (formulaTree text))
+
+-- the faults that come once a formula is read and the work area is long enough: 5 or 6, then 7
+unfoldable pub runFault : List ℕ → List ℕ → ℕ → ℕ
+runFault sheet text room = firstOf (workingFault sheet text) (roomFault (wordsOn sheet text) room)
+
+-- the faults of a claim once both formulas are read and the work area is long enough, and its answer
+unfoldable pub judgeFault : List ℕ → List ℕ → List ℕ → ℕ
+judgeFault sheet F G = firstOf (workingFault sheet F) (workingFault sheet G)
+
+unfoldable pub verdictBy : ℕ → Verdict → Verdict
+verdictBy fault v = cond (eqb fault 0) v (Refused fault)
+
+-- the claim from G's reading on
+unfoldable pub claimOnFault : List ℕ → List ℕ → List ℕ → ℕ → ℕ
+claimOnFault sheet F G work = firstOf (readingFault sheet G) (firstOf (workFault sheet work) (judgeFault sheet F G))
+
+pub record ClaimOn (sheet F G work : List ℕ) (answer : Verdict) (after : List ℕ) : Type 0 where
+  pub answer-is : answer ≡ verdictBy (claimOnFault sheet F G (length work)) (claimVerdict sheet (formulaTree F) (formulaTree G))
+  pub kept : (firstOf (readingFault sheet G) (workFault sheet (length work)) ≡ 0 → ⊥) → after ≡ work

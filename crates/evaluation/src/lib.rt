@@ -11,8 +11,16 @@ ghost use Rattle.signals.specs.Moment.{M};
 ghost use Rattle.signals.specs.Words.{listFault};
 ghost use Rattle.formulas.specs.Tree.{Tree};
 ghost use Rattle.formulas.specs.Code.{ticksOf, operand, one, two, code};
-ghost use Rattle.evaluation.specs.Machine.{leafOf, unaryOf, binaryOf, leafKnown, Loaded, Applied, unaryExact, binaryExact, Room, Ready, Steps, Plan, partsIn, WorkedOut};
+ghost use Rattle.evaluation.specs.Machine.{leafOf, unaryOf, binaryOf, leafKnown, Loaded, Applied, unaryExact, binaryExact, Room, Ready, Steps, Plan, partsIn, WorkedOut, partFound, allFound, Prepared, Coded, runFault, judgeFault, verdictBy, InSlot, ClaimOn};
+ghost use Rattle.evaluation.specs.Work.{firstFault, firstClaimFault};
+ghost use Rattle.signals.specs.Answers.{writtenOf, outputOf};
+ghost use Rattle.calls.specs.Calls.{roomFault, wordsOn, callAnswer, callOutput, claimVerdict, claimAnswer};
+ghost use Rattle.formulas.specs.Formula.{formulaTree};
+ghost use Rattle.laws.specs.Rewriting.{parts};
+ghost use Rattle.calls.specs.OnSheet.{exactOn};
+ghost use Rattle.calls.specs.Calls.{partsFault, workingFault};
 use signals::Length;
+use signals::Verdict;
 use signals::Written;
 
 // What working one part out gives: its fault or 0, the height of the stack after it and the word count of the list on top.
@@ -317,4 +325,189 @@ fn work_out(
         i += 1;
     }
     Written::Count(counts[0])
+}
+
+// The sheet has the part's name, if it is one.
+fn found(sheet: &[u8], text: &[u8], code: u64) -> bool
+    requires { ⌜ sheetFault (now sheet) ≡ 0 ⌝ }
+    ensures { λ r. ⌜ r ≡ partFound (now (sheet .entry)) (partOf (now (text .entry)) code) ⌝ }
+{
+    if code % 16 == 2 {
+        let place = (code / 256) as usize;
+        let count = (code / 16 % 16) as usize;
+        let name = name_of(text, place, count);
+        return sheets::lookup_fault(sheet, name) == 0;
+    }
+    true
+}
+
+// The sheet has the names of all the parts.
+fn names_found(sheet: &[u8], text: &[u8], codes: &[u64], n: usize) -> bool
+    requires { ⌜ (n ≤ length (now codes)) × (sheetFault (now sheet) ≡ 0) ⌝ }
+    ensures { λ r. ⌜ r ≡ allFound (now (sheet .entry)) (partsIn (now (text .entry)) (now (codes .entry)) n) ⌝ }
+{
+    let mut i: usize = 0;
+    while i < n {
+        if found(sheet, text, codes[i]) {
+            i += 1;
+        } else {
+            return false;
+        }
+    }
+    true
+}
+
+// A formula read for a sheet: 10, 11, 8, 12, 13, or how many code words stand for its parts.
+fn prepare(sheet: &[u8], text: &[u8], codes: &mut [u64; 32]) -> Written
+    requires { ⌜ (length (now codes) ≡ 32) × (sheetFault (now sheet) ≡ 0) ⌝ }
+    ensures { λ r. ⌜ Prepared (now (sheet .entry)) (now (text .entry)) (now (codes .exit)) r × (length (now (codes .exit)) ≡ 32) ⌝ }
+{
+    let answer = formulas::read(text, codes);
+    match answer {
+        Written::Count(n) => {
+            if names_found(sheet, text, codes, n) {
+                Written::Count(n)
+            } else {
+                Written::Refused(13)
+            }
+        }
+        Written::Refused(fault) => Written::Refused(fault),
+    }
+}
+
+// The words of a list at the front of the work area, handed over if the output is long enough.
+fn hand_over(work: &[u32], count: usize, out: &mut [u32]) -> Written
+    requires { ⌜ count ≤ length (now work) ⌝ }
+    ensures { λ r. ⌜ (r ≡ writtenOf (roomFault (take count (now (work .entry))) (length (now (out .entry)))) (take count (now (work .entry)))) × (now (out .exit) ≡ outputOf (roomFault (take count (now (work .entry))) (length (now (out .entry)))) (take count (now (work .entry))) (now (out .entry))) ⌝ }
+{
+    if out.len() < count {
+        return Written::Refused(7);
+    }
+    put_list(out, 0, work, count);
+    Written::Count(count)
+}
+
+// A formula whose code words are read, worked out in a work area that is long enough.
+fn run_formula(
+    sheet: &[u8],
+    text: &[u8],
+    codes: &[u64],
+    n: usize,
+    work: &mut [u32],
+    out: &mut [u32],
+) -> Written
+    requires { ⌜ (8192 ≤ length (now work)) × (sheetFault (now sheet) ≡ 0) × Coded (now sheet) (now text) (now codes) n ⌝ }
+    ensures { λ r. ⌜ (r ≡ writtenOf (runFault (now (sheet .entry)) (now (text .entry)) (length (now (out .entry)))) (wordsOn (now (sheet .entry)) (now (text .entry)))) × (now (out .exit) ≡ outputOf (runFault (now (sheet .entry)) (now (text .entry)) (length (now (out .entry)))) (wordsOn (now (sheet .entry)) (now (text .entry))) (now (out .entry))) ⌝ }
+{
+    let answer = work_out(sheet, text, codes, n, work, 0);
+    match answer {
+        Written::Count(count) => hand_over(work, count, out),
+        Written::Refused(fault) => Written::Refused(fault),
+    }
+}
+
+// The formula call: sheet faults; 10, 11, 8, 12, 13; 18; 5 or 6 at the first part that meets one; 7.
+pub fn evaluate(sheet: &[u8], formula: &[u8], work: &mut [u32], out: &mut [u32]) -> Written
+    ensures { λ r. ⌜ (r ≡ callAnswer (now (sheet .entry)) (now (formula .entry)) (length (now (work .entry))) (now (out .entry))) × (now (out .exit) ≡ callOutput (now (sheet .entry)) (now (formula .entry)) (length (now (work .entry))) (now (out .entry))) × ((firstFault (now (sheet .entry)) (now (formula .entry)) (length (now (work .entry))) ≡ 0 → ⊥) → now (work .exit) ≡ now (work .entry)) ⌝ }
+{
+    let fault = sheets::sheet_fault(sheet);
+    if fault != 0 {
+        return Written::Refused(fault);
+    }
+    let mut codes = [0u64; 32];
+    let parts = prepare(sheet, formula, &mut codes);
+    match parts {
+        Written::Count(n) => {
+            if work.len() < 8192 {
+                return Written::Refused(18);
+            }
+            run_formula(sheet, formula, &codes, n, work, out)
+        }
+        Written::Refused(refusal) => Written::Refused(refusal),
+    }
+}
+
+// G worked out above F's list, and the two compared.
+fn compare(
+    sheet: &[u8],
+    f_count: usize,
+    g: &[u8],
+    codes: &[u64],
+    n: usize,
+    work: &mut [u32],
+) -> Verdict
+    requires { ⌜ (8192 ≤ length (now work)) × (sheetFault (now sheet) ≡ 0) × Coded (now sheet) (now g) (now codes) n × («f_count» ≤ 256) ⌝ }
+    ensures { λ r. ⌜ ((t : Tree) → partsFault (now (sheet .entry)) (parts t) ≡ 0 → InSlot (now (work .entry)) 0 «f_count» (exactOn (now (sheet .entry)) t) → r ≡ verdictBy (workingFault (now (sheet .entry)) (now (g .entry))) (claimVerdict (now (sheet .entry)) t (formulaTree (now (g .entry))))) ⌝ }
+{
+    let answer = work_out(sheet, g, codes, n, work, 1);
+    match answer {
+        Written::Count(count) => {
+            let w = &work[..];
+            let end = 256 + count;
+            lists::implies(&w[..f_count], &w[256..end])
+        }
+        Written::Refused(fault) => Verdict::Refused(fault),
+    }
+}
+
+// Two formulas whose code words are read, worked out in a work area that is long enough, F's parts before G's.
+fn judge(
+    sheet: &[u8],
+    f: &[u8],
+    f_codes: &[u64],
+    f_n: usize,
+    g: &[u8],
+    g_codes: &[u64],
+    g_n: usize,
+    work: &mut [u32],
+) -> Verdict
+    requires { ⌜ (8192 ≤ length (now work)) × (sheetFault (now sheet) ≡ 0) × Coded (now sheet) (now f) (now «f_codes») «f_n» × Coded (now sheet) (now g) (now «g_codes») «g_n» ⌝ }
+    ensures { λ r. ⌜ r ≡ verdictBy (judgeFault (now (sheet .entry)) (now (f .entry)) (now (g .entry))) (claimVerdict (now (sheet .entry)) (formulaTree (now (f .entry))) (formulaTree (now (g .entry)))) ⌝ }
+{
+    let answer = work_out(sheet, f, f_codes, f_n, work, 0);
+    match answer {
+        Written::Count(count) => compare(sheet, count, g, g_codes, g_n, work),
+        Written::Refused(fault) => Verdict::Refused(fault),
+    }
+}
+
+// G read for a sheet, F being read: its 10, 11, 8, 12, 13, then 18, then the parts.
+fn claim_on(
+    sheet: &[u8],
+    f: &[u8],
+    f_codes: &[u64],
+    f_n: usize,
+    g: &[u8],
+    work: &mut [u32],
+) -> Verdict
+    requires { ⌜ (sheetFault (now sheet) ≡ 0) × Coded (now sheet) (now f) (now «f_codes») «f_n» ⌝ }
+    ensures { λ r. ⌜ ClaimOn (now (sheet .entry)) (now (f .entry)) (now (g .entry)) (now (work .entry)) r (now (work .exit)) ⌝ }
+{
+    let mut g_codes = [0u64; 32];
+    let parts = prepare(sheet, g, &mut g_codes);
+    match parts {
+        Written::Count(g_n) => {
+            if work.len() < 8192 {
+                return Verdict::Refused(18);
+            }
+            judge(sheet, f, f_codes, f_n, g, &g_codes, g_n, work)
+        }
+        Written::Refused(refusal) => Verdict::Refused(refusal),
+    }
+}
+
+// The claim of two formulas: sheet faults; F's 10, 11, 8, 12, 13; G's; 18; F's parts; G's parts; else the verdict.
+pub fn claim(sheet: &[u8], f: &[u8], g: &[u8], work: &mut [u32]) -> Verdict
+    ensures { λ r. ⌜ (r ≡ claimAnswer (now (sheet .entry)) (now (f .entry)) (now (g .entry)) (length (now (work .entry)))) × ((firstClaimFault (now (sheet .entry)) (now (f .entry)) (now (g .entry)) (length (now (work .entry))) ≡ 0 → ⊥) → now (work .exit) ≡ now (work .entry)) ⌝ }
+{
+    let fault = sheets::sheet_fault(sheet);
+    if fault != 0 {
+        return Verdict::Refused(fault);
+    }
+    let mut f_codes = [0u64; 32];
+    let parts = prepare(sheet, f, &mut f_codes);
+    match parts {
+        Written::Count(f_n) => claim_on(sheet, f, &f_codes, f_n, g, work),
+        Written::Refused(refusal) => Verdict::Refused(refusal),
+    }
 }

@@ -1,0 +1,150 @@
+-- The formula call and the claim from their pieces: the faults in document 01's order, the words, the verdict.
+use Prim.Native.Nat.{ℕ, zero, suc, _+_, _*_, _≤_, _<_, max}
+use native.Mathlib.Omega.{arith}
+use mathlib.Core.Path.{_≡_, refl, sym, _∙_, ap}
+use mathlib.Core.Bool.{Bool, true, false, cond}
+use mathlib.Core.List.{List, [], _∷_, _++_}
+use lib.Dec.{eqb, ltb}
+use lib.ListN.{length, take, drop}
+use lib.Seq.{paste, length-take-le}
+use borrow.Author.Tests.{lt-ltb, le-ltb, eq-eqb, ne-eqb}
+use Rattle.signals.specs.Words.{listFault, signalOf, lastDate}
+use Rattle.signals.specs.Implication.{verdictOf}
+use Rattle.signals.specs.Answers.{writtenOf, outputOf}
+use Rattle.signals.specs.declared.Written.{Written}
+use Rattle.signals.specs.declared.Written.the-variants as written
+use Rattle.signals.specs.declared.Verdict.{Verdict}
+use Rattle.signals.specs.declared.Verdict.the-variants as verdict
+use Rattle.signals.proofs.Settling.{settled-later}
+use Rattle.lists.specs.Questions as questions
+use Rattle.operations.specs.Calls.{firstOf}
+use Rattle.operations.proofs.JudgedCalls.{first-is, next-is, refused, passes-on}
+use Rattle.formulas.specs.Tree.{Tree}
+use Rattle.formulas.specs.Code.{code}
+use Rattle.formulas.specs.Formula.{codeOf, formulaTree}
+use Rattle.laws.specs.Rewriting.{parts}
+use Rattle.laws.proofs.Consequences.{one-verdict}
+use Rattle.sheets.specs.Reading.{sheetFault}
+use Rattle.calls.specs.OnSheet.{exactOn, signalOn, settlingDate}
+use Rattle.calls.specs.Calls.{readingFault, workFault, neededWork, partsFault, workingFault, wordsOn, roomFault, callFault, callAnswer, callOutput, claimFault, claimVerdict, claimAnswer}
+use Rattle.calls.proofs.Settles.{settles}
+use Rattle.calls.proofs.NotRefused.{work-ok, work-short}
+use Rattle.evaluation.specs.Machine.{InSlot, Plan, WorkedOut, Prepared, Coded, runFault, partsIn}
+use Rattle.evaluation.specs.Work.{firstFault, firstClaimFault}
+use Rattle.evaluation.proofs.Exact.{signal-is, settled-at}
+use Rattle.evaluation.proofs.Stepping.{counted, refused-by}
+use Rattle.evaluation.proofs.SlotFacts.{short}
+
+-- handing a list over
+module _ (work out : List ℕ) (n : ℕ) (enough : n ≤ length work) where
+  pub no-room : length out < n
+      → (written.Refused 7 ≡ writtenOf (roomFault (take n work) (length out)) (take n work)) × (out ≡ outputOf (roomFault (take n work) (length out)) (take n work) out)
+  unfolding roomFault writtenOf outputOf
+  no-room h =
+      let l : length (take n work) ≡ n = length-take-le n work enough in
+      (rw (l, lt-ltb (length out) n h), rw (l, lt-ltb (length out) n h))
+
+  pub handed : n ≤ length out → (after : List ℕ) → after ≡ paste out 0 work n
+      → (written.Count n ≡ writtenOf (roomFault (take n work) (length out)) (take n work)) × (after ≡ outputOf (roomFault (take n work) (length out)) (take n work) out)
+  unfolding roomFault writtenOf outputOf
+  handed h after e =
+      let l : length (take n work) ≡ n = length-take-le n work enough in
+      let z : 0 + n ≡ n = omega arith in
+      (rw (l, le-ltb (length out) n h), rw (l, le-ltb (length out) n h) (e ∙ rw z))
+
+-- a formula that was worked out
+module _ (sheet text before after : List ℕ) (answer : Written) (w : WorkedOut sheet before after 0 (formulaTree text) answer) where
+  did : answer ≡ writtenOf (workingFault sheet text) (wordsOn sheet text)
+  unfolding workingFault wordsOn
+  did = w .answer-is
+
+  pub run-refused : (f : ℕ) → answer ≡ written.Refused f → (out : List ℕ)
+      → (written.Refused f ≡ writtenOf (runFault sheet text (length out)) (wordsOn sheet text)) × (out ≡ outputOf (runFault sheet text (length out)) (wordsOn sheet text) out)
+  unfolding runFault
+  run-refused f e out =
+      let q = refused-by (workingFault sheet text) (wordsOn sheet text) f (sym did ∙ e) in
+      refused (workingFault sheet text) _ (wordsOn sheet text) out f (sym (q .0)) (q .1)
+
+  module _ (n : ℕ) (e : answer ≡ written.Count n) where
+    pub run-words : take n after ≡ wordsOn sheet text
+    unfolding wordsOn workingFault
+    run-words =
+        let q = counted (workingFault sheet text) (wordsOn sheet text) n (sym did ∙ e) in
+        rw (q .1) (w .stands (q .0) .stands)
+
+    pub run-fits : 256 ≤ length after → n ≤ length after
+    unfolding wordsOn workingFault
+    run-fits h =
+        let q = counted (workingFault sheet text) (wordsOn sheet text) n (sym did ∙ e) in
+        let s = short (exactOn sheet (formulaTree text)) (w .stands (q .0) .accepted) in
+        omega (arith, q .1)
+
+    pub run-counted : (out out′ : List ℕ) (r : Written)
+        → (r ≡ writtenOf (roomFault (take n after) (length out)) (take n after)) × (out′ ≡ outputOf (roomFault (take n after) (length out)) (take n after) out)
+        → (r ≡ writtenOf (runFault sheet text (length out)) (wordsOn sheet text)) × (out′ ≡ outputOf (runFault sheet text (length out)) (wordsOn sheet text) out)
+    unfolding runFault
+    run-counted out out′ r h =
+        let q = counted (workingFault sheet text) (wordsOn sheet text) n (sym did ∙ e) in
+        passes-on (workingFault sheet text) (roomFault (wordsOn sheet text) (length out)) (wordsOn sheet text) out r out′ (q .0) (rw run-words at h)
+
+-- the code words that preparing left
+pub coded : (sheet text codes : List ℕ) (n : ℕ) (answer : Written) → Prepared sheet text codes answer → answer ≡ written.Count n → length codes ≡ 32 → Coded sheet text codes n
+coded sheet text codes n answer p e l =
+    let q = counted (readingFault sheet text) (codeOf text) n (sym (p .answer-is) ∙ e) in
+    let f = p .few (q .0) in
+    record {
+      few = omega (arith, q .1);
+      enough = omega (arith, q .1);
+      parts-are = rw (q .1) (p .parts-are (q .0));
+      known = p .known (q .0);
+    }
+
+pub read-fine : (sheet text codes : List ℕ) (n : ℕ) (answer : Written) → Prepared sheet text codes answer → answer ≡ written.Count n → readingFault sheet text ≡ 0
+read-fine sheet text codes n answer p e = counted (readingFault sheet text) (codeOf text) n (sym (p .answer-is) ∙ e) .0
+
+pub read-refused : (sheet text codes : List ℕ) (f : ℕ) (answer : Written) → Prepared sheet text codes answer → answer ≡ written.Refused f → (readingFault sheet text ≡ f) × (f ≡ 0 → ⊥)
+read-refused sheet text codes f answer p e = refused-by (readingFault sheet text) (codeOf text) f (sym (p .answer-is) ∙ e)
+
+pub plan : (sheet text codes : List ℕ) (n : ℕ) → Coded sheet text codes n → Plan sheet text codes n
+plan sheet text codes n c = record { tree = formulaTree text; parts-are = c .parts-are; all-known = c .known }
+
+-- the call
+module _ (sheet formula work out : List ℕ) where
+  abbrev pub Called : Written → List ℕ → List ℕ → Type 0
+  Called r out′ work′ =
+      (r ≡ callAnswer sheet formula (length work) out)
+      × (out′ ≡ callOutput sheet formula (length work) out)
+      × ((firstFault sheet formula (length work) ≡ 0 → ⊥) → work′ ≡ work)
+
+  abbrev pub Answers : ℕ → Written → List ℕ → Type 0
+  Answers fault r out′ = (r ≡ writtenOf fault (wordsOn sheet formula)) × (out′ ≡ outputOf fault (wordsOn sheet formula) out)
+
+  pub call-sheet : (f : ℕ) → f ≡ sheetFault sheet → (f ≡ 0 → ⊥) → Called (written.Refused f) out work
+  unfolding callAnswer callOutput callFault
+  call-sheet f e n = let a = refused (sheetFault sheet) _ (wordsOn sheet formula) out f e n in (a .0, a .1, λ x. refl)
+
+  module _ (ok : sheetFault sheet ≡ 0) where
+    from-sheet : (rest : ℕ) (r : Written) (out′ : List ℕ) → Answers rest r out′ → Answers (firstOf (sheetFault sheet) rest) r out′
+    from-sheet rest r out′ h = passes-on (sheetFault sheet) rest (wordsOn sheet formula) out r out′ ok h
+
+    pub call-reading : (f : ℕ) → readingFault sheet formula ≡ f → (f ≡ 0 → ⊥) → Called (written.Refused f) out work
+    unfolding callAnswer callOutput callFault
+    call-reading f e n =
+        let a = from-sheet _ _ out (refused (readingFault sheet formula) _ (wordsOn sheet formula) out f (sym e) n) in (a .0, a .1, λ x. refl)
+
+    module _ (read : readingFault sheet formula ≡ 0) where
+      from-reading : (rest : ℕ) (r : Written) (out′ : List ℕ) → Answers rest r out′ → Answers (firstOf (sheetFault sheet) (firstOf (readingFault sheet formula) rest)) r out′
+      from-reading rest r out′ h = from-sheet _ r out′ (passes-on (readingFault sheet formula) rest (wordsOn sheet formula) out r out′ read h)
+
+      pub call-work : length work < 8192 → Called (written.Refused 18) out work
+      unfolding callAnswer callOutput callFault neededWork
+      call-work h =
+          let w = work-short sheet (length work) h in
+          let a = from-reading _ _ out (refused (workFault sheet (length work)) _ (wordsOn sheet formula) out 18 (sym w) (λ z. omega arith)) in (a .0, a .1, λ x. refl)
+
+      pub call-run : 8192 ≤ length work → (r : Written) (out′ work′ : List ℕ) → Answers (runFault sheet formula (length out)) r out′ → Called r out′ work′
+      unfolding callAnswer callOutput callFault runFault firstFault neededWork
+      call-run h r out′ work′ x =
+          let w = work-ok sheet (length work) h in
+          let a = from-reading _ r out′ (passes-on (workFault sheet (length work)) _ (wordsOn sheet formula) out r out′ w x) in
+          (a .0, a .1, λ n. absurd (n (next-is (sheetFault sheet) _ ok ∙ next-is (readingFault sheet formula) _ read ∙ w)))

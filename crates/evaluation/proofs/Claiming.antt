@@ -1,0 +1,162 @@
+-- The claim of two formulas from its pieces: the faults in document 01's order, then the verdict of the two signals.
+use Prim.Native.Nat.{ℕ, zero, suc, _+_, _-_, _*_, _≤_, _<_, max}
+use native.Mathlib.Omega.{arith}
+use mathlib.Core.Path.{_≡_, refl, sym, _∙_, ap}
+use mathlib.Core.Bool.{Bool, true, false, cond}
+use mathlib.Core.List.{List, [], _∷_, _++_}
+use lib.Dec.{eqb, ltb}
+use lib.ListN.{length, take, drop}
+use lib.Seq.{take-take}
+use borrow.Author.Tests.{eq-eqb, ne-eqb}
+use Rattle.signals.specs.Words.{listFault, signalOf, lastDate}
+use Rattle.signals.specs.Settled.{SettledFrom}
+use Rattle.signals.specs.Implication.{verdictOf}
+use Rattle.signals.specs.declared.Written.{Written}
+use Rattle.signals.specs.declared.Written.the-variants as written
+use Rattle.signals.specs.declared.Verdict.{Verdict}
+use Rattle.signals.specs.declared.Verdict.the-variants.{Refused}
+use Rattle.signals.proofs.Settling.{settled-later}
+use Rattle.lists.specs.Questions.{impliesOf, laterLast}
+use Rattle.lists.specs.Questions as questions
+use Rattle.operations.specs.Calls.{firstOf}
+use Rattle.operations.proofs.JudgedCalls.{first-is, next-is}
+use Rattle.formulas.specs.Tree.{Tree}
+use Rattle.formulas.specs.Formula.{formulaTree}
+use Rattle.laws.specs.Rewriting.{parts}
+use Rattle.laws.proofs.Consequences.{one-verdict}
+use Rattle.sheets.specs.Reading.{sheetFault}
+use Rattle.calls.specs.OnSheet.{exactOn, signalOn, settlingDate}
+use Rattle.calls.specs.Calls.{readingFault, workFault, neededWork, partsFault, workingFault, claimFault, claimVerdict, claimAnswer}
+use Rattle.calls.proofs.Settles.{settles}
+use Rattle.calls.proofs.NotRefused.{work-ok, work-short}
+use Rattle.evaluation.specs.Machine.{InSlot, WorkedOut, judgeFault, verdictBy, claimOnFault, ClaimOn}
+use Rattle.evaluation.specs.Work.{firstClaimFault}
+use Rattle.evaluation.proofs.Exact.{signal-is, settled-at}
+use Rattle.evaluation.proofs.Stepping.{counted, refused-by}
+use Rattle.evaluation.proofs.SlotFacts.{short}
+
+-- faults in their order
+pub by-first : (f g rest : ℕ) (v : Verdict) → g ≡ f → (f ≡ 0 → ⊥) → Refused f ≡ verdictBy (firstOf g rest) v
+unfolding verdictBy
+by-first f g rest v e n =
+    let m : g ≡ 0 → ⊥ = λ z. n (sym e ∙ z) in
+    rw (first-is g rest m, ne-eqb g 0 m, e)
+
+pub by-next : (f rest : ℕ) (v r : Verdict) → f ≡ 0 → r ≡ verdictBy rest v → r ≡ verdictBy (firstOf f rest) v
+by-next f rest v r z h = rw (next-is f rest z) h
+
+by-none : (f : ℕ) (v : Verdict) → f ≡ 0 → v ≡ verdictBy f v
+unfolding verdictBy
+by-none f v z = rw (eq-eqb f 0 z)
+
+by-one : (f g : ℕ) (v : Verdict) → g ≡ f → (f ≡ 0 → ⊥) → Refused f ≡ verdictBy g v
+unfolding verdictBy
+by-one f g v e n = let m : g ≡ 0 → ⊥ = λ z. n (sym e ∙ z) in rw (ne-eqb g 0 m, e)
+
+-- two lists compared
+pub compared : (sheet : List ℕ) → sheetFault sheet ≡ 0 → (t u : Tree) → listFault (exactOn sheet t) ≡ 0 → listFault (exactOn sheet u) ≡ 0
+    → impliesOf (exactOn sheet t) (exactOn sheet u) ≡ claimVerdict sheet t u
+unfolding impliesOf claimVerdict laterLast questions.firstOf
+compared sheet ok t u a b =
+    let n = max (lastDate (exactOn sheet t)) (lastDate (exactOn sheet u)) in
+    let m = max (settlingDate sheet t) (settlingDate sheet u) in
+    rw (a, b, signal-is sheet ok t, signal-is sheet ok u)
+    (one-verdict (signalOn sheet t) (signalOn sheet u) n m
+    (settled-later _ _ n (settled-at sheet ok t a) (omega arith))
+    (settled-later _ _ n (settled-at sheet ok u b) (omega arith))
+    (settled-later _ _ m (settles sheet ok t) (omega arith))
+    (settled-later _ _ m (settles sheet ok u) (omega arith)))
+
+module _ (sheet g before after : List ℕ) (answer : Written) (w : WorkedOut sheet before after 1 (formulaTree g) answer) where
+  did : answer ≡ written.Count (length (exactOn sheet (formulaTree g))) → workingFault sheet g ≡ 0
+  unfolding workingFault
+  did e = counted (partsFault sheet (parts (formulaTree g))) (exactOn sheet (formulaTree g)) _ (sym (w .answer-is) ∙ e) .0
+
+  pub compare-refused : (f : ℕ) (v : Verdict) → answer ≡ written.Refused f → Refused f ≡ verdictBy (workingFault sheet g) v
+  unfolding workingFault
+  compare-refused f v e =
+      let q = refused-by (partsFault sheet (parts (formulaTree g))) (exactOn sheet (formulaTree g)) f (sym (w .answer-is) ∙ e) in
+      by-one f (partsFault sheet (parts (formulaTree g))) v (q .0) (q .1)
+
+  module _ (n : ℕ) (e : answer ≡ written.Count n) where
+    given : (partsFault sheet (parts (formulaTree g)) ≡ 0) × (n ≡ length (exactOn sheet (formulaTree g)))
+    given = counted (partsFault sheet (parts (formulaTree g))) (exactOn sheet (formulaTree g)) n (sym (w .answer-is) ∙ e)
+
+    pub compare-short : n ≤ 256
+    compare-short = let s = short (exactOn sheet (formulaTree g)) (w .stands (given .0) .accepted) in omega (arith, given .1)
+
+    pub compare-done : (ok : sheetFault sheet ≡ 0) (t : Tree) (m : ℕ) → m ≤ 256 → InSlot before 0 m (exactOn sheet t) → (r : Verdict)
+        → r ≡ impliesOf (take m after) (take (256 + n - 256) (drop 256 after)) → r ≡ verdictBy (workingFault sheet g) (claimVerdict sheet t (formulaTree g))
+    unfolding workingFault
+    compare-done ok t m h s r x =
+        let k : 256 + n - 256 ≡ n = omega arith in
+        let second : take n (drop 256 after) ≡ exactOn sheet (formulaTree g) = rw (given .1) (w .stands (given .0) .stands) in
+        let cut : take m (take 256 after) ≡ take m (take 256 before) = ap (take m) (w .kept) in
+        let first : take m after ≡ exactOn sheet t = sym (take-take m 256 after h) ∙ cut ∙ take-take m 256 before h ∙ s .stands in
+        let y : r ≡ impliesOf (exactOn sheet t) (exactOn sheet (formulaTree g)) = rw (k, second, first) at x in
+        y ∙ compared sheet ok t (formulaTree g) (s .accepted) (w .stands (given .0) .accepted) ∙ by-none (partsFault sheet (parts (formulaTree g))) _ (given .0)
+
+module _ (sheet f g before after : List ℕ) (answer : Written) (w : WorkedOut sheet before after 0 (formulaTree f) answer) where
+  pub judge-refused : (x : ℕ) (v : Verdict) → answer ≡ written.Refused x → Refused x ≡ verdictBy (judgeFault sheet f g) v
+  unfolding judgeFault workingFault
+  judge-refused x v e =
+      let q = refused-by (partsFault sheet (parts (formulaTree f))) (exactOn sheet (formulaTree f)) x (sym (w .answer-is) ∙ e) in
+      by-first x (partsFault sheet (parts (formulaTree f))) (workingFault sheet g) v (q .0) (q .1)
+
+  module _ (n : ℕ) (e : answer ≡ written.Count n) where
+    known : (partsFault sheet (parts (formulaTree f)) ≡ 0) × (n ≡ length (exactOn sheet (formulaTree f)))
+    known = counted (partsFault sheet (parts (formulaTree f))) (exactOn sheet (formulaTree f)) n (sym (w .answer-is) ∙ e)
+
+    pub judge-short : n ≤ 256
+    judge-short = let s = short (exactOn sheet (formulaTree f)) (w .stands (known .0) .accepted) in omega (arith, known .1)
+
+    pub judge-done : (r : Verdict)
+        → ((t : Tree) → partsFault sheet (parts t) ≡ 0 → InSlot after 0 n (exactOn sheet t) → r ≡ verdictBy (workingFault sheet g) (claimVerdict sheet t (formulaTree g)))
+        → r ≡ verdictBy (judgeFault sheet f g) (claimVerdict sheet (formulaTree f) (formulaTree g))
+    unfolding judgeFault workingFault
+    judge-done r h =
+        by-next (partsFault sheet (parts (formulaTree f))) (workingFault sheet g) _ r (known .0)
+        (h (formulaTree f) (known .0) (rw (← (known .1)) at (w .stands (known .0))))
+
+-- from G's reading on
+module _ (sheet F G work : List ℕ) where
+  pub on-reading : (f : ℕ) → readingFault sheet G ≡ f → (f ≡ 0 → ⊥) → ClaimOn sheet F G work (Refused f) work
+  unfolding claimOnFault
+  on-reading f e n = record { answer-is = by-first f (readingFault sheet G) _ _ e n; kept = λ x. refl }
+
+  module _ (read : readingFault sheet G ≡ 0) where
+    pub on-work : length work < 8192 → ClaimOn sheet F G work (Refused 18) work
+    unfolding claimOnFault neededWork
+    on-work h =
+        record {
+          answer-is = by-next (readingFault sheet G) _ _ (Refused 18) read (by-first 18 (workFault sheet (length work)) _ _ (work-short sheet (length work) h) (λ z. omega arith));
+          kept = λ x. refl;
+        }
+
+    pub on-judged : 8192 ≤ length work → (r : Verdict) (after : List ℕ) → r ≡ verdictBy (judgeFault sheet F G) (claimVerdict sheet (formulaTree F) (formulaTree G)) → ClaimOn sheet F G work r after
+    unfolding claimOnFault neededWork
+    on-judged h r after x =
+        let w = work-ok sheet (length work) h in
+        record {
+          answer-is = by-next (readingFault sheet G) _ _ r read (by-next (workFault sheet (length work)) _ _ r w x);
+          kept = λ n. absurd (n (next-is (readingFault sheet G) _ read ∙ w));
+        }
+
+  abbrev pub Claimed : Verdict → List ℕ → Type 0
+  Claimed r after = (r ≡ claimAnswer sheet F G (length work)) × ((firstClaimFault sheet F G (length work) ≡ 0 → ⊥) → after ≡ work)
+
+  pub claim-sheet : (f : ℕ) → f ≡ sheetFault sheet → (f ≡ 0 → ⊥) → Claimed (Refused f) work
+  unfolding claimAnswer claimFault verdictBy
+  claim-sheet f e n = (by-first f (sheetFault sheet) _ _ (sym e) n, λ x. refl)
+
+  module _ (ok : sheetFault sheet ≡ 0) where
+    pub claim-reading : (f : ℕ) → readingFault sheet F ≡ f → (f ≡ 0 → ⊥) → Claimed (Refused f) work
+    unfolding claimAnswer claimFault verdictBy
+    claim-reading f e n = (by-next (sheetFault sheet) _ _ (Refused f) ok (by-first f (readingFault sheet F) _ _ e n), λ x. refl)
+
+    pub claim-goes-on : readingFault sheet F ≡ 0 → (r : Verdict) (after : List ℕ) → ClaimOn sheet F G work r after → Claimed r after
+    unfolding claimAnswer claimFault claimOnFault judgeFault firstClaimFault verdictBy
+    claim-goes-on read r after c = (
+      by-next (sheetFault sheet) _ _ r ok (by-next (readingFault sheet F) _ _ r read (c .answer-is)),
+      λ n. c .kept (λ z. n (next-is (sheetFault sheet) _ ok ∙ next-is (readingFault sheet F) _ read ∙ z)),
+    )

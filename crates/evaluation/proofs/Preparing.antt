@@ -1,0 +1,233 @@
+-- Reading a formula for a sheet: its code words, its names on the sheet, its lengths.
+use Prim.Native.Nat.{ℕ, zero, suc, _+_, _/_, _%_, _≤_, _<_, max}
+use native.Mathlib.Decide.{ℕ-discrete}
+use native.Mathlib.Omega.{arith}
+use mathlib.Core.Path.{_≡_, refl, sym, _∙_, ap}
+use mathlib.Core.Bool.{Bool, true, false, cond, not, _&&_, _||_, and-assoc, and-true}
+use mathlib.Core.List.{List, [], _∷_, _++_, map}
+use lib.Dec.{eqb, ltb}
+use lib.ListN.{length, take, drop, getD, length-map}
+use lib.Seq.{take-at}
+use borrow.Author.Tests.{eq-eqb, ne-eqb, ltb-true, ltb-false}
+use Rattle.signals.specs.Moment.{M}
+use Rattle.signals.specs.Answers.{writtenOf}
+use Rattle.signals.specs.declared.Written.{Written}
+use Rattle.signals.specs.declared.Written.the-variants.{Count, Refused}
+use Rattle.signals.proofs.Truth.{and-left, and-right}
+use Rattle.operations.specs.Calls.{firstOf}
+use Rattle.operations.proofs.JudgedCalls.{first-is, next-is}
+use Rattle.formulas.specs.Tree.{Tree, Leaf, Unary, Binary, leaf, unary, binary, down, up, name}
+use Rattle.formulas.specs.Code.{Part, operand, one, two, code, longest, ticksOf}
+use Rattle.formulas.specs.Formula.{partOf, codeOf, codeAfter, formulaFault, formulaTree, longestOf, partsOf, depthOf, accepted, nameAt}
+use Rattle.formulas.proofs.Coding.{code-exact}
+use Rattle.formulas.proofs.Reading.{reader-exact, parts-exact, longest-of, faults-exact}
+use Rattle.formulas.proofs.Storing.{code-after-front}
+use Rattle.sheets.specs.Names.{wellNamed, same, among}
+use Rattle.sheets.specs.Reading.{sheetFault, signalsOn, names, Entry, nameOf}
+use Rattle.sheets.specs.Calls.{lookupFault}
+use Rattle.sheets.proofs.Steps.{same-equal}
+use Rattle.calls.specs.OnSheet.{namesFound, leafFound}
+use Rattle.calls.specs.Calls.{readingFault}
+use Rattle.calls.proofs.FirstFault.{passed, both-none, missed}
+use Rattle.calls.proofs.ReadingFaults.{derived}
+use Rattle.calls.proofs.SheetLists.{Sound, AllSound, sheet-sound}
+use Rattle.evaluation.specs.Machine.{leafOf, leafKnown, Known, AllKnown, partsIn, partFound, allFound, Prepared}
+use Rattle.evaluation.proofs.Leaves.{leaf-name, leaf-up, leaf-down}
+use Rattle.evaluation.proofs.PartCodes.{part-leaf-low, part-leaf-high, part-unary, part-binary}
+use Rattle.evaluation.proofs.Stepping.{counted, refused-by}
+use Rattle.evaluation.proofs.Looping.{rest, rest-next, rest-none}
+
+-- names on an accepted sheet are names
+named-well : (n : List ℕ) (es : List Entry) → AllSound es → among n (names es) ≡ true → wellNamed n ≡ true
+unfolding among names
+named-well n [] s h = absurd (let z : _≡_ {A = ℕ} 1 0 = ap (λ b. cond b 0 1) h in omega arith)
+named-well n (e ∷ es) s h = go (same (nameOf e) n) refl h (λ k. named-well n es (s .1) k)
+  where
+    go : (b : Bool) → same (nameOf e) n ≡ b → (b || among n (names es)) ≡ true → (among n (names es) ≡ true → wellNamed n ≡ true) → wellNamed n ≡ true
+    go true q k r = rw (same-equal (nameOf e) n q) at (s .0 .named)
+    go false q k r = r k
+
+-- so a lookup finds a name exactly when the sheet has it
+pub looked : (sheet n : List ℕ) → sheetFault sheet ≡ 0 → eqb (lookupFault sheet n) 0 ≡ among n (names (signalsOn sheet))
+unfolding lookupFault
+looked sheet n ok = go (among n (names (signalsOn sheet))) (wellNamed n) refl refl
+  where
+    go : (a w : Bool) → among n (names (signalsOn sheet)) ≡ a → wellNamed n ≡ w → eqb (lookupFault sheet n) 0 ≡ among n (names (signalsOn sheet))
+    go true true p q = rw (ok, q, p)
+    go true false p q = absurd (let z : _≡_ {A = ℕ} 0 1 = ap (λ b. cond b 0 1) (sym (named-well n (signalsOn sheet) (sheet-sound sheet ok) p) ∙ q) in omega arith)
+    go false true p q = rw (ok, q, p)
+    go false false p q = rw (ok, q, p)
+
+-- the parts of a tree and their names
+found-append : (sheet : List ℕ) (ps qs : List Part) → allFound sheet (ps ++ qs) ≡ (allFound sheet ps && allFound sheet qs)
+unfolding allFound
+found-append sheet [] qs = refl
+found-append sheet (p ∷ ps) qs = ap (λ b. partFound sheet p && b) (found-append sheet ps qs) ∙ sym (and-assoc (partFound sheet p) (allFound sheet ps) (allFound sheet qs))
+
+pub found-tree : (sheet : List ℕ) (t : Tree) → allFound sheet (code t) ≡ namesFound sheet t
+unfolding allFound code namesFound
+found-tree sheet (leaf l) = and-true (leafFound sheet l)
+found-tree sheet (unary o t) = found-append sheet (code t) (one o ∷ []) ∙ ap (λ b. b && true) (found-tree sheet t) ∙ and-true (namesFound sheet t)
+found-tree sheet (binary o t u) =
+    found-append sheet (code t) (code u ++ (two o ∷ []))
+    ∙ ap (λ b. allFound sheet (code t) && b) (found-append sheet (code u) (two o ∷ []) ∙ and-true (allFound sheet (code u)))
+    ∙ rw (found-tree sheet t, found-tree sheet u)
+
+known-append : (sheet : List ℕ) (ps qs : List Part) → AllKnown sheet ps → AllKnown sheet qs → AllKnown sheet (ps ++ qs)
+known-append sheet [] qs a b = b
+known-append sheet (p ∷ ps) qs a b = (a .0, known-append sheet ps qs (a .1) b)
+
+pub known-tree : (sheet : List ℕ) → sheetFault sheet ≡ 0 → (t : Tree) → namesFound sheet t ≡ true → longest t ≤ M → AllKnown sheet (code t)
+unfolding code namesFound longest
+known-tree sheet ok (leaf down) f l = (tt, tt)
+known-tree sheet ok (leaf up) f l = (tt, tt)
+known-tree sheet ok (leaf (name n)) f l = ((named-well n (signalsOn sheet) (sheet-sound sheet ok) f, f), tt)
+known-tree sheet ok (unary o t) f l = known-append sheet (code t) (one o ∷ []) (known-tree sheet ok t f (omega arith)) (omega arith, tt)
+known-tree sheet ok (binary o t u) f l =
+    known-append sheet (code t) (code u ++ (two o ∷ []))
+    (known-tree sheet ok t (and-left (namesFound sheet t) (namesFound sheet u) f) (omega arith))
+    (known-append sheet (code u) (two o ∷ []) (known-tree sheet ok u (and-right (namesFound sheet t) (namesFound sheet u) f) (omega arith)) (tt, tt))
+
+-- an accepted formula: its tree, its code words
+module _ (text : List ℕ) (fine : formulaFault text ≡ 0) where
+  tree-read : (d : ℕ) × ((formulaTree text ≡ derived text fine .0) × (depthOf text ≡ d))
+  tree-read = let d = derived text fine in let r = reader-exact text (d .0) (d .1) .0 (d .2) in (d .1, (r .1, r .2))
+
+  pub code-is : map (partOf text) (codeOf text) ≡ code (formulaTree text)
+  code-is =
+      let d = derived text fine in
+      code-exact text (d .0) (d .1) (d .2) (faults-exact text .4 .0 fine .2) ∙ ap code (sym (tree-read .1 .0))
+
+  clear : (longestOf text ≤ M) × (length (partsOf text) ≤ 32)
+  unfolding formulaFault
+  clear =
+      let a = passed (eqb (length text) 0 || ltb 1024 (length text)) 10 _ (omega arith) fine in
+      let b = passed (not (accepted text)) 11 _ (omega arith) (a .1) in
+      let c = passed (ltb M (longestOf text)) 8 _ (omega arith) (b .1) in
+      let d = passed (ltb 32 (length (partsOf text)) || ltb 16 (depthOf text)) 12 _ (omega arith) (c .1) in
+      (ltb-false M (longestOf text) (c .0), ltb-false 32 (length (partsOf text)) (or-none (ltb 32 (length (partsOf text))) (ltb 16 (depthOf text)) (d .0)))
+    where
+      or-none : (a b : Bool) → (a || b) ≡ false → a ≡ false
+      or-none true b h = h
+      or-none false b h = refl
+
+  pub lengths-small : longest (formulaTree text) ≤ M
+  lengths-small =
+      let d = derived text fine in
+      let l : longestOf text ≡ longest (d .0) = longest-of text (d .0) (d .1) (d .2) in
+      rw (tree-read .1 .0) (omega (arith, clear .0))
+
+  pub code-short : length (codeOf text) ≤ 32
+  code-short =
+      let d = derived text fine in
+      let p : partsOf text ≡ code (formulaTree text) = parts-exact text (d .0) (d .1) (d .2) ∙ ap code (sym (tree-read .1 .0)) in
+      let m : length (codeOf text) ≡ length (partsOf text) = sym (length-map (codeOf text) (partOf text)) ∙ ap length (code-is ∙ sym p) in
+      omega (arith, clear .1)
+
+  pub parts-there : (codes old : List ℕ) → codes ≡ codeAfter text old → 32 ≤ length old → partsIn text codes (length (codeOf text)) ≡ code (formulaTree text)
+  unfolding partsIn
+  parts-there codes old e h =
+      let s = code-short in
+      rw (e, code-after-front text old fine (omega arith), take-at (codeOf text) (drop (length (codeOf text)) old) (length (codeOf text)) refl) code-is
+
+-- one code word's name
+pub found-name : (sheet text : List ℕ) (w : ℕ) (n : List ℕ) (fault : ℕ) → sheetFault sheet ≡ 0 → w % 16 ≡ 2 → n ≡ nameAt text (w / 256) (w / 16 % 16) → fault ≡ lookupFault sheet n
+    → eqb fault 0 ≡ partFound sheet (partOf text w)
+found-name sheet text w n fault ok e en ef =
+    rw (part-leaf-low text w (omega arith), leaf-name text w e, ef, en) (looked sheet (nameAt text (w / 256) (w / 16 % 16)) ok)
+
+pub found-other : (sheet text : List ℕ) (w : ℕ) → (w % 16 ≡ 2 → ⊥) → true ≡ partFound sheet (partOf text w)
+found-other sheet text w ne = low (ltb (w % 16) 3) refl
+  where
+    leafy : true ≡ leafFound sheet (leafOf text w)
+    leafy = one-or-not (ℕ-discrete (w % 16) 1)
+      where
+        one-or-not : Dec (w % 16 ≡ 1) → true ≡ leafFound sheet (leafOf text w)
+        one-or-not (yes e) = rw (leaf-up text w e)
+        one-or-not (no x) = rw (leaf-down text w ne x)
+
+    high : 3 ≤ w % 16 → (b : Bool) → ltb (w % 16) 12 ≡ b → (c : Bool) → ltb (w % 16) 8 ≡ c → true ≡ partFound sheet (partOf text w)
+    high l true p true q = rw (part-unary text w l (ltb-true (w % 16) 8 q))
+    high l true p false q = rw (part-binary text w (ltb-false (w % 16) 8 q) (ltb-true (w % 16) 12 p))
+    high l false p c q = rw (part-leaf-high text w l (ltb-false (w % 16) 12 p)) leafy
+
+    low : (b : Bool) → ltb (w % 16) 3 ≡ b → true ≡ partFound sheet (partOf text w)
+    low true p = rw (part-leaf-low text w (ltb-true (w % 16) 3 p)) leafy
+    low false p = high (ltb-false (w % 16) 3 p) (ltb (w % 16) 12) refl (ltb (w % 16) 8) refl
+
+-- the loop over all of them
+pub all-of : (sheet text codes : List ℕ) (n : ℕ) → allFound sheet (partsIn text codes n) ≡ allFound sheet (rest text codes n 0)
+unfolding partsIn rest
+all-of sheet text codes n = refl
+
+pub next-found : (sheet text codes : List ℕ) (n i : ℕ) → n ≤ length codes → i < n → (b : Bool) → b ≡ partFound sheet (partOf text (getD codes i 0))
+    → allFound sheet (rest text codes n i) ≡ (b && allFound sheet (rest text codes n (i + 1)))
+unfolding allFound
+next-found sheet text codes n i h l b e = rw (rest-next text codes n i h l, e)
+
+pub none-left : (sheet text codes : List ℕ) (n i : ℕ) → n ≤ length codes → n ≤ i → allFound sheet (rest text codes n i) ≡ true
+unfolding allFound
+none-left sheet text codes n i h l = rw (rest-none text codes n i h l)
+
+-- the outcomes of preparing
+module _ (sheet text codes old : List ℕ) (answer : Written) (ok : sheetFault sheet ≡ 0) (long : length old ≡ 32) (a : answer ≡ writtenOf (formulaFault text) (codeOf text)) (e : codes ≡ codeAfter text old) where
+  pub prepare-refused : (f : ℕ) → answer ≡ Refused f → Prepared sheet text codes (Refused f)
+  unfolding readingFault
+  prepare-refused f r =
+      let q = refused-by (formulaFault text) (codeOf text) f (sym a ∙ r) in
+      let x : formulaFault text ≡ 0 → ⊥ = λ z. q .1 (sym (q .0) ∙ z) in
+      let s : readingFault sheet text ≡ formulaFault text = first-is (formulaFault text) _ x in
+      record {
+        answer-is = sym r ∙ a ∙ rw s refl;
+        few = λ z. absurd (x (sym s ∙ z));
+        parts-are = λ z. absurd (x (sym s ∙ z));
+        known = λ z. absurd (x (sym s ∙ z));
+      }
+
+  module _ (n : ℕ) (r : answer ≡ Count n) where
+    fine-text : formulaFault text ≡ 0
+    fine-text = counted (formulaFault text) (codeOf text) n (sym a ∙ r) .0
+
+    pub count-is : n ≡ length (codeOf text)
+    count-is = counted (formulaFault text) (codeOf text) n (sym a ∙ r) .1
+
+    pub count-short : n ≤ 32
+    count-short = let s = code-short text fine-text in let k = count-is in omega arith
+
+    there : partsIn text codes (length (codeOf text)) ≡ code (formulaTree text)
+    there = parts-there text fine-text codes old e (omega arith)
+
+    names-are : (b : Bool) → b ≡ allFound sheet (partsIn text codes n) → b ≡ namesFound sheet (formulaTree text)
+    names-are b h = h ∙ ap (λ k. allFound sheet (partsIn text codes k)) count-is ∙ ap (allFound sheet) there ∙ found-tree sheet (formulaTree text)
+
+    pub prepare-found : (b : Bool) → b ≡ allFound sheet (partsIn text codes n) → b ≡ true → Prepared sheet text codes (Count n)
+    unfolding readingFault
+    prepare-found b h t =
+        let f : namesFound sheet (formulaTree text) ≡ true = sym (names-are b h) ∙ t in
+        let s : readingFault sheet text ≡ 0 = next-is (formulaFault text) _ fine-text ∙ rw f refl in
+        record {
+          answer-is = sym r ∙ a ∙ rw (s, fine-text) refl;
+          few = λ z. code-short text fine-text;
+          parts-are = λ z. there;
+          known = λ z. known-tree sheet ok (formulaTree text) f (lengths-small text fine-text);
+        }
+
+    pub prepare-lacking : (b : Bool) → b ≡ allFound sheet (partsIn text codes n) → b ≡ false → Prepared sheet text codes (Refused 13)
+    unfolding readingFault writtenOf
+    prepare-lacking b h t =
+        let f : namesFound sheet (formulaTree text) ≡ false = sym (names-are b h) ∙ t in
+        let s : readingFault sheet text ≡ 13 = next-is (formulaFault text) _ fine-text ∙ rw f refl in
+        record {
+          answer-is = rw s refl;
+          few = λ z. absurd (let q : _≡_ {A = ℕ} 13 0 = sym s ∙ z in omega arith);
+          parts-are = λ z. absurd (let q : _≡_ {A = ℕ} 13 0 = sym s ∙ z in omega arith);
+          known = λ z. absurd (let q : _≡_ {A = ℕ} 13 0 = sym s ∙ z in omega arith);
+        }
+
+pub next-true : (sheet text codes : List ℕ) (n i : ℕ) → n ≤ length codes → i < n → (b : Bool) → b ≡ partFound sheet (partOf text (getD codes i 0)) → b ≡ true
+    → allFound sheet (rest text codes n i) ≡ allFound sheet (rest text codes n (i + 1))
+next-true sheet text codes n i h l b e t = next-found sheet text codes n i h l b e ∙ rw t
+
+pub next-false : (sheet text codes : List ℕ) (n i : ℕ) → n ≤ length codes → i < n → (b : Bool) → b ≡ partFound sheet (partOf text (getD codes i 0)) → b ≡ false
+    → allFound sheet (rest text codes n i) ≡ false
+next-false sheet text codes n i h l b e t = next-found sheet text codes n i h l b e ∙ rw t
