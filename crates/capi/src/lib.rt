@@ -9,6 +9,8 @@ ghost use Rattle.lists.specs.Questions.{valueAtOf, valueInOf, equalOf, impliesO
 ghost use Rattle.sheets.specs.Reading.{sheetFault};
 ghost use Rattle.sheets.specs.Writing.{sheetBytes};
 ghost use Rattle.sheets.specs.Calls.{beginFault, placeOf, appendFault, appended};
+ghost use Rattle.calls.specs.Calls.{callAnswer, callOutput, claimAnswer};
+ghost use Rattle.evaluation.specs.Work.{firstFault, firstClaimFault};
 ghost use Rattle.capi.specs.Packing.{
   packFault,
   packWritten,
@@ -232,4 +234,25 @@ pub extern "C" fn sgl_append(sheet: &[u8], name: &[u8], list: &[u32], out: &mut 
     ensures { λ r. ⌜ Exported (appendFault (now (sheet .entry)) (now (name .entry)) (now (list .entry)) (length (now (out .entry)))) (appended (now (sheet .entry)) (now (name .entry)) (now (list .entry))) (now (out .entry)) r (now (out .exit)) ⌝ }
 {
     pack_written(sheets::append(sheet, name, list, out))
+}
+
+// The list of a formula's signal on a sheet. Refused before the work starts, the work area is as it was; after that it is free.
+#[no_mangle]
+pub extern "C" fn sgl_evaluate(
+    sheet: &[u8],
+    formula: &[u8],
+    work: &mut [u32],
+    out: &mut [u32],
+) -> u32
+    ensures { λ r. ⌜ (r ≡ packWritten (callAnswer (now (sheet .entry)) (now (formula .entry)) (length (now (work .entry))) (now (out .entry)))) × (now (out .exit) ≡ callOutput (now (sheet .entry)) (now (formula .entry)) (length (now (work .entry))) (now (out .entry))) × ((firstFault (now (sheet .entry)) (now (formula .entry)) (length (now (work .entry))) ≡ 0 → ⊥) → now (work .exit) ≡ now (work .entry)) ⌝ }
+{
+    pack_written(evaluation::evaluate(sheet, formula, work, out))
+}
+
+// The verdict of the claim f to g on a sheet.
+#[no_mangle]
+pub extern "C" fn sgl_claim(sheet: &[u8], f: &[u8], g: &[u8], work: &mut [u32]) -> u64
+    ensures { λ r. ⌜ (r ≡ packVerdict (claimAnswer (now (sheet .entry)) (now (f .entry)) (now (g .entry)) (length (now (work .entry))))) × ((firstClaimFault (now (sheet .entry)) (now (f .entry)) (now (g .entry)) (length (now (work .entry))) ≡ 0 → ⊥) → now (work .exit) ≡ now (work .entry)) ⌝ }
+{
+    pack_verdict(evaluation::claim(sheet, f, g, work))
 }
