@@ -1,0 +1,7 @@
+-- The bounds by which every packed number fits.
+pub mod SmallAnswers
+pub mod SmallLists
+pub mod SmallOperations
+pub mod SmallSheets
+pub mod Connected
+pub mod SmallCalls

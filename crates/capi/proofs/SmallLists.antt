@@ -1,0 +1,64 @@
+-- The answers of the questions on lists are small.
+use Prim.Native.Nat.{ℕ, _<_}
+use native.Mathlib.Omega.{arith}
+use mathlib.Core.Path.{_≡_}
+use mathlib.Core.Bool.{Bool, true, false, cond, _||_}
+use mathlib.Core.List.{List}
+use lib.Dec.{eqb, ltb}
+use lib.ListN.{length}
+use Rattle.signals.specs.Moment.{M}
+use Rattle.signals.specs.Words.{listFault, tidyFault}
+use Rattle.signals.specs.Answers.{writtenOf}
+use Rattle.signals.specs.Tidying.{tidied}
+use Rattle.signals.specs.declared.Told.the-variants as told
+use Rattle.signals.proofs.TidyFaults.{tidyFaultsExact}
+use Rattle.signals.proofs.Tidying.{tidying}
+use Rattle.lists.specs.Questions.{firstOf, toldValue, toldOf, instantFault, gapFault, valueAtOf, valueInOf, equalOf, impliesOf, tidyingFault}
+use Rattle.sheets.proofs.Locating.{both-none}
+use Rattle.sheets.proofs.Accepting.{listed-some}
+use Rattle.capi.specs.Packing.{SmallWritten, SmallTold, SmallVerdict}
+use Rattle.capi.proofs.SmallAnswers.{choice, list-small, written-small, answer-small}
+
+first-small : (f g : ℕ) → f < 65536 → g < 65536 → firstOf f g < 65536
+unfolding firstOf
+first-small f g a b = choice (eqb f 0) g f b a
+
+pair-small : (a b : List ℕ) → firstOf (listFault a) (listFault b) < 65536
+pair-small a b = first-small (listFault a) (listFault b) (list-small a) (list-small b)
+
+told-small : (fault : ℕ) (v : Bool) → fault < 65536 → SmallTold (toldOf fault v)
+unfolding toldOf
+told-small fault v h = go (eqb fault 0) v
+  where
+    go : (t w : Bool) → SmallTold (cond t (toldValue w) (told.Refused fault))
+    go true true = tt
+    go true false = tt
+    go false w = h
+
+pub value-at-small : (l : List ℕ) (k : ℕ) → SmallTold (valueAtOf l k)
+unfolding valueAtOf instantFault
+value-at-small l k =
+    told-small _ _
+    (first-small (listFault l) _ (list-small l) (choice (eqb k 0 || ltb M k) 9 0 (omega arith) (omega arith)))
+
+pub value-in-small : (l : List ℕ) (k : ℕ) → SmallTold (valueInOf l k)
+unfolding valueInOf gapFault
+value-in-small l k =
+    told-small _ _ (first-small (listFault l) _ (list-small l) (choice (ltb M k) 9 0 (omega arith) (omega arith)))
+
+pub equal-small : (a b : List ℕ) → SmallTold (equalOf a b)
+unfolding equalOf
+equal-small a b = told-small _ _ (pair-small a b)
+
+pub implies-small : (a b : List ℕ) → SmallVerdict (impliesOf a b)
+unfolding impliesOf
+implies-small a b = answer-small _ _ _ _ (pair-small a b)
+
+pub tidy-small : (l : List ℕ) (n : ℕ) → SmallWritten (writtenOf (tidyingFault l n) (tidied l))
+unfolding tidyingFault firstOf
+tidy-small l n =
+    written-small _ _
+    (choice (eqb (tidyFault l) 0) (cond (ltb n (length (tidied l))) 7 0) (tidyFault l)
+    (choice (ltb n (length (tidied l))) 7 0 (omega arith) (omega arith))
+    (omega (arith, tidyFaultsExact .range l)))
+    (λ z. omega (arith, listed-some (tidied l) (tidying .accepted l (both-none (tidyFault l) _ z .0)) .1))

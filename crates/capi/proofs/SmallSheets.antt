@@ -1,0 +1,128 @@
+-- The answers of the calls on sheets are small: a sheet has at most 32 signals of at most 1,034 bytes.
+use Prim.Native.Nat.{ℕ, zero, suc, _+_, _-_, _*_, _<_, _≤_}
+use native.Mathlib.Omega.{arith}
+use mathlib.Core.Path.{_≡_, refl, sym, ap, _∙_}
+use mathlib.Core.Bool.{Bool, true, false, not, cond, _||_}
+use mathlib.Core.Logic.{_⊎_, inl, inr}
+use mathlib.Core.List.{List, [], _∷_, _++_}
+use lib.Dec.{eqb, ltb, leb}
+use lib.ListN.{length, drop, length-append, length-drop}
+use borrow.Author.Tests.{eqb-true}
+use Rattle.signals.specs.Words.{listFault}
+use Rattle.signals.specs.Answers.{writtenOf}
+use Rattle.sheets.specs.Bytes.{bytes16}
+use Rattle.sheets.specs.Names.{wellNamed, among}
+use Rattle.sheets.specs.Reading.{signalSize, wordCount, nameAt, signalFault, signalsFault, sheetFault, countOn, signalsOn, names, Entry, entry}
+use Rattle.sheets.specs.Writing.{entryBytes, entriesBytes, sheetBytes}
+use Rattle.sheets.specs.Calls.{beginFault, lookupFault, placeOf, appended, appendFault}
+use Rattle.sheets.specs.declared.Place.{Place}
+use Rattle.sheets.specs.declared.Place.the-variants as place
+use Rattle.sheets.proofs.Judging.{sound}
+use Rattle.sheets.proofs.Locating.{both-none, front-none, signals-none, place-within, faultAt, lookup-none, place-fault}
+use Rattle.sheets.proofs.Fields.{named-short}
+use Rattle.sheets.proofs.Filling.{two, length-entry}
+use Rattle.sheets.proofs.Accepting.{listed-some}
+use Rattle.sheets.proofs.Appending.{length-on, entries-snoc, appends}
+use Rattle.calls.proofs.SheetLists.{Sound, AllSound, OfSheets, sheet-sound, sheet-of}
+use Rattle.capi.specs.Packing.{SmallWritten, SmallPlace}
+use Rattle.capi.proofs.SmallAnswers.{choice, list-small, written-small}
+
+pub sheet-small : (sheet : List ℕ) → sheetFault sheet < 65536
+sheet-small sheet = go (sheetFault sheet) (sheet-of sheet)
+  where
+    go : (f : ℕ) → OfSheets f → f < 65536
+    go f (inl e) = omega arith
+    go f (inr e) = omega (arith, e .1)
+
+empty-short : length (sheetBytes []) < 65536
+unfolding sheetBytes bytes16 entriesBytes
+empty-short = omega arith
+
+pub begin-small : (room : ℕ) → SmallWritten (writtenOf (beginFault room) (sheetBytes []))
+unfolding beginFault
+begin-small room =
+    written-small _ _ (choice (ltb room (length (sheetBytes []))) 7 0 (omega arith) (omega arith)) (λ z. empty-short)
+
+signals-short : (earlier : List (List ℕ)) (n : ℕ) (rest : List ℕ) → signalsFault earlier n rest ≡ 0 → length rest ≤ 1034 * n
+unfolding signalsFault signalSize
+signals-short earlier zero rest z = last (eqb (length rest) 0) refl z
+  where
+    last : (t : Bool) → eqb (length rest) 0 ≡ t → _≡_ {A = ℕ} (cond t 0 15) 0 → length rest ≤ 0
+    last true e k = omega (arith, eqb-true (length rest) 0 e)
+    last false e k = absurd (omega arith)
+signals-short earlier (suc n) rest z =
+    let e = both-none (signalFault earlier rest) _ z in
+    let m = sound earlier rest (e .0) .most in
+    let h = signals-short (earlier ++ nameAt rest ∷ []) n (drop (10 + 4 * wordCount rest) rest) (e .1) in
+    omega (arith, length-drop (10 + 4 * wordCount rest) rest)
+
+sheet-short : (sheet : List ℕ) → sheetFault sheet ≡ 0 → length sheet ≤ 33095
+sheet-short sheet z =
+    let f = front-none sheet z .few in
+    omega (arith, signals-short [] (countOn sheet) (drop 7 sheet) (signals-none sheet z), length-drop 7 sheet)
+
+lookup-small : (sheet name : List ℕ) → lookupFault sheet name < 65536
+unfolding lookupFault
+lookup-small sheet name =
+    choice (eqb (sheetFault sheet) 0) _ (sheetFault sheet)
+    (choice (wellNamed name) _ 16 (choice (among name (names (signalsOn sheet))) 0 13 (omega arith) (omega arith)) (omega arith))
+    (sheet-small sheet)
+
+pub place-small : (sheet name : List ℕ) → SmallPlace (placeOf sheet name)
+place-small sheet name = go (placeOf sheet name) refl
+  where
+    go : (p : Place) → placeOf sheet name ≡ p → SmallPlace p
+    go (place.At start count) e =
+        let z : lookupFault sheet name ≡ 0 = sym (place-fault sheet name) ∙ ap faultAt e in
+        let l = sheet-short sheet (lookup-none sheet name z .fine) in
+        let w = place-within sheet name start count e in
+        (omega arith, omega arith)
+    go (place.Refused f) e =
+        let z : f ≡ lookupFault sheet name = sym (ap faultAt e) ∙ place-fault sheet name in
+        omega (arith, lookup-small sheet name)
+
+entry-short : (name list : List ℕ) → wellNamed name ≡ true → listFault list ≡ 0 → length (entryBytes (entry name list)) ≤ 1034
+entry-short name list n l = omega (arith, length-entry name list (named-short name n), listed-some list l .1)
+
+entries-short : (es : List Entry) → AllSound es → length (entriesBytes es) ≤ 1034 * length es
+unfolding entriesBytes
+entries-short [] h = omega arith
+entries-short (entry name list ∷ es) h =
+    omega
+    (arith, length-append (entryBytes (entry name list)) (entriesBytes es), entry-short name list (h .0 .named) (h .0 .listed), entries-short es (h .1))
+
+-- a sheet with one signal more
+bytes-of : (es : List Entry) (name list : List ℕ)
+    → length (sheetBytes (es ++ entry name list ∷ [])) ≡ 7 + (length (entriesBytes es) + length (entryBytes (entry name list)))
+unfolding sheetBytes bytes16
+bytes-of es name list =
+    simp (length-append, entries-snoc) (omega arith)
+
+appended-bytes : (sheet name list : List ℕ)
+    → length (appended sheet name list) ≡ 7 + (length (entriesBytes (signalsOn sheet)) + length (entryBytes (entry name list)))
+unfolding appended
+appended-bytes sheet name list = bytes-of (signalsOn sheet) name list
+
+appended-short : (sheet name list : List ℕ) (room : ℕ) → appendFault sheet name list room ≡ 0 → length (appended sheet name list) < 65536
+appended-short sheet name list room z =
+    let a = appends sheet name list room z in
+    let s = entries-short (signalsOn sheet) (sheet-sound sheet (a .fine)) in
+    let e = entry-short name list (a .named) (a .listed) in
+    let f = a .fewer in
+    omega (arith, length-on sheet, appended-bytes sheet name list)
+
+append-fault-small : (sheet name list : List ℕ) (room : ℕ) → appendFault sheet name list room < 65536
+unfolding appendFault
+append-fault-small sheet name list room =
+    choice (eqb (sheetFault sheet) 0) _ (sheetFault sheet)
+    (choice (not (wellNamed name) || among name (names (signalsOn sheet))) 16 _ (omega arith)
+    (choice (eqb (listFault list) 0) _ (listFault list)
+    (choice (leb 32 (length (signalsOn sheet))) 15 _ (omega arith)
+    (choice (ltb room (length (appended sheet name list))) 7 0 (omega arith) (omega arith)))
+    (list-small list)))
+    (sheet-small sheet)
+
+pub append-small : (sheet name list : List ℕ) (room : ℕ)
+    → SmallWritten (writtenOf (appendFault sheet name list room) (appended sheet name list))
+append-small sheet name list room =
+    written-small _ _ (append-fault-small sheet name list room) (appended-short sheet name list room)

@@ -1,0 +1,23 @@
+-- `capi::sgl_ton` packs the answer and leaves the output as the call does.
+use borrow.Author.Needs.{needs}
+use mathlib.Core.Path.{_≡_, sym, ap, subst, _∙_}
+use Rattle.signals.specs.declared.Written.{Written}
+use Rattle.capi.specs.Packing.{packWritten, SmallWritten}
+use Rattle.capi.proofs.SmallOperations.{delay-small}
+use Rattle.capi.proofs.sgl_ton.Statement.{statement}
+use Rattle.capi.proofs.sgl_ton.Tie as tie
+
+ton-requires : tie.Need-ton-requires
+ton-requires c κs = search needs
+
+pack-written-requires : tie.Need-pack-written-requires
+pack-written-requires c κs = subst (λ (x : Written). SmallWritten x) (sym (c .before .before .ton .ensures .0)) (delay-small _ _ _ _)
+
+same-length : tie.Need-same-length
+same-length c = search needs
+
+returns : tie.Need-returns
+returns c = (c .pack-written .ensures ∙ ap packWritten (c .before .before .before .ton .ensures .0), c .before .before .before .ton .ensures .1)
+
+pub sgl-ton-spec : {M : Type 1} → statement M
+sgl-ton-spec = tie.close (tie.spec ton-requires pack-written-requires same-length returns)

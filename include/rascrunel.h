@@ -1,0 +1,122 @@
+/* Rascrunel: timing signals as lists of words, sheets of named signals, formulas and claims.
+ *
+ * The functions below are proved: each comes to an end on every input, judges its input, and gives the number that
+ * crates/capi/specs defines. This header is not proved; it only declares them.
+ *
+ * Lists. A list is 1 to 256 words. The first is 0 or 1, the value from the start on. Each later word is
+ * 4 * date + 2 * (value at the date) + (value after it). Dates rise strictly from 1 and are at most 1073741823 (M). A word
+ * that changes nothing is refused, so a signal has one list.
+ *
+ * Slices. Each list, sheet, name, formula, work area and output is two arguments, a pointer and a count of elements. The
+ * pointer is never null, not even when the count is 0, and is aligned for its type. Outputs and work areas do not overlap
+ * inputs or each other. Inputs are only read.
+ *
+ * Results.
+ *   uint32_t  65536 * fault + count of the words (for sheets, bytes) written. Where the call tells a value: + 1 for yes or up,
+ *             + 0 for no or down. Where it only judges: 65536 * fault. Fault 0 is none; a refused call writes nothing to its
+ *             output and its count is 0. Elements of the output past the count keep what they held.
+ *   verdict   (uint64_t) 0 holds, 2 * k fails at k, 2 * k + 1 fails after k (between k and k + 1), 2^40 * n refused with n.
+ *   place     (uint64_t) 2^24 * first byte + byte count of a signal's words on the sheet, or 2^48 * fault when refused.
+ *
+ * Faults.
+ *    1 list empty or over 256 words                  10 formula empty or over 1,024 bytes
+ *    2 first word above 1                            11 outside the grammar
+ *    3 date not above the last                       12 over 32 parts, or depth over 16
+ *    4 word changes nothing                          13 name not in the sheet
+ *    5 exact answer over 256 words                   14 mark or version wrong or cut
+ *    6 exact answer changes after M                  15 count missing or over 32, sheet cut or too long, or append to 32
+ *    7 output shorter than the answer                16 name malformed or repeated
+ *    8 length above M                                17 sheet list breaks 1 to 4
+ *    9 instant 0, or date above M                    18 work area under 8,192 words
+ */
+#ifndef RASCRUNEL_H
+#define RASCRUNEL_H
+
+#include <stddef.h>
+#include <stdint.h>
+
+#ifdef __cplusplus
+extern "C" {
+#endif
+
+/* The largest date and the largest length; the most words of a list; the work words of sgl_evaluate and sgl_claim; the bytes
+ * of the longest sheet; the most bytes of a formula. */
+#define SGL_M 1073741823u
+#define SGL_LIST_WORDS 256u
+#define SGL_WORK_WORDS 8192u
+#define SGL_SHEET_BYTES 33095u
+#define SGL_FORMULA_BYTES 1024u
+
+/* The parts of a result. */
+#define SGL_FAULT(result) ((uint32_t)(result) / 65536u)
+#define SGL_COUNT(result) ((uint32_t)(result) % 65536u)
+#define SGL_VERDICT_FAULT(verdict) ((uint32_t)((uint64_t)(verdict) >> 40))
+#define SGL_PLACE_FAULT(place) ((uint32_t)((uint64_t)(place) >> 48))
+#define SGL_PLACE_START(place) ((uint32_t)((uint64_t)(place) >> 24))
+#define SGL_PLACE_COUNT(place) ((uint32_t)((uint64_t)(place) & 0xffffffu))
+
+/* The fault of a list. Faults 1, 2, then word by word 3, 4. */
+uint32_t sgl_list_fault(const uint32_t *list, size_t list_words);
+
+/* The normal list of a list that may have words that change nothing. Faults 1, 2, 3, 7. */
+uint32_t sgl_tidy(const uint32_t *list, size_t list_words, uint32_t *out, size_t out_words);
+
+/* The value at the instant k, and in the gap between k and k + 1. Faults of the list, 9. */
+uint32_t sgl_value_at(const uint32_t *list, size_t list_words, uint32_t k);
+uint32_t sgl_value_in(const uint32_t *list, size_t list_words, uint32_t k);
+
+/* Whether two lists give one signal. Faults of a, of b. */
+uint32_t sgl_equal(const uint32_t *a, size_t a_words, const uint32_t *b, size_t b_words);
+
+/* Verdict of a to b: wherever a is up, b is up. Faults of a, of b. */
+uint64_t sgl_implies(const uint32_t *a, size_t a_words, const uint32_t *b, size_t b_words);
+
+/* NOT. Faults of the list, 7. */
+uint32_t sgl_not(const uint32_t *a, size_t a_words, uint32_t *out, size_t out_words);
+
+/* A connective by its table: bit 2 * (value of a) + (value of b); only the low four bits count (AND is 8, OR is 14, XOR is 6).
+ * Faults of a, of b, 5, 7. */
+uint32_t sgl_connective(uint32_t table, const uint32_t *a, size_t a_words, const uint32_t *b, size_t b_words,
+                        uint32_t *out, size_t out_words);
+
+/* Rising and falling edges. Faults of the list, 7. */
+uint32_t sgl_rising(const uint32_t *a, size_t a_words, uint32_t *out, size_t out_words);
+uint32_t sgl_falling(const uint32_t *a, size_t a_words, uint32_t *out, size_t out_words);
+
+/* The latches in which set wins and in which reset wins. Faults of s, of r, 5, 7. */
+uint32_t sgl_sr(const uint32_t *s, size_t s_words, const uint32_t *r, size_t r_words, uint32_t *out, size_t out_words);
+uint32_t sgl_rs(const uint32_t *s, size_t s_words, const uint32_t *r, size_t r_words, uint32_t *out, size_t out_words);
+
+/* The on-delay TON(d,f) and the off-delay TOF(d,f). Faults of the list, 8, 5, 6, 7. */
+uint32_t sgl_ton(uint32_t d, const uint32_t *f, size_t f_words, uint32_t *out, size_t out_words);
+uint32_t sgl_tof(uint32_t d, const uint32_t *f, size_t f_words, uint32_t *out, size_t out_words);
+
+/* Begins a sheet: writes the one without signals, 7 bytes. Fault 7. */
+uint32_t sgl_begin(uint8_t *out, size_t out_bytes);
+
+/* The fault of a sheet. Faults 14 to 17, front to back. */
+uint32_t sgl_sheet_fault(const uint8_t *sheet, size_t sheet_bytes);
+
+/* Place of the words of a signal on a sheet; the name is given without zero bytes. Faults of the sheet, 16, 13. */
+uint64_t sgl_lookup(const uint8_t *sheet, size_t sheet_bytes, const uint8_t *name, size_t name_bytes);
+
+/* Writes the sheet with one signal appended. Faults of the sheet, 16, of the list, 15, 7. */
+uint32_t sgl_append(const uint8_t *sheet, size_t sheet_bytes, const uint8_t *name, size_t name_bytes,
+                    const uint32_t *list, size_t list_words, uint8_t *out, size_t out_bytes);
+
+/* The list of a formula's signal on a sheet. The work area has at least SGL_WORK_WORDS words; what it holds before does not
+ * matter, and what it holds after is free. Faults of the sheet, 10, 11, 8, 12, 13, 18, 5 or 6 at the first part worked out that
+ * meets one, 7. */
+uint32_t sgl_evaluate(const uint8_t *sheet, size_t sheet_bytes, const uint8_t *formula, size_t formula_bytes,
+                      uint32_t *work, size_t work_words, uint32_t *out, size_t out_words);
+
+/* Verdict of the claim f to g on a sheet, with a work area as above. Faults of the sheet, of f and then of g 10, 11, 8, 12, 13,
+ * then 18, then 5 or 6 at the first part of f, then of g. */
+uint64_t sgl_claim(const uint8_t *sheet, size_t sheet_bytes, const uint8_t *f, size_t f_bytes,
+                   const uint8_t *g, size_t g_bytes, uint32_t *work, size_t work_words);
+
+#ifdef __cplusplus
+}
+#endif
+
+#endif
