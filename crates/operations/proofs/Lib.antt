@@ -7,3 +7,4 @@ pub mod MergeHeld
 pub mod MergeTurn
 pub mod JudgedCalls
 pub mod OneOperand
+pub mod CallFaults

@@ -3,3 +3,4 @@ pub mod Calls
 pub mod Building
 pub mod Merging
 pub mod Slots
+pub mod CallFaults
