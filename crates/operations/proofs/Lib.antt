@@ -8,3 +8,5 @@ pub mod MergeTurn
 pub mod JudgedCalls
 pub mod OneOperand
 pub mod CallFaults
+pub mod LateWords
+pub mod NeverMet
