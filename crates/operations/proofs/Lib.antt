@@ -10,3 +10,10 @@ pub mod OneOperand
 pub mod CallFaults
 pub mod LateWords
 pub mod NeverMet
+pub mod DelayCases
+pub mod DelaySignals
+pub mod DelayTiming
+pub mod DelayUpcoming
+pub mod DelayTurn
+pub mod DelayLoop
+pub mod DelayJudged

@@ -4,3 +4,4 @@ pub mod Building
 pub mod Merging
 pub mod Slots
 pub mod CallFaults
+pub mod Delay

@@ -20,6 +20,9 @@ ghost use Rattle.operations.specs.Slots.{CallInSlot};
 ghost use Rattle.operations.specs.Building.{idle, emitted, emittedIn, begun, Built};
 ghost use Rattle.operations.specs.Merging.{latchFirst, latchShown, firstShown, dateShown, merged};
 use lists::Step;
+
+pub mod delay;
+
 use signals::Date;
 use signals::M;
 use signals::Written;
