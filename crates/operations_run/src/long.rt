@@ -1,28 +1,129 @@
-// Lists and answers of about 256 words.
-use super::falling_to;
-use super::not_to;
-use super::or_to;
-use super::rising_to;
-use super::rs_to;
-use super::sr_to;
-use super::tof_to;
-use super::ton_to;
+// Vectors of lists and answers of about 256 words.
+use super::calls;
+use calls::FALLING;
+use calls::NOT;
+use calls::OR;
+use calls::RISING;
+use calls::RS;
+use calls::SR;
+use calls::TOF;
+use calls::TON;
 
-pub fn all() {
-    document();
-    two_operands();
-    one_operand();
-    one_short();
-    falls();
-    one_over();
-    on_256();
-    on_257();
-    on_512();
-    on_late();
-    off_late();
-    off_refused();
-    off_257();
-}
+// Each vector is its operation, its length, the words of its output, then of each operand how many words, and which: the
+// first, the second, the third, how much the next ones rise, the last.
+const COUNT: usize = 37;
+
+const VECTORS: [[u32; 15]; 37] = [
+    // document 01's example for 5: 200 events at the odd dates 1 to 399 and 200 at the even dates 2 to 400
+    [OR, 0, 401, 201, 0, 6, 14, 8, 1598, 201, 0, 10, 18, 8, 1602],
+    [OR, 0, 0, 201, 0, 6, 14, 8, 1598, 201, 0, 10, 18, 8, 1602],
+    // 128 events at odd dates and 127 at even dates: 256 words
+    [OR, 0, 256, 129, 0, 6, 14, 8, 1022, 128, 0, 10, 18, 8, 1018],
+    [OR, 0, 255, 129, 0, 6, 14, 8, 1022, 128, 0, 10, 18, 8, 1018],
+    [SR, 0, 256, 129, 0, 6, 14, 8, 1022, 128, 0, 10, 18, 8, 1018],
+    [SR, 0, 255, 129, 0, 6, 14, 8, 1022, 128, 0, 10, 18, 8, 1018],
+    [RS, 0, 256, 129, 0, 6, 14, 8, 1022, 128, 0, 10, 18, 8, 1018],
+    [RS, 0, 255, 129, 0, 6, 14, 8, 1022, 128, 0, 10, 18, 8, 1018],
+    // with 128 at even dates: 257 words
+    [OR, 0, 257, 129, 0, 6, 14, 8, 1022, 129, 0, 10, 18, 8, 1026],
+    [SR, 0, 257, 129, 0, 6, 14, 8, 1022, 129, 0, 10, 18, 8, 1026],
+    [RS, 0, 257, 129, 0, 6, 14, 8, 1022, 129, 0, 10, 18, 8, 1026],
+    // NOT and edges of 256 words: 255 events, 255 lone down instants
+    [NOT, 0, 256, 256, 0, 6, 14, 8, 2038, 0, 0, 0, 0, 0, 0],
+    [NOT, 0, 255, 256, 0, 6, 14, 8, 2038, 0, 0, 0, 0, 0, 0],
+    [RISING, 0, 256, 256, 0, 6, 14, 8, 2038, 0, 0, 0, 0, 0, 0],
+    [RISING, 0, 255, 256, 0, 6, 14, 8, 2038, 0, 0, 0, 0, 0, 0],
+    [FALLING, 0, 256, 256, 0, 6, 14, 8, 2038, 0, 0, 0, 0, 0, 0],
+    [NOT, 0, 256, 256, 1, 5, 13, 8, 2037, 0, 0, 0, 0, 0, 0],
+    [RISING, 0, 256, 256, 1, 5, 13, 8, 2037, 0, 0, 0, 0, 0, 0],
+    [FALLING, 0, 256, 256, 1, 5, 13, 8, 2037, 0, 0, 0, 0, 0, 0],
+    [FALLING, 0, 255, 256, 1, 5, 13, 8, 2037, 0, 0, 0, 0, 0, 0],
+    // 257 words are 1
+    [NOT, 0, 300, 257, 0, 6, 14, 8, 2046, 0, 0, 0, 0, 0, 0],
+    [OR, 0, 300, 256, 0, 6, 14, 8, 2038, 257, 0, 6, 14, 8, 2046],
+    [TON, 0, 300, 257, 0, 6, 14, 8, 2046, 0, 0, 0, 0, 0, 0],
+    // TON(1) makes two words of each lone down instant: 256 words, 257 with an end, 512; d = 0
+    [TON, 1, 256, 128, 1, 41, 81, 40, 5081, 0, 0, 0, 0, 0, 0],
+    [TON, 1, 255, 128, 1, 41, 81, 40, 5081, 0, 0, 0, 0, 0, 0],
+    [TON, 1, 257, 130, 0, 23, 41, 40, 5200, 0, 0, 0, 0, 0, 0],
+    [TON, 1, 300, 256, 1, 41, 81, 40, 10201, 0, 0, 0, 0, 0, 0],
+    [TON, 0, 256, 256, 1, 41, 81, 40, 10201, 0, 0, 0, 0, 0, 0],
+    // TOF(1) makes two words of each event: 255 words, 257, and 256 after a run from gap 0
+    [TOF, 1, 256, 128, 0, 42, 82, 40, 5082, 0, 0, 0, 0, 0, 0],
+    [TOF, 1, 257, 129, 0, 42, 82, 40, 5122, 0, 0, 0, 0, 0, 0],
+    [TOF, 1, 256, 129, 1, 20, 42, 40, 5082, 0, 0, 0, 0, 0, 0],
+    [TOF, 1, 255, 129, 1, 20, 42, 40, 5082, 0, 0, 0, 0, 0, 0],
+    // the last word past M: 256 words are 6, 255 are 6, 257 are 5; no output words: 5; 8 before 5
+    [
+        TON,
+        1,
+        256,
+        129,
+        0,
+        23,
+        41,
+        40,
+        4294967293,
+        0,
+        0,
+        0,
+        0,
+        0,
+        0,
+    ],
+    [
+        TOF,
+        1,
+        256,
+        128,
+        0,
+        42,
+        82,
+        40,
+        4294967294,
+        0,
+        0,
+        0,
+        0,
+        0,
+        0,
+    ],
+    [
+        TOF,
+        1,
+        257,
+        129,
+        0,
+        42,
+        82,
+        40,
+        4294967294,
+        0,
+        0,
+        0,
+        0,
+        0,
+        0,
+    ],
+    [TOF, 1, 0, 129, 0, 42, 82, 40, 4294967294, 0, 0, 0, 0, 0, 0],
+    [
+        TOF,
+        1073741824,
+        0,
+        129,
+        0,
+        42,
+        82,
+        40,
+        4294967294,
+        0,
+        0,
+        0,
+        0,
+        0,
+        0,
+    ],
+];
 
 fn put(list: &mut [u32], i: usize, w: u32) {
     if i < list.len() {
@@ -30,10 +131,9 @@ fn put(list: &mut [u32], i: usize, w: u32) {
     }
 }
 
-// [head, second, first, first + step, .., last]
-fn fill(list: &mut [u32], head: u32, second: u32, first: u32, step: u32, last: u32) {
+fn fill(list: &mut [u32], head: u32, second: u32, third: u32, step: u32, last: u32) {
     let n = list.len();
-    let mut w = first;
+    let mut w = third;
     let mut i: usize = 2;
     while i < n {
         put(list, i, w);
@@ -47,145 +147,29 @@ fn fill(list: &mut [u32], head: u32, second: u32, first: u32, step: u32, last: u
     }
 }
 
-// Document 01's example for 5: 200 events at the odd dates 1 to 399 and 200 at the even dates 2 to 400.
-fn document() {
-    let mut odd = [0u32; 201];
-    fill(&mut odd, 0, 6, 14, 8, 1598);
-    let mut even = [0u32; 201];
-    fill(&mut even, 0, 10, 18, 8, 1602);
+// The first n words of a list, filled.
+fn operand(list: &mut [u32], n: usize, head: u32, second: u32, third: u32, step: u32, last: u32) {
+    if n <= list.len() {
+        fill(&mut list[..n], head, second, third, step, last);
+    }
+}
+
+fn vector(v: [u32; 15]) {
+    let n = v[3] as usize;
+    let mut a = [0u32; 257];
+    operand(&mut a, n, v[4], v[5], v[6], v[7], v[8]);
+    let m = v[9] as usize;
+    let mut b = [0u32; 257];
+    operand(&mut b, m, v[10], v[11], v[12], v[13], v[14]);
     let mut out = [7u32; 401];
-    or_to(&odd, &even, &mut out);
-    let mut none = [7u32; 0];
-    or_to(&odd, &even, &mut none);
+    let words = v[2] as usize;
+    calls::apply(v[0], v[1], &a, n, &b, m, &mut out, words);
 }
 
-// 128 events at odd dates, with 127 and with 128 at even dates: answers of 256 and of 257 words.
-fn two_operands() {
-    let mut odd = [0u32; 129];
-    fill(&mut odd, 0, 6, 14, 8, 1022);
-    let mut even = [0u32; 128];
-    fill(&mut even, 0, 10, 18, 8, 1018);
-    answers_of_256(&odd, &even);
-    short_of_256(&odd, &even);
-    let mut more = [0u32; 129];
-    fill(&mut more, 0, 10, 18, 8, 1026);
-    answers_of_257(&odd, &more);
-}
-
-fn answers_of_256(odd: &[u32], even: &[u32]) {
-    let mut out = [7u32; 256];
-    or_to(odd, even, &mut out);
-    sr_to(odd, even, &mut out);
-    rs_to(odd, even, &mut out);
-}
-
-fn short_of_256(odd: &[u32], even: &[u32]) {
-    let mut out = [7u32; 255];
-    or_to(odd, even, &mut out);
-    sr_to(odd, even, &mut out);
-}
-
-fn answers_of_257(odd: &[u32], even: &[u32]) {
-    let mut out = [7u32; 257];
-    or_to(odd, even, &mut out);
-    sr_to(odd, even, &mut out);
-    rs_to(odd, even, &mut out);
-}
-
-// NOT and edges of 256 words.
-fn one_operand() {
-    let mut events = [0u32; 256];
-    fill(&mut events, 0, 6, 14, 8, 2038);
-    let mut out = [7u32; 256];
-    not_to(&events, &mut out);
-    rising_to(&events, &mut out);
-    falling_to(&events, &mut out);
-}
-
-fn one_short() {
-    let mut events = [0u32; 256];
-    fill(&mut events, 0, 6, 14, 8, 2038);
-    let mut out = [7u32; 255];
-    not_to(&events, &mut out);
-    rising_to(&events, &mut out);
-}
-
-fn falls() {
-    let mut downs = [0u32; 256];
-    fill(&mut downs, 1, 5, 13, 8, 2037);
-    let mut out = [7u32; 256];
-    falling_to(&downs, &mut out);
-    rising_to(&downs, &mut out);
-}
-
-// 257 words are 1.
-fn one_over() {
-    let mut events = [0u32; 257];
-    fill(&mut events, 0, 6, 14, 8, 2046);
-    let mut out = [7u32; 300];
-    not_to(&events, &mut out);
-    ton_to(0, &events, &mut out);
-}
-
-// TON(1) makes two words of each lone down instant: answers of 256, 257 and 512 words.
-fn on_256() {
-    let mut downs = [0u32; 128];
-    fill(&mut downs, 1, 41, 81, 40, 5081);
-    let mut out = [7u32; 256];
-    ton_to(1, &downs, &mut out);
-    let mut short = [7u32; 255];
-    ton_to(1, &downs, &mut short);
-}
-
-fn on_257() {
-    let mut ended = [0u32; 130];
-    fill(&mut ended, 0, 23, 41, 40, 5200);
-    let mut out = [7u32; 257];
-    ton_to(1, &ended, &mut out);
-}
-
-fn on_512() {
-    let mut downs = [0u32; 256];
-    fill(&mut downs, 1, 41, 81, 40, 10201);
-    let mut out = [7u32; 300];
-    ton_to(1, &downs, &mut out);
-    ton_to(0, &downs, &mut out);
-}
-
-// The last word past M: 256 words of which one is are 6, 257 are 5.
-fn on_late() {
-    let mut downs = [0u32; 129];
-    fill(&mut downs, 0, 23, 41, 40, 4294967293);
-    let mut out = [7u32; 256];
-    ton_to(1, &downs, &mut out);
-}
-
-fn off_late() {
-    let mut events = [0u32; 128];
-    fill(&mut events, 0, 42, 82, 40, 4294967294);
-    let mut out = [7u32; 256];
-    tof_to(1, &events, &mut out);
-    let mut more = [0u32; 129];
-    fill(&mut more, 0, 42, 82, 40, 4294967294);
-    tof_to(1, &more, &mut out);
-}
-
-// 8, then 5, then 7
-fn off_refused() {
-    let mut more = [0u32; 129];
-    fill(&mut more, 0, 42, 82, 40, 4294967294);
-    let mut out = [7u32; 0];
-    tof_to(1, &more, &mut out);
-    tof_to(1073741824, &more, &mut out);
-}
-
-// TOF(1) makes two words of each event.
-fn off_257() {
-    let mut events = [0u32; 129];
-    fill(&mut events, 0, 42, 82, 40, 5122);
-    let mut out = [7u32; 257];
-    tof_to(1, &events, &mut out);
-    let mut begun = [0u32; 129];
-    fill(&mut begun, 1, 20, 42, 40, 5082);
-    tof_to(1, &begun, &mut out);
+pub fn all() {
+    let mut done: usize = 0;
+    while done < COUNT {
+        vector(VECTORS[done]);
+        done += 1;
+    }
 }

@@ -4,13 +4,12 @@
 // by 65521.
 // The stored output is that of a second program, which goes by document 01's sentences on operations moment by moment and
 // reads the list off the moments; the starred cases and the named ones are besides as the document gives them.
-use signals::Length;
 use signals::Written;
 
-mod delays;
+mod calls;
 mod long;
-mod merges;
-mod slots;
+mod short;
+mod tables;
 
 fn word(w: u32) {
     io::write_all(1, b" ");
@@ -88,98 +87,8 @@ fn timed(name: &[u8], d: u32, f: &[u32]) {
     list(f);
 }
 
-// Each operation on the given output, and on one of five words.
-fn not_to(a: &[u32], out: &mut [u32]) {
-    unary(b"NOT", a);
-    let answer = operations::not(a, out);
-    show(answer, out);
-}
-
-fn not(a: &[u32]) {
-    let mut out = [7u32; 5];
-    not_to(a, &mut out);
-}
-
-fn rising_to(a: &[u32], out: &mut [u32]) {
-    unary(b"^", a);
-    let answer = operations::rising(a, out);
-    show(answer, out);
-}
-
-fn rising(a: &[u32]) {
-    let mut out = [7u32; 5];
-    rising_to(a, &mut out);
-}
-
-fn falling_to(a: &[u32], out: &mut [u32]) {
-    unary(b"~", a);
-    let answer = operations::falling(a, out);
-    show(answer, out);
-}
-
-fn falling(a: &[u32]) {
-    let mut out = [7u32; 5];
-    falling_to(a, &mut out);
-}
-
-fn sr_to(s: &[u32], r: &[u32], out: &mut [u32]) {
-    binary(b"SR", s, r);
-    let answer = operations::sr(s, r, out);
-    show(answer, out);
-}
-
-fn rs_to(s: &[u32], r: &[u32], out: &mut [u32]) {
-    binary(b"RS", s, r);
-    let answer = operations::rs(s, r, out);
-    show(answer, out);
-}
-
-// SR and RS of the same two lists.
-fn latches(s: &[u32], r: &[u32]) {
-    let mut out = [7u32; 5];
-    sr_to(s, r, &mut out);
-    let mut other = [7u32; 5];
-    rs_to(s, r, &mut other);
-}
-
-const OR: [[bool; 2]; 2] = [[false, true], [true, true]];
-
-fn or_to(a: &[u32], b: &[u32], out: &mut [u32]) {
-    binary(b"OR", a, b);
-    let answer = operations::connective(OR, a, b, out);
-    show(answer, out);
-}
-
-fn or(a: &[u32], b: &[u32]) {
-    let mut out = [7u32; 5];
-    or_to(a, b, &mut out);
-}
-
-fn ton_to(d: u32, f: &[u32], out: &mut [u32]) {
-    timed(b"TON", d, f);
-    let answer = operations::delay::ton(Length(d), f, out);
-    show(answer, out);
-}
-
-fn ton(d: u32, f: &[u32]) {
-    let mut out = [7u32; 5];
-    ton_to(d, f, &mut out);
-}
-
-fn tof_to(d: u32, f: &[u32], out: &mut [u32]) {
-    timed(b"TOF", d, f);
-    let answer = operations::delay::tof(Length(d), f, out);
-    show(answer, out);
-}
-
-fn tof(d: u32, f: &[u32]) {
-    let mut out = [7u32; 5];
-    tof_to(d, f, &mut out);
-}
-
 fn main() {
-    merges::all();
-    delays::all();
+    short::all();
+    tables::all();
     long::all();
-    slots::all();
 }

@@ -2,8 +2,8 @@
 use borrow.Author.Needs.{needs}
 use Prim.Native.Nat.{_≤_, _-_}
 use native.Mathlib.Omega.{arith}
-use Rattle.operations_run.proofs.merges.tables.Statement.{statement}
-use Rattle.operations_run.proofs.merges.tables.Tie as tie
+use Rattle.operations_run.proofs.tables.tables.Statement.{statement}
+use Rattle.operations_run.proofs.tables.tables.Tie as tie
 
 abbrev Inv-loop : tie.InvT-loop
 Inv-loop a b n₀ n = n ≤ 16
