@@ -7,6 +7,9 @@ pub mod MergeHeld
 pub mod MergeTurn
 pub mod JudgedCalls
 pub mod OneOperand
+pub mod CallFaults
+pub mod LateWords
+pub mod NeverMet
 pub mod DelayCases
 pub mod DelaySignals
 pub mod DelayTiming

@@ -3,4 +3,5 @@ pub mod Calls
 pub mod Building
 pub mod Merging
 pub mod Slots
+pub mod CallFaults
 pub mod Delay

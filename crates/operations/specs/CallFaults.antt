@@ -1,0 +1,85 @@
+-- Faults 5 to 8 of a call are given exactly when their sentence of document 01's table holds and no earlier one does.
+use Prim.Native.Nat.{ℕ, _-_, _≤_, _<_, _^_}
+use mathlib.Core.List.{List}
+use mathlib.Core.Logic.{_⊎_, _↔_}
+use mathlib.Core.Path.{_≡_}
+use lib.ListN.{length, getD}
+use Rattle.signals.specs.Moment.{M, gap, instant}
+use Rattle.signals.specs.Signal.{Signal, NOT, rising, falling, TON, TOF}
+use Rattle.signals.specs.Words.{dateOf, listFault, signalOf, listOf}
+use Rattle.signals.specs.Settled.{SettledFrom}
+use Rattle.signals.specs.Normal.{Accepted}
+use Rattle.operations.specs.Calls.{exactOfOne, exactOfTwo, exactOfDelay, faultOfOne, faultOfTwo, faultOfDelay}
+
+-- 5: exact answer over 256 words, those past M counted
+abbrev pub Breaks5 : List ℕ → Type 0
+Breaks5 exact = 256 < length exact
+
+-- 6: exact answer changes after M: some word of it is dated after M
+abbrev pub Breaks6 : List ℕ → Type 0
+Breaks6 exact = (i : ℕ) × (i < length exact) × (M < dateOf (getD exact i 0))
+
+-- 7: output, of n words, shorter than the answer
+abbrev pub Breaks7 : List ℕ → ℕ → Type 0
+Breaks7 exact n = n < length exact
+
+-- 8: length above M
+abbrev pub Breaks8 : ℕ → Type 0
+Breaks8 d = M < d
+
+-- 5, 6, 7 of a call that is judged by `Sound` first: each with its own sentence and none of the earlier ones
+pub record AnswerFaults (fault : ℕ) (Sound : Type 0) (exact : List ℕ) (n : ℕ) : Type 0 where
+  pub none : (fault ≡ 0) ↔ (Sound × (¬ Breaks5 exact) × (¬ Breaks6 exact) × (¬ Breaks7 exact n))
+  pub five : (fault ≡ 5) ↔ (Sound × Breaks5 exact)
+  pub six : (fault ≡ 6) ↔ (Sound × (¬ Breaks5 exact) × Breaks6 exact)
+  pub seven : (fault ≡ 7) ↔ (Sound × (¬ Breaks5 exact) × (¬ Breaks6 exact) × Breaks7 exact n)
+
+-- 1 to 4 are those of the operands, first operand first; then 8; then 5, 6, 7; 0 is none, and there is no other answer
+pub record FaultsOfOne (operation : Signal → Signal) (a : List ℕ) (n : ℕ) : Type 0 where
+  pub list : (f : ℕ) → 1 ≤ f → f ≤ 4 → (faultOfOne operation a n ≡ f) ↔ (listFault a ≡ f)
+  pub answer : AnswerFaults (faultOfOne operation a n) (Accepted a) (exactOfOne operation a) n
+  pub range : faultOfOne operation a n ≤ 7
+
+pub record FaultsOfTwo (operation : Signal → Signal → Signal) (a b : List ℕ) (n : ℕ) : Type 0 where
+  pub list : (f : ℕ) → 1 ≤ f → f ≤ 4 → (faultOfTwo operation a b n ≡ f) ↔ (listFault a ≡ f) ⊎ (Accepted a × (listFault b ≡ f))
+  pub answer : AnswerFaults (faultOfTwo operation a b n) (Accepted a × Accepted b) (exactOfTwo operation a b) n
+  pub range : faultOfTwo operation a b n ≤ 7
+
+pub record FaultsOfDelay (operation : Signal → Signal) (d : ℕ) (a : List ℕ) (n : ℕ) : Type 0 where
+  pub list : (f : ℕ) → 1 ≤ f → f ≤ 4 → (faultOfDelay operation d a n ≡ f) ↔ (listFault a ≡ f)
+  pub eight : (faultOfDelay operation d a n ≡ 8) ↔ (Accepted a × Breaks8 d)
+  pub answer : AnswerFaults (faultOfDelay operation d a n) (Accepted a × (¬ Breaks8 d)) (exactOfDelay operation d a) n
+  pub range : faultOfDelay operation d a n ≤ 8
+
+pub record CallFaultsExact : Type 0 where
+  pub one : (operation : Signal → Signal) (a : List ℕ) (n : ℕ) → FaultsOfOne operation a n
+  pub two : (operation : Signal → Signal → Signal) (a b : List ℕ) (n : ℕ) → FaultsOfTwo operation a b n
+  pub delay : (operation : Signal → Signal) (d : ℕ) (a : List ℕ) (n : ℕ) → FaultsOfDelay operation d a n
+
+-- at some instant k after M, or in the gap k after it, the signal is not as in the gap before instant k
+abbrev pub ChangesAfterM : Signal → Type 0
+ChangesAfterM s =
+    (k : ℕ) × (M < k) × ((¬ (s (instant k) ≡ s (gap (k - 1)))) ⊎ (¬ (s (gap k) ≡ s (gap (k - 1)))))
+
+-- 6 said of the signal: its exact answer has a word dated after M exactly when the signal changes after M
+pub record ChangeIsWord : Type 0 where
+  pub signal : (s : Signal) (n : ℕ) → SettledFrom s n → Breaks6 (listOf s n) ↔ ChangesAfterM s
+  pub ton : (d : ℕ) (a : List ℕ) → Accepted a → Breaks6 (exactOfDelay (TON d) d a) ↔ ChangesAfterM (TON d (signalOf a))
+  pub tof : (d : ℕ) (a : List ℕ) → Accepted a → Breaks6 (exactOfDelay (TOF d) d a) ↔ ChangesAfterM (TOF d (signalOf a))
+
+-- the words of the list are 32-bit words
+abbrev pub Words32 : List ℕ → Type 0
+Words32 l = (i : ℕ) → i < length l → getD l i 0 < 2 ^ 32
+
+-- the operation never makes an accepted list longer
+abbrev pub NeverLonger : (Signal → Signal) → Type 0
+NeverLonger operation = (a : List ℕ) → Accepted a → length (exactOfOne operation a) ≤ length a
+
+-- NOT and edges never meet 5 or 6; connectives and latches, like every operation without a length, never meet 6.
+pub record NeverMet : Type 0 where
+  pub notLonger : NeverLonger NOT
+  pub risingLonger : NeverLonger rising
+  pub fallingLonger : NeverLonger falling
+  pub five : (operation : Signal → Signal) → NeverLonger operation → (a : List ℕ) (n : ℕ) → ¬ (faultOfOne operation a n ≡ 5)
+  pub sixOne : (operation : Signal → Signal) (a : List ℕ) (n : ℕ) → Words32 a → ¬ (faultOfOne operation a n ≡ 6)
+  pub sixTwo : (operation : Signal → Signal → Signal) (a b : List ℕ) (n : ℕ) → Words32 a → Words32 b → ¬ (faultOfTwo operation a b n ≡ 6)
