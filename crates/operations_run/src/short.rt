@@ -11,9 +11,7 @@ use calls::TON;
 
 // Each vector is its operation, its length, the words of its output, then of each operand how many words and which, on five
 // places and on three.
-const COUNT: usize = 133;
-
-const VECTORS: [[u32; 13]; 133] = [
+const STARRED: [[u32; 13]; 12] = [
     // The starred cases, f = [0,23,36], e = [0,22], l = [0,21]: ^f, ^l, ~e, SR(e,e), RS(e,e), SR(f,f)
     [RISING, 0, 5, 3, 0, 23, 36, 0, 0, 0, 0, 0, 0],
     [RISING, 0, 5, 2, 0, 21, 0, 0, 0, 0, 0, 0, 0],
@@ -28,6 +26,9 @@ const VECTORS: [[u32; 13]; 133] = [
     [TOF, 2, 5, 2, 0, 22, 0, 0, 0, 0, 0, 0, 0],
     [TON, 0, 5, 2, 0, 22, 0, 0, 0, 0, 0, 0, 0],
     [TON, 3, 5, 1, 1, 0, 0, 0, 0, 0, 0, 0, 0],
+];
+
+const EDGES: [[u32; 13]; 13] = [
     // NOT
     [NOT, 0, 5, 1, 0, 0, 0, 0, 0, 0, 0, 0, 0],
     [NOT, 0, 5, 3, 0, 23, 36, 0, 0, 0, 0, 0, 0],
@@ -43,6 +44,9 @@ const VECTORS: [[u32; 13]; 133] = [
     [FALLING, 0, 5, 2, 0, 22, 0, 0, 0, 0, 0, 0, 0],
     [FALLING, 0, 5, 3, 0, 23, 36, 0, 0, 0, 0, 0, 0],
     [FALLING, 0, 5, 3, 0, 23, 38, 0, 0, 0, 0, 0, 0],
+];
+
+const LATCHES: [[u32; 13]; 18] = [
     // latches: set at 5 and reset at 9; set at 5 and 9, reset at 7
     [SR, 0, 5, 2, 0, 22, 0, 0, 0, 2, 0, 38, 0],
     [RS, 0, 5, 2, 0, 22, 0, 0, 0, 2, 0, 38, 0],
@@ -64,6 +68,9 @@ const VECTORS: [[u32; 13]; 133] = [
     [RS, 0, 5, 3, 0, 21, 24, 0, 0, 2, 0, 26, 0],
     [SR, 0, 5, 2, 0, 21, 0, 0, 0, 2, 1, 20, 0],
     [RS, 0, 5, 2, 0, 21, 0, 0, 0, 2, 1, 20, 0],
+];
+
+const RUNS: [[u32; 13]; 15] = [
     // TON and TOF of runs from gap 0: up before 5, up to 5 and at it, up for good
     [TON, 3, 5, 2, 1, 20, 0, 0, 0, 0, 0, 0, 0],
     [TON, 4, 5, 2, 1, 20, 0, 0, 0, 0, 0, 0, 0],
@@ -83,6 +90,9 @@ const VECTORS: [[u32; 13]; 133] = [
     [TON, 2, 5, 3, 0, 23, 30, 0, 0, 0, 0, 0, 0],
     [TON, 2, 5, 3, 0, 23, 28, 0, 0, 0, 0, 0, 0],
     [TON, 2, 5, 3, 0, 21, 30, 0, 0, 0, 0, 0, 0],
+];
+
+const NO_LENGTH: [[u32; 13]; 10] = [
     // d = 0
     [TON, 0, 5, 3, 0, 23, 36, 0, 0, 0, 0, 0, 0],
     [TOF, 0, 5, 3, 0, 23, 36, 0, 0, 0, 0, 0, 0],
@@ -94,6 +104,9 @@ const VECTORS: [[u32; 13]; 133] = [
     [TOF, 0, 5, 2, 1, 41, 0, 0, 0, 0, 0, 0, 0],
     [TON, 0, 5, 2, 0, 4294967294, 0, 0, 0, 0, 0, 0, 0],
     [TOF, 0, 5, 2, 0, 4294967294, 0, 0, 0, 0, 0, 0, 0],
+];
+
+const AROUND_M: [[u32; 13]; 14] = [
     // around M = 1073741823: up from M, at M only, after M, from M-1
     [TON, 1, 5, 2, 0, 4294967295, 0, 0, 0, 0, 0, 0, 0],
     [TON, 1, 5, 2, 0, 4294967294, 0, 0, 0, 0, 0, 0, 0],
@@ -110,6 +123,9 @@ const VECTORS: [[u32; 13]; 133] = [
     [TOF, 1073741823, 5, 2, 1, 4294967292, 0, 0, 0, 0, 0, 0, 0],
     [TOF, 1073741823, 5, 2, 1, 4, 0, 0, 0, 0, 0, 0, 0],
     [TOF, 1073741822, 5, 2, 1, 4, 0, 0, 0, 0, 0, 0, 0],
+];
+
+const FAULTY: [[u32; 13]; 17] = [
     // faulty lists: 1 to 4; date 0; the first faulty word
     [NOT, 0, 5, 0, 0, 0, 0, 0, 0, 0, 0, 0, 0],
     [NOT, 0, 5, 1, 2, 0, 0, 0, 0, 0, 0, 0, 0],
@@ -130,6 +146,9 @@ const VECTORS: [[u32; 13]; 133] = [
     [TOF, 1073741824, 5, 0, 0, 0, 0, 0, 0, 0, 0, 0, 0],
     [TOF, 1, 5, 2, 0, 20, 0, 0, 0, 0, 0, 0, 0],
     [TON, 1, 5, 3, 0, 23, 21, 0, 0, 0, 0, 0, 0],
+];
+
+const OUTPUTS: [[u32; 13]; 20] = [
     // no output words: 8, 6, 7
     [TON, 1073741824, 0, 3, 0, 23, 36, 0, 0, 0, 0, 0, 0],
     [TON, 1, 0, 2, 0, 4294967295, 0, 0, 0, 0, 0, 0, 0],
@@ -152,6 +171,9 @@ const VECTORS: [[u32; 13]; 133] = [
     [TON, 3, 2, 3, 0, 23, 36, 0, 0, 0, 0, 0, 0],
     [TOF, 2, 3, 3, 0, 23, 36, 0, 0, 0, 0, 0, 0],
     [TOF, 2, 2, 3, 0, 23, 36, 0, 0, 0, 0, 0, 0],
+];
+
+const SLOTS: [[u32; 13]; 14] = [
     // in slots of 256 words, by IN_SLOT and the number: NOT, rising, falling, OR, SR, RS, TON, TOF
     [8, 0, 256, 3, 0, 23, 36, 0, 0, 0, 0, 0, 0],
     [9, 0, 256, 3, 0, 23, 36, 0, 0, 0, 0, 0, 0],
@@ -199,10 +221,58 @@ fn row(v: [u32; 13]) {
     vector(&v);
 }
 
-pub fn all() {
-    let mut done: usize = 0;
-    while done < COUNT {
-        row(VECTORS[done]);
-        done += 1;
+fn rows(data: &[[u32; 13]]) {
+    let mut i: usize = 0;
+    while i < data.len() {
+        row(data[i]);
+        i += 1;
     }
+}
+
+fn starred() {
+    rows(&STARRED);
+}
+
+fn edges() {
+    rows(&EDGES);
+}
+
+fn latches() {
+    rows(&LATCHES);
+}
+
+fn runs() {
+    rows(&RUNS);
+}
+
+fn no_length() {
+    rows(&NO_LENGTH);
+}
+
+fn around_m() {
+    rows(&AROUND_M);
+}
+
+fn faulty() {
+    rows(&FAULTY);
+}
+
+fn outputs() {
+    rows(&OUTPUTS);
+}
+
+fn slots() {
+    rows(&SLOTS);
+}
+
+pub fn all() {
+    starred();
+    edges();
+    latches();
+    runs();
+    no_length();
+    around_m();
+    faulty();
+    outputs();
+    slots();
 }
