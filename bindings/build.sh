@@ -1,0 +1,51 @@
+#!/bin/sh
+# Builds the proved archive in a copy outside the repository and runs the tests of the bindings against it, in C and in Rust.
+#   bindings/build.sh          builds, tests, removes the copy
+#   bindings/build.sh --into DIR   the same, and leaves libcapi.a and the tool `sheet` in DIR
+set -eu
+
+root=$(CDPATH= cd -- "$(dirname -- "$0")/.." && pwd)
+into=
+if [ "${1-}" = --into ] && [ $# -eq 2 ]; then
+    mkdir -p -- "$2"
+    into=$(CDPATH= cd -- "$2" && pwd)
+elif [ $# -ne 0 ]; then
+    sed -n '2,4s/^# //p' "$0" >&2
+    exit 2
+fi
+
+copy=$(mktemp -d)
+trap 'rm -rf -- "$copy"' EXIT
+trap 'exit 1' HUP INT TERM
+mkdir "$copy/repository"
+cp -R "$root/crates" "$root/crates.txt" "$copy/repository/"
+# Crates proved before and unchanged since are not proved again: the gate proves all from nothing after these tests.
+if [ -d "$root/target/rlib" ] && [ -d "$root/target/stamp" ]; then
+    mkdir "$copy/repository/target"
+    cp -R "$root/target/rlib" "$root/target/stamp" "$copy/repository/target/"
+fi
+
+echo "bindings: proving capi and building its archive"
+if ! (cd "$copy/repository" && rt staticlib capi) >"$copy/log" 2>&1; then
+    tail -n 20 "$copy/log" >&2
+    exit 1
+fi
+RASCRUNEL_LIB=$copy/repository/target/staticlib
+CARGO_TARGET_DIR=$copy/cargo
+export RASCRUNEL_LIB CARGO_TARGET_DIR
+
+echo "bindings: C"
+cc -std=c99 -Wall -Wextra -Werror -I "$root/include" "$root/bindings/c/embed.c" "$RASCRUNEL_LIB/libcapi.a" -o "$copy/embed"
+"$copy/embed" | cmp - "$root/bindings/c/embed.expected"
+
+echo "bindings: Rust"
+cp -R "$root/bindings" "$root/examples" "$copy/"
+cd "$copy/bindings/rust"
+cargo test --offline --quiet
+cargo run --offline --quiet --example embed | cmp - "$root/bindings/c/embed.expected"
+cargo build --offline --quiet --release --bin sheet
+
+if [ -n "$into" ]; then
+    cp "$RASCRUNEL_LIB/libcapi.a" "$CARGO_TARGET_DIR/release/sheet" "$into/"
+fi
+echo "bindings: all tests passed"
