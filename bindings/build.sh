@@ -35,7 +35,10 @@ CARGO_TARGET_DIR=$copy/cargo
 export RASCRUNEL_LIB CARGO_TARGET_DIR
 
 echo "bindings: C"
-cc -std=c99 -Wall -Wextra -Werror -I "$root/include" "$root/bindings/c/embed.c" "$RASCRUNEL_LIB/libcapi.a" -o "$copy/embed"
+for name in vectors embed; do
+    cc -std=c99 -Wall -Wextra -Werror -I "$root/include" "$root/bindings/c/$name.c" "$RASCRUNEL_LIB/libcapi.a" -o "$copy/$name"
+done
+"$copy/vectors"
 "$copy/embed" | cmp - "$root/bindings/c/embed.expected"
 
 echo "bindings: Rust"

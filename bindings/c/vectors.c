@@ -1,0 +1,115 @@
+/* Document 01's cases through the header: every exported function, from C. */
+#include <stdio.h>
+#include <string.h>
+#include "rascrunel.h"
+
+static int failed;
+static uint32_t out[SGL_LIST_WORDS], work[SGL_WORK_WORDS];
+static uint8_t bytes[SGL_SHEET_BYTES];
+
+#define N(list) (list), sizeof(list) / sizeof *(list)
+#define OUT out, SGL_LIST_WORDS
+#define TEXT(s) (const uint8_t *)(s), sizeof(s) - 1
+#define REFUSED(n) (65536u * (n))
+
+static void same(int line, uint64_t got, uint64_t want) {
+    if (got != want) {
+        printf("line %d: %llu, not %llu\n", line, (unsigned long long)got, (unsigned long long)want);
+        failed = 1;
+    }
+}
+
+static void words(int line, uint32_t got, const uint32_t *want, uint32_t count) {
+    same(line, got, count);
+    for (uint32_t i = 0; i < count; i++)
+        same(line, out[i], want[i]);
+}
+
+#define IS(got, want) same(__LINE__, (got), (want))
+#define WORDS(got, ...) do { const uint32_t want_[] = {__VA_ARGS__}; words(__LINE__, (got), want_, sizeof want_ / 4); } while (0)
+
+static const uint32_t f[] = {0, 23, 36}, e[] = {0, 22}, l[] = {0, 21}, one[] = {1}, none[] = {0}, last[] = {0, 4294967294u},
+    loose[] = {0, 16, 23, 27, 36}, bad2[] = {2}, bad3[] = {0, 23, 21}, bad4[] = {0, 20}, up[] = {0, 4294967295u};
+static const uint8_t printed[] = {83, 71, 76, 1, 0, 1, 0, 97, 0, 0, 0, 0, 0, 0, 0, 3, 0, 0, 0, 0, 0, 23, 0, 0, 0, 36, 0, 0, 0};
+
+static void lists(void) {
+    IS(sgl_list_fault(N(f)), 0);
+    IS(sgl_list_fault(f, 0), REFUSED(1));
+    IS(sgl_list_fault(N(bad2)), REFUSED(2));
+    IS(sgl_list_fault(N(bad3)), REFUSED(3));
+    IS(sgl_list_fault(N(bad4)), REFUSED(4));
+    WORDS(sgl_tidy(N(loose), OUT), 0, 23, 36);
+    IS(sgl_value_at(N(f), 5), 1);
+    IS(sgl_value_at(N(f), 0), REFUSED(9));
+    IS(sgl_value_in(N(f), 0), 0);
+    IS(sgl_value_in(N(l), 5), 1);
+    IS(sgl_value_in(N(f), SGL_M + 1), REFUSED(9));
+    IS(sgl_equal(N(e), N(e)), 1);
+    IS(sgl_equal(N(e), N(l)), 0);
+    IS(sgl_equal(N(e), N(bad4)), REFUSED(4));
+    IS(sgl_implies(N(e), N(f)), 0);
+    IS(sgl_implies(N(l), N(e)), 2 * 5 + 1);
+    IS(sgl_implies(N(one), N(f)), 1);
+    IS(sgl_implies(N(bad2), N(f)), 2ull << 40);
+}
+
+static void operations(void) {
+    WORDS(sgl_not(N(f), OUT), 1, 20, 39);
+    IS(sgl_not(N(none), out, 0), REFUSED(7));
+    WORDS(sgl_connective(8, N(f), N(e), OUT), 0, 22);
+    WORDS(sgl_connective(14, N(f), N(l), OUT), 0, 23);
+    WORDS(sgl_connective(4 + 16, N(f), N(e), OUT), 0, 21, 36);
+    WORDS(sgl_rising(N(f), OUT), 0, 22);
+    WORDS(sgl_rising(N(l), OUT), 0);
+    WORDS(sgl_falling(N(e), OUT), 0);
+    WORDS(sgl_falling(N(f), OUT), 0, 38);
+    WORDS(sgl_sr(N(e), N(e), OUT), 0, 23);
+    WORDS(sgl_sr(N(f), N(f), OUT), 0, 23, 36);
+    WORDS(sgl_rs(N(e), N(e), OUT), 0);
+    WORDS(sgl_ton(3, N(f), OUT), 0, 35, 36);
+    WORDS(sgl_ton(4, N(f), OUT), 0);
+    WORDS(sgl_ton(0, N(e), OUT), 0, 22);
+    WORDS(sgl_ton(3, N(one), OUT), 0, 15);
+    WORDS(sgl_ton(1, N(last), OUT), 0);
+    IS(sgl_ton(1, N(up), OUT), REFUSED(6));
+    IS(sgl_ton(SGL_M + 1, N(f), OUT), REFUSED(8));
+    WORDS(sgl_tof(2, N(f), OUT), 0, 23, 44);
+    WORDS(sgl_tof(2, N(e), OUT), 0, 23, 30);
+    IS(sgl_tof(1, N(last), OUT), REFUSED(6));
+}
+
+static void sheets(void) {
+    uint8_t empty[7];
+    IS(sgl_begin(empty, 6), REFUSED(7));
+    IS(sgl_begin(N(empty)), 7);
+    IS(sgl_append(N(empty), TEXT("a"), N(f), bytes, sizeof bytes), sizeof printed);
+    IS(memcmp(bytes, printed, sizeof printed) == 0, 1);
+    IS(sgl_append(N(printed), TEXT("a"), N(f), bytes, sizeof bytes), REFUSED(16));
+    IS(sgl_append(N(printed), TEXT("b"), N(bad4), bytes, sizeof bytes), REFUSED(4));
+    IS(sgl_sheet_fault(N(printed)), 0);
+    IS(sgl_sheet_fault(TEXT("SGL\2\0")), REFUSED(14));
+    IS(sgl_sheet_fault(TEXT("SGL\1\0\1\0")), REFUSED(15));
+    IS(sgl_lookup(N(printed), TEXT("a")), 17ull << 24 | 12);
+    IS(sgl_lookup(N(printed), TEXT("b")), 13ull << 48);
+    IS(sgl_lookup(N(printed), TEXT("A")), 16ull << 48);
+}
+
+static void formulas(void) {
+    WORDS(sgl_evaluate(N(printed), TEXT("TON(2,a)"), N(work), OUT), 0, 31, 36);
+    IS(sgl_evaluate(N(printed), TEXT("a+"), N(work), OUT), REFUSED(11));
+    IS(sgl_evaluate(N(printed), TEXT("b"), N(work), OUT), REFUSED(13));
+    IS(sgl_evaluate(N(printed), TEXT("a"), work, SGL_WORK_WORDS - 1, OUT), REFUSED(18));
+    IS(sgl_evaluate(N(printed), TEXT("a"), N(work), out, 2), REFUSED(7));
+    IS(sgl_claim(N(printed), TEXT("a"), TEXT("TON(2,a)"), N(work)), 2 * 5);
+    IS(sgl_claim(N(printed), TEXT("TON(2,a)"), TEXT("a"), N(work)), 0);
+    IS(sgl_claim(N(printed), TEXT("1"), TEXT("a"), N(work)), 1);
+    IS(sgl_claim(N(printed), TEXT(""), TEXT("a"), N(work)), 10ull << 40);
+}
+
+int main(void) {
+    lists();
+    operations();
+    sheets();
+    formulas();
+    return failed;
+}
