@@ -1,0 +1,52 @@
+-- `random_run::steps::unary` is safe and ends.
+use borrow.Author.Needs.{needs}
+use Prim.Native.Nat.{_≤_, _-_}
+use mathlib.Core.Path.{_≡_}
+use lib.ListN.{length}
+use Rattle.random_run.proofs.steps.unary.Statement.{statement}
+use Rattle.random_run.proofs.steps.unary.Tie as tie
+
+abbrev Inv-loop : tie.InvT-loop
+Inv-loop rows₀ kind d row m₀ rows m = length rows ≡ length rows₀
+
+abbrev μ-loop : tie.MeasureT-loop
+μ-loop rows₀ kind d row m₀ rows m = m
+
+loop-holds : tie.Need-loop-holds Inv-loop μ-loop
+loop-holds c = search needs
+
+sub-m : tie.Need-sub-m Inv-loop μ-loop
+sub-m c = search needs
+
+unary-up-requires : tie.Need-unary-up-requires Inv-loop μ-loop
+unary-up-requires c κs = search needs
+
+store-requires : tie.Need-store-requires Inv-loop μ-loop
+store-requires c κs = search needs
+
+loop-less : tie.Need-loop-less Inv-loop μ-loop
+loop-less c = search needs
+
+loop-again : tie.Need-loop-again Inv-loop μ-loop
+loop-again c = search needs
+
+same-length : tie.Need-same-length Inv-loop μ-loop
+same-length c = search needs
+
+returns : tie.Need-returns Inv-loop μ-loop
+returns c = search needs
+
+pub unary-spec : {M : Type 1} → statement M
+unary-spec =
+    tie.close
+    (tie.spec
+    Inv-loop
+    μ-loop
+    loop-holds
+    sub-m
+    unary-up-requires
+    store-requires
+    loop-less
+    loop-again
+    same-length
+    returns)
