@@ -1,5 +1,5 @@
 #!/bin/sh
-# Builds the proved archive in a copy outside the repository and runs the tests of the bindings against it, in C and in Rust.
+# Builds the proved archive in a copy outside the repository and runs the tests of the bindings against it, in C and in Rust, and those of bin/claim.
 #   bindings/build.sh          builds, tests, removes the copy
 #   bindings/build.sh --into DIR   the same, and leaves libcapi.a and the tool `sheet` in DIR
 set -eu
@@ -23,6 +23,7 @@ cp -R "$root/crates" "$root/crates.txt" "$copy/repository/"
 if [ -d "$root/target/rlib" ] && [ -d "$root/target/stamp" ]; then
     mkdir "$copy/repository/target"
     cp -R "$root/target/rlib" "$root/target/stamp" "$copy/repository/target/"
+    rm -rf "$copy/repository/target/stamp/claim"
 fi
 
 echo "bindings: proving capi and building its archive"
@@ -47,6 +48,30 @@ cd "$copy/bindings/rust"
 cargo test --offline --quiet
 cargo run --offline --quiet --example embed | cmp - "$root/bindings/c/embed.expected"
 cargo build --offline --quiet --release --bin sheet
+
+echo "bindings: bin/claim"
+cp -R "$root/bin" "$root/examples" "$copy/repository/"
+claim() {
+    "$copy/repository/bin/claim" "$1" "$2" "$copy/examples/$3"
+}
+# says FOUND WANTED WHAT
+says() {
+    if [ "$1" != "$2" ]; then
+        echo "bindings: bin/claim $3: $1, not $2" >&2
+        exit 1
+    fi
+}
+grep -v '^#' "$copy/examples/claims.txt" | while read -r sheet f g verdict; do
+    found=$(claim "$f" "$g" "$sheet" 2>"$copy/said") || [ $? -eq 1 ]
+    says "$found" "$verdict" "$f $g $sheet"
+done
+status=0
+found=$(claim knife cut trim.sgl 2>"$copy/said") || status=$?
+says "$status $found" "3 refused 13" "knife cut trim.sgl"
+says "$(cat "$copy/said")" "claim: refused 13: a formula has a name that the sheet does not have" "knife cut trim.sgl"
+status=0
+found=$(claim cut cut none.sgl 2>"$copy/said") || status=$?
+says "$status $found" "2 " "cut cut none.sgl"
 
 if [ -n "$into" ]; then
     cp "$RASCRUNEL_LIB/libcapi.a" "$CARGO_TARGET_DIR/release/sheet" "$into/"
