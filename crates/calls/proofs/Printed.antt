@@ -20,6 +20,7 @@ use Rattle.formulas.specs.Formula.{timedPart, nameAt, accepted, partsOf, depthO
 use Rattle.formulas.proofs.Reading.{tree-of}
 use Rattle.laws.specs.Rewriting.{parts}
 use Rattle.sheets.specs.Bytes.{low16, low32, wordsIn}
+use Rattle.slices.specs.Slices.{before}
 use Rattle.sheets.specs.Names.{letter, digit, lettersOrDigits, wellNamed, unpadded, zeros, fieldFits, same, among}
 use Rattle.sheets.specs.Reading as reading
 use Rattle.sheets.specs.Reading.{wordCount, signalSize, laterWordsFault, sheetWordsFault, signalFault, signalsFault, frontFault, countOn, sheetFault, signalsFrom, signalsOn, names, listNamed, environmentOn}
@@ -40,15 +41,15 @@ g = tree.Tree.unary (tree.Unary.ton 2) f
 
 -- the sheet is accepted and gives a the list [0,23,36]
 sheet-fine : sheetFault printedSheet ≡ 0
-unfolding sheetFault frontFault signalsFault signalFault sheetWordsFault laterWordsFault countOn wordCount signalSize reading.nameAt low16 low32 same among fieldFits wellNamed letter digit lettersOrDigits unpadded zeros dateOf valueAt valueAfter headValue changesNothing
+unfolding sheetFault frontFault signalsFault signalFault sheetWordsFault laterWordsFault countOn wordCount signalSize reading.nameAt low16 low32 same among fieldFits wellNamed letter digit lettersOrDigits unpadded before zeros dateOf valueAt valueAfter headValue changesNothing
 sheet-fine = refl
 
 list-f : listNamed printedF (signalsOn printedSheet) ≡ 0 ∷ 23 ∷ 36 ∷ []
-unfolding signalsOn signalsFrom listNamed countOn wordCount signalSize reading.nameAt low16 low32 wordsIn same unpadded
+unfolding signalsOn signalsFrom listNamed countOn wordCount signalSize reading.nameAt low16 low32 wordsIn same unpadded before
 list-f = refl
 
 found-f : among printedF (names (signalsOn printedSheet)) ≡ true
-unfolding signalsOn signalsFrom names among countOn wordCount signalSize reading.nameAt low16 same unpadded
+unfolding signalsOn signalsFrom names among countOn wordCount signalSize reading.nameAt low16 same unpadded before
 found-f = refl
 
 -- the texts are read

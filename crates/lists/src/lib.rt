@@ -425,19 +425,6 @@ fn tidy_fault(list: &[u32]) -> u32
     dates_fault(list)
 }
 
-// The word of a date and its two values.
-fn word_of(date: u32, at: bool, after: bool) -> u32
-    requires { ⌜ date ≤ 1073741823 ⌝ }
-    ensures { λ r. ⌜ r ≡ word date at after ⌝ }
-{
-    let w = 4 * date;
-    if at {
-        if after { w + 3 } else { w + 2 }
-    } else {
-        if after { w + 1 } else { w }
-    }
-}
-
 // A word written at a place that the output has.
 fn put(out: &mut [u32], place: usize, w: u32)
     ensures { λ r. ⌜ now (out .exit) ≡ set (now (out .entry)) place w ⌝ }
@@ -452,7 +439,7 @@ fn keep_word(out: &mut [u32], count: usize, date: Date, step: Step) -> usize
     requires { ⌜ (date .0 ≤ 1073741823) × (count < 4294967296) ⌝ }
     ensures { λ r. ⌜ (r ≡ count + length (entryOf (date .0) step)) × (now (out .exit) ≡ putIn (now (out .entry)) count (entryOf (date .0) step)) ⌝ }
 {
-    let w = word_of(date.0, step.at, step.after);
+    let w = signals::word_of(date, step.at, step.after) as u32;
     if changes_nothing(step.before, w) {
         return count;
     }

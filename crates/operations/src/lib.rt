@@ -45,19 +45,6 @@ fn idle_word(before: bool, at: bool, after: bool) -> bool
     }
 }
 
-// The word of a date and its two values.
-fn word_of(date: u32, at: bool, after: bool) -> u32
-    requires { ⌜ date ≤ 1073741823 ⌝ }
-    ensures { λ r. ⌜ r ≡ word date at after ⌝ }
-{
-    let w = 4 * date;
-    if at {
-        if after { w + 3 } else { w + 2 }
-    } else {
-        if after { w + 1 } else { w }
-    }
-}
-
 // A word of the given date and values, unless it changes nothing: counted always, stored while it is among the first
 // 256 and not dated after M.
 fn emit(slot: &mut [u32], made: Made, date: Date, at: bool, after: bool) -> Made
@@ -84,7 +71,7 @@ fn emit(slot: &mut [u32], made: Made, date: Date, at: bool, after: bool) -> Made
         };
     }
     if count < 256 {
-        slot[count] = word_of(on, at, after);
+        slot[count] = signals::word_of(date, at, after) as u32;
         return Made {
             value: after,
             count: count + 1,

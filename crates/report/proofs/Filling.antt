@@ -12,8 +12,8 @@ use Rattle.signals.specs.Answers.{writtenOf, outputOf}
 use Rattle.signals.specs.declared.Written.{Written}
 use Rattle.signals.specs.declared.Written.the-variants.{Count, Refused}
 use Rattle.signals.specs.declared.Verdict.{Verdict}
-use Rattle.sheets.specs.Walk.{placed}
-use Rattle.sheets.proofs.Filling.{then-put}
+use Rattle.slices.specs.Slices.{placed}
+use Rattle.slices.proofs.Placing.{then-put}
 use Rattle.calls.specs.Calls.{roomFault}
 use Rattle.report.specs.Line.{line, lineOf, decimal}
 use Rattle.report.specs.Reporting.{lineAnswer, lineOutput}

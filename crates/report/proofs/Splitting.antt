@@ -9,45 +9,13 @@ use lib.Dec.{eqb}
 use lib.ListN.{length, getD, take, drop, length-drop}
 use lib.Seq.{length-take-le, take-all}
 use borrow.Author.Tests.{eq-eqb, ne-eqb}
-use Rattle.sheets.proofs.Steps.{drop-step, drop-end}
+use Rattle.slices.specs.Slices.{before}
+use Rattle.slices.proofs.Steps.{drop-end}
 use Rattle.report.specs.Input.{toLineFeed, pastLineFeed, counted}
-
-module _ (s : List ℕ) (i : ℕ) where
-  pub feed-found : i < length s → getD s i 0 ≡ 10 → length (toLineFeed (drop i s)) ≡ 0
-  unfolding toLineFeed
-  feed-found p h = rw (drop-step s i p, eq-eqb _ _ h)
-
-  pub feed-passed : i < length s → (getD s i 0 ≡ 10 → ⊥)
-      → length (toLineFeed (drop i s)) ≡ suc (length (toLineFeed (drop (i + 1) s)))
-  unfolding toLineFeed
-  feed-passed p h = rw (drop-step s i p, ne-eqb _ _ h)
-
-  pub feed-none : length s ≤ i → length (toLineFeed (drop i s)) ≡ 0
-  unfolding toLineFeed
-  feed-none p = rw (drop-end s i p)
-
-pub feed-within : (s : List ℕ) → length (toLineFeed s) ≤ length s
-unfolding toLineFeed
-feed-within [] = omega arith
-feed-within (b ∷ bs) = go (eqb b 10) (feed-within bs)
-  where
-    go : (t : Bool) → length (toLineFeed bs) ≤ length bs → length (cond t [] (b ∷ toLineFeed bs)) ≤ suc (length bs)
-    go true h = omega arith
-    go false h = omega arith
-
-pub take-to-feed : (s : List ℕ) → take (length (toLineFeed s)) s ≡ toLineFeed s
-unfolding toLineFeed
-take-to-feed [] = refl
-take-to-feed (b ∷ bs) = go (eqb b 10) (take-to-feed bs)
-  where
-    go : (t : Bool) → take (length (toLineFeed bs)) bs ≡ toLineFeed bs
-        → take (length (cond t [] (b ∷ toLineFeed bs))) (b ∷ bs) ≡ cond t [] (b ∷ toLineFeed bs)
-    go true h = refl
-    go false h = ap (λ (l : List ℕ). b ∷ l) h
 
 -- the bytes past the line feed, whether there is one or not
 pub drop-past-feed : (s : List ℕ) → drop (suc (length (toLineFeed s))) s ≡ pastLineFeed s
-unfolding toLineFeed pastLineFeed
+unfolding toLineFeed before pastLineFeed
 drop-past-feed [] = refl
 drop-past-feed (b ∷ bs) = go (eqb b 10) (drop-past-feed bs)
   where

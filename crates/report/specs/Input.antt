@@ -5,11 +5,11 @@ use mathlib.Core.Bool.{cond}
 use mathlib.Core.List.{List, [], _∷_}
 use lib.Dec.{eqb}
 use lib.ListN.{take}
+use Rattle.slices.specs.Slices.{before}
 
 -- the bytes before the first line feed, which is 10; all of them when there is none
 unfoldable pub toLineFeed : List ℕ → List ℕ
-toLineFeed [] = []
-toLineFeed (b ∷ bs) = cond (eqb b 10) [] (b ∷ toLineFeed bs)
+toLineFeed text = before 10 text
 
 -- the bytes after the first line feed; none when there is none
 unfoldable pub pastLineFeed : List ℕ → List ℕ

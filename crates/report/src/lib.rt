@@ -2,7 +2,6 @@
 ghost use mathlib.Core.Path.{_≡_};
 ghost use Prim.Native.Nat.{_+_, _≤_};
 ghost use lib.ListN.{length, take, drop};
-ghost use Rattle.sheets.specs.Walk.{placed};
 ghost use Rattle.report.specs.Input.{toLineFeed, pastLineFeed, counted as Input·counted};
 ghost use Rattle.report.specs.Line.{decimal as Line·decimal, line as Line·line, lineOf};
 ghost use Rattle.report.specs.Reporting.{lineAnswer, lineOutput, firstFaultOf, reportAnswer, reportOutput};
@@ -22,25 +21,11 @@ fn counted(input: &[u8]) -> &[u8]
     input
 }
 
-// The number of bytes before the first line feed.
-fn line_len(text: &[u8]) -> usize
-    ensures { λ r. ⌜ r ≡ length (toLineFeed (now (text .entry))) ⌝ }
-{
-    let mut i = 0;
-    while i < text.len() {
-        if text[i] == 10 {
-            return i;
-        }
-        i += 1;
-    }
-    i
-}
-
 // The bytes before the first line feed.
 fn first_line(text: &[u8]) -> &[u8]
     ensures { λ r. ⌜ now r ≡ toLineFeed (now (text .entry)) ⌝ }
 {
-    let n = line_len(text);
+    let n = slices::len_before(text, 10);
     &text[..n]
 }
 
@@ -48,7 +33,7 @@ fn first_line(text: &[u8]) -> &[u8]
 fn rest(text: &[u8]) -> &[u8]
     ensures { λ r. ⌜ now r ≡ pastLineFeed (now (text .entry)) ⌝ }
 {
-    let n = line_len(text);
+    let n = slices::len_before(text, 10);
     if n < text.len() {
         return &text[n + 1..];
     }
@@ -71,18 +56,6 @@ fn decimal(n: u32, text: &mut [u8; 10]) -> usize
     at
 }
 
-// Writes bytes into the output at a place.
-fn put(out: &mut [u8], at: usize, bytes: &[u8])
-    requires { ⌜ at + length (now bytes) ≤ length (now out) ⌝ }
-    ensures { λ _. ⌜ now (out .exit) ≡ placed (now (out .entry)) at (now (bytes .entry)) ⌝ }
-{
-    let mut i = 0;
-    while i < bytes.len() {
-        out[at + i] = bytes[i];
-        i += 1;
-    }
-}
-
 // Writes a text, digits and a line feed.
 fn write_line(text: &[u8], digits: &[u8], out: &mut [u8]) -> Written
     requires { ⌜ (length (now text) ≤ 16) × (length (now digits) ≤ 16) ⌝ }
@@ -93,9 +66,9 @@ fn write_line(text: &[u8], digits: &[u8], out: &mut [u8]) -> Written
     if out.len() <= last {
         return Written::Refused(7);
     }
-    put(out, 0, text);
-    put(out, first, digits);
-    put(out, last, b"\n");
+    slices::put(out, 0, text);
+    slices::put(out, first, digits);
+    slices::put(out, last, b"\n");
     Written::Count(last + 1)
 }
 

@@ -17,14 +17,15 @@ use Rattle.sheets.proofs.Judging.{past}
 use Rattle.sheets.proofs.Steps.{part-rest}
 use Rattle.sheets.proofs.Locating.{both-none, front-none}
 use Rattle.sheets.proofs.Fields.{named-short}
-use Rattle.sheets.proofs.Filling.{then-put, length-entry, two}
+use Rattle.sheets.proofs.Filling.{length-entry, two}
+use Rattle.slices.proofs.Placing.{then-put}
 use Rattle.sheets.proofs.ReadBack.{sheet-written, length-signals}
 use Rattle.sheets.specs.Names.{wellNamed, among}
 use Rattle.sheets.specs.Bytes.{bytes16, Bytes}
 use Rattle.sheets.specs.Reading.{mark, sheetFault, countOn, signalsFrom, signalsOn, names, Entry, entry}
 use Rattle.sheets.specs.Writing.{entryBytes, entriesBytes, sheetBytes}
 use Rattle.sheets.specs.Calls.{appended, appendFault}
-use Rattle.sheets.specs.Walk.{placed}
+use Rattle.slices.specs.Slices.{placed}
 
 pub length-on : (sheet : List ℕ) → length (signalsOn sheet) ≡ countOn sheet
 unfolding signalsOn

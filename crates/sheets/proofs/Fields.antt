@@ -10,6 +10,7 @@ use lib.Seq.{drop-append-seam}
 use borrow.Author.Tests.{eqb-true, ne-eqb, leb-true}
 use Rattle.sheets.proofs.Truth.{and-left, and-right}
 use Rattle.sheets.proofs.Steps.{take-unpadded}
+use Rattle.slices.specs.Slices.{before}
 use Rattle.sheets.specs.Names.{letter, digit, lettersOrDigits, wellNamed, padded, unpadded, zeros, fieldFits}
 
 -- a character is no zero byte
@@ -29,12 +30,12 @@ character-above b h e = go (letter b) refl h
     go false p q = digit-above b q e
 
 unpadded-padding : (k : ℕ) → unpadded (replicate k 0) ≡ []
-unfolding unpadded
+unfolding unpadded before
 unpadded-padding zero = refl
 unpadded-padding (suc k) = refl
 
 characters-unpadded : (n : List ℕ) (k : ℕ) → lettersOrDigits n ≡ true → unpadded (n ++ replicate k 0) ≡ n
-unfolding unpadded lettersOrDigits
+unfolding unpadded before lettersOrDigits
 characters-unpadded [] k h = unpadded-padding k
 characters-unpadded (b ∷ bs) k h =
     rw (ne-eqb b 0 (character-above b (and-left (letter b || digit b) _ h)))

@@ -6,7 +6,9 @@ use mathlib.Core.List.{List, [], _∷_, _++_, append-assoc}
 use lib.ListN.{length, take, length-append, replicate, length-replicate}
 use lib.Seq.{length-take-le}
 use borrow.Author.Tests.{lt-ltb, le-ltb}
-use Rattle.sheets.proofs.Placing.{placed-more, length-words}
+use Rattle.slices.specs.Slices.{placed}
+use Rattle.slices.proofs.Placing.{then-put}
+use Rattle.sheets.proofs.Placing.{length-words}
 use Rattle.signals.specs.Answers.{writtenOf, outputOf}
 use Rattle.signals.specs.declared.Written.the-variants.{Count, Refused}
 use Rattle.sheets.specs.Names.{padded}
@@ -14,12 +16,6 @@ use Rattle.sheets.specs.Bytes.{bytes16, wordBytes}
 use Rattle.sheets.specs.Reading.{mark, entry}
 use Rattle.sheets.specs.Writing.{entryBytes, entriesBytes, sheetBytes}
 use Rattle.sheets.specs.Calls.{beginFault}
-use Rattle.sheets.specs.Walk.{placed}
-
--- bytes written right after others
-pub then-put : (out o₁ o₂ : List ℕ) (at k : ℕ) (x y : List ℕ) → o₁ ≡ placed out at x → o₂ ≡ placed o₁ k y → k ≡ at + length x
-    → k + length y ≤ length out → o₂ ≡ placed out at (x ++ y)
-then-put out o₁ o₂ at k x y e f g h = f ∙ rw (e, g) (placed-more out at x y (omega arith))
 
 -- eight zero bytes to pad from
 abbrev pub zeros8 : List ℕ

@@ -1,53 +1,16 @@
--- Bytes written at a place of an output, and then more bytes after them.
+-- Numbers and words written at a place of an output.
 use Prim.Native.Nat.{ℕ, _+_, _*_, _≤_, _<_}
 use native.Mathlib.Numerals.{add-one, add-two, add-three}
 use native.Mathlib.Omega.{arith}
 use mathlib.Core.Path.{_≡_, refl, sym, ap, _∙_}
 use mathlib.Core.List.{List, [], _∷_, _++_, append-assoc, append-nil}
-use lib.ListN.{length, getD, set, take, drop, length-append}
-use lib.Seq.{take-length, take-all, length-take-le, take-suc, length-paste, take-paste, drop-paste, drop-drop, paste, paste-zero, paste-suc, sets-eq}
+use lib.ListN.{length, getD, set, take}
+use lib.Seq.{take-all, length-take-le, take-suc, sets-eq}
+use Rattle.slices.specs.Slices.{placed}
+use Rattle.slices.proofs.Placing.{placed-more, placed-none}
 use Rattle.sheets.specs.Bytes.{bytes32, wordBytes}
-use Rattle.sheets.specs.Walk.{placed}
 
-pub placed-as-paste : (out : List ℕ) (at : ℕ) (s : List ℕ) → paste out at s (length s) ≡ placed out at s
-placed-as-paste out at s = rw (take-length s)
-
-pub length-placed : (out : List ℕ) (at : ℕ) (s : List ℕ) → at + length s ≤ length out → length (placed out at s) ≡ length out
-length-placed out at s h = rw (← placed-as-paste out at s) (length-paste out at s (length s) h (omega arith))
-
-pub placed-more : (out : List ℕ) (at : ℕ) (x y : List ℕ) → at + length x + length y ≤ length out
-    → placed (placed out at x) (at + length x) y ≡ placed out at (x ++ y)
-placed-more out at x y h =
-    ap (λ (l : List ℕ). l ++ y ++ drop (at + length x + length y) (placed out at x)) front
-    ∙ ap (λ (l : List ℕ). take at out ++ x ++ y ++ l) back
-    ∙ ap (λ (l : List ℕ). l ++ drop (at + length x + length y) out) (append-assoc (take at out) x y)
-    ∙ ap (λ (k : ℕ). take at out ++ (x ++ y) ++ drop k out) sizes
-  where
-    front : take (at + length x) (placed out at x) ≡ take at out ++ x
-    front =
-        rw (← placed-as-paste out at x)
-        (take-paste out at x (length x) (omega arith) (omega arith) ∙ ap (λ (l : List ℕ). take at out ++ l) (take-length x))
-
-    past : drop (at + length x) (placed out at x) ≡ drop (at + length x) out
-    past = rw (← placed-as-paste out at x) (drop-paste out at x (length x) (omega arith) (omega arith))
-
-    back : drop (at + length x + length y) (placed out at x) ≡ drop (at + length x + length y) out
-    back =
-        sym (drop-drop (length y) (at + length x) (placed out at x))
-        ∙ ap (λ (l : List ℕ). drop (length y) l) past
-        ∙ drop-drop (length y) (at + length x) out
-
-    sizes : at + length x + length y ≡ at + length (x ++ y)
-    sizes = rw (length-append x y) (omega arith)
-
-pub placed-none : (out : List ℕ) (at : ℕ) → out ≡ placed out at []
-placed-none out at = paste-zero out at []
-
--- one byte more; two and four bytes
-pub put-turn : (out₀ : List ℕ) (at : ℕ) (s : List ℕ) (i : ℕ) (out : List ℕ) → at + length s ≤ length out₀ → i < length s
-    → out ≡ paste out₀ at s i → set out (at + i) (getD s i 0) ≡ paste out₀ at s (i + 1)
-put-turn out₀ at s i out room h e = rw (e, add-one) (paste-suc out₀ at s i 0 (omega arith) h)
-
+-- two and four bytes
 pub put-two : (out : List ℕ) (at a b : ℕ) → at + 2 ≤ length out → set (set out at a) (at + 1) b ≡ placed out at (a ∷ b ∷ [])
 put-two out at a b h = rw add-one (sets-eq (a ∷ b ∷ []) out at h)
 

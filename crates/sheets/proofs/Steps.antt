@@ -9,14 +9,9 @@ use lib.Dec.{eqb}
 use lib.ListN.{length, getD, take, drop, drop-of-length-le, length-drop}
 use lib.Seq.{drop-cons, take-all}
 use borrow.Author.Tests.{eq-eqb, ne-eqb, lt-leb, le-leb, eqb-true}
+use Rattle.slices.proofs.Steps.{drop-step, drop-end, before-within, take-before}
 use Rattle.sheets.proofs.Truth.{true-false, and-left, and-right, is-false}
 use Rattle.sheets.specs.Names.{same, zeros, letter, digit, lettersOrDigits, unpadded, wellNamed, fieldFits}
-
-pub drop-step : (l : List ℕ) (i : ℕ) → i < length l → drop i l ≡ getD l i 0 ∷ drop (i + 1) l
-drop-step l i h = rw (add-one, drop-cons l i 0)
-
-pub drop-end : (l : List ℕ) (i : ℕ) → length l ≤ i → drop i l ≡ []
-drop-end l i h = drop-of-length-le l {i = i} h
 
 module _ (a b : List ℕ) (i : ℕ) where
   pub same-differ : i < length a → i < length b → (getD a i 0 ≡ getD b i 0 → ⊥) → same (drop i a) (drop i b) ≡ false
@@ -54,18 +49,6 @@ module _ (s : List ℕ) (i : ℕ) where
   unfolding zeros
   zeros-end p = rw (drop-end s i p)
 
-  pub unpadded-stop : i < length s → getD s i 0 ≡ 0 → length (unpadded (drop i s)) ≡ 0
-  unfolding unpadded
-  unpadded-stop p h = rw (drop-step s i p, eq-eqb _ _ h)
-
-  pub unpadded-step : i < length s → (getD s i 0 ≡ 0 → ⊥) → length (unpadded (drop i s)) ≡ suc (length (unpadded (drop (i + 1) s)))
-  unfolding unpadded
-  unpadded-step p h = rw (drop-step s i p, ne-eqb _ _ h)
-
-  pub unpadded-end : length s ≤ i → length (unpadded (drop i s)) ≡ 0
-  unfolding unpadded
-  unpadded-end p = rw (drop-end s i p)
-
   pub characters-letter : i < length s → letter (getD s i 0) ≡ true → lettersOrDigits (drop i s) ≡ lettersOrDigits (drop (i + 1) s)
   unfolding lettersOrDigits
   characters-letter p h = rw (drop-step s i p, h)
@@ -85,22 +68,11 @@ module _ (s : List ℕ) (i : ℕ) where
 
 pub unpadded-within : (f : List ℕ) → length (unpadded f) ≤ length f
 unfolding unpadded
-unpadded-within [] = omega arith
-unpadded-within (b ∷ bs) = go (eqb b 0) (unpadded-within bs)
-  where
-    go : (t : Bool) → length (unpadded bs) ≤ length bs → length (cond t [] (b ∷ unpadded bs)) ≤ suc (length bs)
-    go true h = omega arith
-    go false h = omega arith
+unpadded-within f = before-within 0 f
 
 pub take-unpadded : (f : List ℕ) → take (length (unpadded f)) f ≡ unpadded f
 unfolding unpadded
-take-unpadded [] = refl
-take-unpadded (b ∷ bs) = go (eqb b 0) (take-unpadded bs)
-  where
-    go : (t : Bool) → take (length (unpadded bs)) bs ≡ unpadded bs
-        → take (length (cond t [] (b ∷ unpadded bs))) (b ∷ bs) ≡ cond t [] (b ∷ unpadded bs)
-    go true h = refl
-    go false h = ap (λ (l : List ℕ). b ∷ l) h
+take-unpadded f = take-before 0 f
 
 pub named-empty : (n : List ℕ) → length n ≡ 0 → wellNamed n ≡ false
 unfolding wellNamed

@@ -4,6 +4,7 @@ use mathlib.Core.Bool.{Bool, true, false, cond, _&&_, _||_}
 use mathlib.Core.List.{List, [], _∷_, _++_}
 use lib.Dec.{leb, eqb}
 use lib.ListN.{length, drop, replicate}
+use Rattle.slices.specs.Slices.{before}
 
 -- a lowercase letter; a digit
 unfoldable pub letter : ℕ → Bool
@@ -27,8 +28,7 @@ padded name = name ++ replicate (8 - length name) 0
 
 -- the characters of a name field: those before its first zero byte
 unfoldable pub unpadded : List ℕ → List ℕ
-unpadded [] = []
-unpadded (b ∷ bs) = cond (eqb b 0) [] (b ∷ unpadded bs)
+unpadded field = before 0 field
 
 unfoldable pub zeros : List ℕ → Bool
 zeros [] = true

@@ -1,7 +1,7 @@
 -- What private functions assume while they walk a sheet. No rule of document 01 rests on it.
 use Prim.Native.Nat.{ℕ, zero, suc, _+_, _≤_}
-use mathlib.Core.List.{List, _++_}
-use lib.ListN.{length, take, drop}
+use mathlib.Core.List.{List}
+use lib.ListN.{length, drop}
 use Rattle.sheets.specs.Reading.{signalSize}
 
 -- n whole signals stand at the front
@@ -13,7 +13,3 @@ Whole (suc n) rest = (signalSize rest ≤ length rest) × Whole n (drop (signalS
 unfoldable pub sizeOf : ℕ → List ℕ → ℕ
 sizeOf zero rest = 0
 sizeOf (suc n) rest = signalSize rest + sizeOf n (drop (signalSize rest) rest)
-
--- the output with these bytes written at a place
-abbrev pub placed : List ℕ → ℕ → List ℕ → List ℕ
-placed out at bytes = take at out ++ bytes ++ drop (at + length bytes) out

@@ -9,7 +9,8 @@ ghost use Rattle.sheets.specs.Bytes.{low16, low32, bytes16, bytes32, wor
 ghost use Rattle.sheets.specs.Reading.{wordCount, signalSize, sheetWordsFault, signalFault, frontFault, sheetFault, signalsFrom, names, entry};
 ghost use Rattle.sheets.specs.Writing.{entryBytes, sheetBytes};
 ghost use Rattle.sheets.specs.Calls.{placeFrom, placeOf, lookupFault, lookupOf, beginFault, appended, appendFault};
-ghost use Rattle.sheets.specs.Walk.{Whole, placed};
+ghost use Rattle.sheets.specs.Walk.{Whole};
+ghost use Rattle.slices.specs.Slices.{placed};
 ghost use Rattle.signals.specs.Words.{changesNothing};
 ghost use Rattle.signals.specs.Answers.{writtenOf, outputOf};
 use signals::Written;
@@ -52,20 +53,6 @@ fn all_zero(s: &[u8]) -> bool
         i += 1;
     }
     true
-}
-
-// The number of bytes before the first zero byte.
-fn name_len(field: &[u8]) -> usize
-    ensures { λ r. ⌜ r ≡ length (unpadded (now (field .entry))) ⌝ }
-{
-    let mut i = 0;
-    while i < field.len() {
-        if field[i] == 0 {
-            return i;
-        }
-        i += 1;
-    }
-    i
 }
 
 fn is_letter(b: u8) -> bool
@@ -126,7 +113,7 @@ pub fn well_named(name: &[u8]) -> bool
 fn name_in(field: &[u8]) -> &[u8]
     ensures { λ r. ⌜ now r ≡ unpadded (now (field .entry)) ⌝ }
 {
-    let n = name_len(field);
+    let n = slices::len_before(field, 0);
     &field[..n]
 }
 
@@ -387,18 +374,6 @@ pub fn lookup_fault(sheet: &[u8], name: &[u8]) -> u32
     }
 }
 
-// Writes bytes into the output at a place.
-fn put(out: &mut [u8], at: usize, bytes: &[u8])
-    requires { ⌜ at + length (now bytes) ≤ length (now out) ⌝ }
-    ensures { λ _. ⌜ now (out .exit) ≡ placed (now (out .entry)) at (now (bytes .entry)) ⌝ }
-{
-    let mut i = 0;
-    while i < bytes.len() {
-        out[at + i] = bytes[i];
-        i += 1;
-    }
-}
-
 // Writes a 16-bit number, low byte first.
 fn put16(out: &mut [u8], at: usize, n: usize)
     requires { ⌜ at + 2 ≤ length (now out) ⌝ }
@@ -438,8 +413,8 @@ fn put_name(out: &mut [u8], at: usize, name: &[u8])
 {
     let n = name.len();
     let pad = [0u8; 8];
-    put(out, at, name);
-    put(out, at + n, &pad[..8 - n]);
+    slices::put(out, at, name);
+    slices::put(out, at + n, &pad[..8 - n]);
 }
 
 // Writes a signal: its name, its word count, its words.
@@ -459,7 +434,7 @@ pub fn begin(out: &mut [u8]) -> Written
     if out.len() < 7 {
         return Written::Refused(7);
     }
-    put(out, 0, &MARK);
+    slices::put(out, 0, &MARK);
     put16(out, 3, 1);
     put16(out, 5, 0);
     Written::Count(7)
@@ -504,9 +479,9 @@ pub fn append(sheet: &[u8], name: &[u8], list: &[u32], out: &mut [u8]) -> Writte
     }
     let count = read16(sheet, 5);
     let end = sheet.len();
-    put(out, 0, &sheet[..5]);
+    slices::put(out, 0, &sheet[..5]);
     put16(out, 5, count + 1);
-    put(out, 7, &sheet[7..]);
+    slices::put(out, 7, &sheet[7..]);
     put_signal(out, end, name, list);
     Written::Count(end + (10 + 4 * list.len()))
 }

@@ -1,6 +1,7 @@
 // Dates, lengths, the one operation that adds them, and the answers that the crates above share.
 ghost use mathlib.Core.Path.{_≡_};
 ghost use Rattle.signals.specs.Answers.{sumOf};
+ghost use Rattle.signals.specs.Words.{word};
 
 // The largest date and the largest length.
 pub const M: u32 = 1073741823;
@@ -56,4 +57,16 @@ pub fn date_plus_length(date: Date, length: Length) -> Sum
         return Sum::PastM(sum);
     }
     Sum::On(Date(sum))
+}
+
+// The word of a date and its two values, in 64 bits so that it is exact for every date; up to M it fits in 32.
+pub fn word_of(date: Date, at: bool, after: bool) -> u64
+    ensures { λ r. ⌜ r ≡ word (date .0) at after ⌝ }
+{
+    let w = 4 * date.0 as u64;
+    if at {
+        if after { w + 3 } else { w + 2 }
+    } else {
+        if after { w + 1 } else { w }
+    }
 }

@@ -1,11 +1,16 @@
 -- `lists::keep_word` meets its contract: the entry of the date is laid on.
 use Rattle.lists.proofs.Keepings.{kept-none, kept-one}
+use Rattle.signals.proofs.WordFacts.{word-lt}
+use native.Mathlib.Omega.{arith}
 use borrow.Author.Needs.{needs}
 use Rattle.lists.proofs.keep_word.Statement.{statement}
 use Rattle.lists.proofs.keep_word.Tie as tie
 
 word-of-requires : tie.Need-word-of-requires
 word-of-requires c κs = search needs
+
+cast-w : tie.Need-cast-w
+cast-w c = omega (arith, word-lt (c .before .before .args .date .0) (c .before .before .args .step .at) (c .before .before .args .step .after) (c .before .before .pre .0))
 
 changes-nothing-requires : tie.Need-changes-nothing-requires
 changes-nothing-requires c κs = search needs
@@ -30,6 +35,7 @@ keep-word-spec =
     tie.close
     (tie.spec
     word-of-requires
+    cast-w
     changes-nothing-requires
     returns
     put-requires

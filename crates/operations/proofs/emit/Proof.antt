@@ -1,6 +1,8 @@
 -- `operations::emit` meets its contract: at each `return` the tests that led there say which case holds.
 use mathlib.Core.Path.{_≡_, refl, sym, _∙_}
 use Rattle.operations.proofs.Emitting.{emit-idle, emit-late, emit-past-M, emit-stored, emit-counted}
+use Rattle.signals.proofs.WordFacts.{word-lt}
+use native.Mathlib.Omega.{arith}
 use borrow.Author.Needs.{needs}
 use Rattle.operations.proofs.emit.Statement.{statement}
 use Rattle.operations.proofs.emit.Tie as tie
@@ -26,14 +28,19 @@ returns-3 c = emit-past-M _ _ _ _ _ (sym (c .before .before .before .idle-word .
 word-of-requires : tie.Need-word-of-requires
 word-of-requires c κs = search needs
 
+cast-slot : tie.Need-cast-slot
+cast-slot c =
+    let args = c .before .before .before .before .before .before .before .args in
+    omega (arith, word-lt (args .date .0) (args .at) (args .after) (c .before .before .if3 .left))
+
 mul-slot : tie.Need-mul-slot
 mul-slot c = search needs
 
 slice-write-slot : tie.Need-slice-write-slot
 slice-write-slot c = search needs
 
-add-t13 : tie.Need-add-t13
-add-t13 c = search needs
+add-t14 : tie.Need-add-t14
+add-t14 c = search needs
 
 same-length : tie.Need-same-length
 same-length c = search needs
@@ -41,8 +48,8 @@ same-length c = search needs
 returns-4 : tie.Need-returns-4
 returns-4 c = emit-stored _ _ _ _ _ (sym (c .before .before .before .before .before .idle-word .ensures) ∙ c .before .before .before .before .if1 .left) (c .before .before .before .if2 .left) (c .before .before .if3 .left) (c .before .if4 .taken) _ (c .word-of .ensures)
 
-add-t15 : tie.Need-add-t15
-add-t15 c = search needs
+add-t16 : tie.Need-add-t16
+add-t16 c = search needs
 
 returns-5 : tie.Need-returns-5
 returns-5 c = emit-counted _ _ _ _ _ (sym (c .before .before .before .before .idle-word .ensures) ∙ c .before .before .before .if1 .left) (c .before .before .if2 .left) (c .before .if3 .left) (c .if4 .left)
@@ -58,10 +65,11 @@ emit-spec =
     add-t11
     returns-3
     word-of-requires
+    cast-slot
     mul-slot
     slice-write-slot
-    add-t13
+    add-t14
     same-length
     returns-4
-    add-t15
+    add-t16
     returns-5)

@@ -5,12 +5,13 @@ use mathlib.Core.Path.{_≡_, sym}
 use Prim.Native.Nat.{ℕ, _≤_}
 use lib.ListN.{length}
 use denote.Ref.{now}
-use Rattle.report.proofs.Splitting.{feed-within, past-found, past-none}
+use Rattle.report.proofs.Splitting.{past-found, past-none}
+use Rattle.slices.proofs.Steps.{before-within}
 use Rattle.report.proofs.rest.Statement.{statement}
 use Rattle.report.proofs.rest.Tie as tie
 
-line-len-requires : tie.Need-line-len-requires
-line-len-requires c κs = search needs
+len-before-requires : tie.Need-len-before-requires
+len-before-requires c κs = search needs
 
 add-result : tie.Need-add-result
 add-result c = search needs
@@ -25,27 +26,27 @@ part-result-end : tie.Need-part-result-end
 part-result-end c = search needs
 
 returns : tie.Need-returns
-returns c = past-found (now (c .before .before .before .before .args .text)) (c .before .before .line-len .result) (c .before .before .line-len .ensures)
+returns c = past-found (now (c .before .before .before .before .args .text)) (c .before .before .len-before .result) (c .before .before .len-before .ensures)
 
 sub-result-2 : tie.Need-sub-result-2
-sub-result-2 c = rw (c .before .line-len .ensures) (feed-within (now (c .before .before .before .args .text)))
+sub-result-2 c = rw (c .before .len-before .ensures) (before-within 10 (now (c .before .before .before .args .text)))
 
 part-result-start-2 : tie.Need-part-result-start-2
 part-result-start-2 c =
-    let h : c .before .line-len .result ≤ length (now (c .before .before .before .args .text)) = rw (c .before .line-len .ensures) (feed-within (now (c .before .before .before .args .text))) in
+    let h : c .before .len-before .result ≤ length (now (c .before .before .before .args .text)) = rw (c .before .len-before .ensures) (before-within 10 (now (c .before .before .before .args .text))) in
     search needs
 
 part-result-end-2 : tie.Need-part-result-end-2
 part-result-end-2 c = search needs
 
 returns-2 : tie.Need-returns-2
-returns-2 c = past-none (now (c .before .before .before .before .args .text)) (c .before .before .line-len .result) (c .before .before .line-len .ensures) (c .before .if1 .left)
+returns-2 c = past-none (now (c .before .before .before .before .args .text)) (c .before .before .len-before .result) (c .before .before .len-before .ensures) (c .before .if1 .left)
 
 pub rest-spec : {M : Type 1} → statement M
 rest-spec =
     tie.close
     (tie.spec
-    line-len-requires
+    len-before-requires
     add-result
     sub-result
     part-result-start

@@ -11,6 +11,7 @@ use denote.Ref.{now}
 use mathlib.Core.List.{List}
 use Rattle.sheets.specs.Bytes.{Bytes}
 use Rattle.sheets.specs.Calls.{appendFault}
+use Rattle.slices.proofs.Placing.{put-fits}
 use Rattle.sheets.proofs.Locating.{count-is}
 use Rattle.sheets.proofs.Appending.{append-refused, append-put, append-room, Roomy}
 use Rattle.sheets.proofs.append.Statement.{statement}
@@ -55,7 +56,7 @@ slice-aggregate-put : tie.Need-slice-aggregate-put
 slice-aggregate-put c = sym (length-take-le 5 (S (c .before .before .before)) (omega (arith, fits (c .before .before .before) .front)))
 
 put-requires : tie.Need-put-requires
-put-requires c κs = let k = fits (c .before .before .before) in omega (arith, length-take-le 5 (S (c .before .before .before)) (omega arith))
+put-requires c κs = search needs
 
 add-put16 : tie.Need-add-put16
 add-put16 c = search needs
@@ -73,9 +74,7 @@ part-put-end : tie.Need-part-put-end
 part-put-end c = search needs
 
 put-requires-2 : tie.Need-put-requires-2
-put-requires-2 c κs =
-    let k = fits (c .before .before .before .before .before .before .before .before .before .before .before .before) in
-    omega (arith, c .before .before .before .before .before .before .before .before .put .kept .0, c .before .before .before .before .put16 .kept .0, ap length (part-rest (S (c .before .before .before .before .before .before .before .before .before .before .before .before)) 7), length-drop 7 (S (c .before .before .before .before .before .before .before .before .before .before .before .before)))
+put-requires-2 c κs = search needs
 
 put-signal-requires : tie.Need-put-signal-requires
 put-signal-requires c κs =
@@ -97,9 +96,16 @@ same-length c = search needs
 returns-2 : tie.Need-returns-2
 returns-2 c =
     let d = c .before .before .before .before .before .before .before .before .before .before .before .before .before .before .before .before .before .before .before in
-    append-put (S d) (N d) (L d) (O d) (c .before .before .before .before .before .before .before .before .before .before .before .before .before .before .before .put .last .0) (c .before .before .before .before .before .before .before .before .before .before .before .put16 .last .0) (c .before .before .before .before .before .before .put2 .last .0) (c .before .before .put-signal .last .0) (c .before .before .before .before .before .before .before .before .before .before .before .before .before .before .before .before .before .before .read16 .result) (bytes d)
-    (none d) (count-is (S d) (c .before .before .before .before .before .before .before .before .before .before .before .before .before .before .before .before .before .before .read16 .result) (c .before .before .before .before .before .before .before .before .before .before .before .before .before .before .before .before .before .before .read16 .ensures .0)) (c .before .before .before .before .before .before .before .before .before .before .before .before .before .before .before .put .ensures) (c .before .before .before .before .before .before .before .before .before .before .before .put16 .ensures) (c .before .before .before .before .before .before .put2 .ensures)
-    (c .before .before .put-signal .ensures)
+    let k = fits d in
+    let count = c .before .before .before .before .before .before .before .before .before .before .before .before .before .before .before .before .before .before .read16 in
+    let first = c .before .before .before .before .before .before .before .before .before .before .before .before .before .before .before .put in
+    let second = c .before .before .before .before .before .before .before .before .before .before .before .put16 in
+    let third = c .before .before .before .before .before .before .put2 in
+    let last = c .before .before .put-signal in
+    let first-is = first .ensures ∙ put-fits _ _ _ (omega (arith, length-take-le 5 (S d) (omega arith))) in
+    let third-is = third .ensures ∙ put-fits _ _ _ (omega (arith, first .kept .0, second .kept .0, ap length (part-rest (S d) 7), length-drop 7 (S d))) in
+    append-put (S d) (N d) (L d) (O d) (first .last .0) (second .last .0) (third .last .0) (last .last .0) (count .result) (bytes d) (none d)
+    (count-is (S d) (count .result) (count .ensures .0)) first-is (second .ensures) third-is (last .ensures)
 
 pub append-spec : {M : Type 1} → statement M
 append-spec =

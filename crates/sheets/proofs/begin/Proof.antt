@@ -1,6 +1,9 @@
 -- `sheets::begin` meets its contract.
 use borrow.Author.Needs.{needs}
+use native.Mathlib.Omega.{arith}
+use mathlib.Core.Path.{_∙_}
 use denote.Ref.{now}
+use Rattle.slices.proofs.Placing.{put-fits}
 use Rattle.sheets.proofs.Filling.{begin-short, begin-put}
 use Rattle.sheets.proofs.begin.Statement.{statement}
 use Rattle.sheets.proofs.begin.Tie as tie
@@ -30,7 +33,7 @@ returns-2 c =
     let put = c .before .before .before .before .before .before .before .before .before .before .put in
     let put16 = c .before .before .before .before .before .before .put16 in
     let put162 = c .before .before .put162 in
-    begin-put (now (args .out)) (put .last .0) (put16 .last .0) (put162 .last .0) (if1 .left) (put .ensures) (put16 .ensures) (put162 .ensures)
+    begin-put (now (args .out)) (put .last .0) (put16 .last .0) (put162 .last .0) (if1 .left) (put .ensures ∙ put-fits _ _ _ (omega arith)) (put16 .ensures) (put162 .ensures)
 
 pub begin-spec : {M : Type 1} → statement M
 begin-spec =

@@ -2,9 +2,10 @@
 use borrow.Author.Needs.{needs}
 use native.Mathlib.Omega.{arith}
 use Prim.Native.Nat.{_-_}
-use mathlib.Core.Path.{sym}
+use mathlib.Core.Path.{sym, _∙_}
 use lib.ListN.{length}
 use denote.Ref.{now}
+use Rattle.slices.proofs.Placing.{put-fits}
 use Rattle.sheets.proofs.Filling.{length-pad, name-put}
 use Rattle.sheets.proofs.put_name.Statement.{statement}
 use Rattle.sheets.proofs.put_name.Tie as tie
@@ -25,7 +26,7 @@ slice-aggregate-put : tie.Need-slice-aggregate-put
 slice-aggregate-put c = sym (length-pad (8 - length (now (c .before .before .before .before .before .before .before .before .args .name))) (omega arith))
 
 put-requires-2 : tie.Need-put-requires-2
-put-requires-2 c κs = omega (arith, length-pad (8 - length (now (c .before .before .before .before .before .before .before .before .args .name))) (omega arith), c .before .before .before .before .put .kept .0)
+put-requires-2 c κs = search needs
 
 same-length : tie.Need-same-length
 same-length c = search needs
@@ -36,7 +37,8 @@ returns c =
     let pre = c .before .before .before .before .before .before .before .before .before .before .before .pre in
     let put = c .before .before .before .before .before .before .before .put in
     let put2 = c .before .before .put2 in
-    name-put (now (args .out)) (put .last .0) (put2 .last .0) (args .at) (now (args .name)) (pre .1) (pre .0) (put .ensures) (put2 .ensures)
+    let pad = length-pad (8 - length (now (args .name))) (omega arith) in
+    name-put (now (args .out)) (put .last .0) (put2 .last .0) (args .at) (now (args .name)) (pre .1) (pre .0) (put .ensures ∙ put-fits _ _ _ (omega arith)) (put2 .ensures ∙ put-fits _ _ _ (omega (arith, put .kept .0)))
 
 pub put-name-spec : {M : Type 1} → statement M
 put-name-spec =

@@ -6,7 +6,7 @@ use mathlib.Core.Path.{_≡_, refl, _∙_}
 use lib.ListN.{length, take}
 use denote.Ref.{now}
 use Rattle.sheets.specs.Bytes.{wordBytes}
-use Rattle.sheets.specs.Walk.{placed}
+use Rattle.slices.specs.Slices.{placed}
 use Rattle.sheets.proofs.Placing.{words-turn, words-all, words-none}
 use Rattle.sheets.proofs.put_words.Statement.{statement}
 use Rattle.sheets.proofs.put_words.Tie as tie

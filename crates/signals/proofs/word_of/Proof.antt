@@ -1,9 +1,12 @@
--- `lists::word_of` gives the word of a date and its two values.
+-- `signals::word_of` gives the word of a date and its two values.
 use native.Mathlib.Omega.{arith}
 use Rattle.signals.specs.Words.{word}
 use borrow.Author.Needs.{needs}
-use Rattle.lists.proofs.word_of.Statement.{statement}
-use Rattle.lists.proofs.word_of.Tie as tie
+use Rattle.signals.proofs.word_of.Statement.{statement}
+use Rattle.signals.proofs.word_of.Tie as tie
+
+cast-w : tie.Need-cast-w
+cast-w c = search needs
 
 mul-w : tie.Need-mul-w
 mul-w c = search needs
@@ -36,4 +39,4 @@ returns-4 c = rw (c .before .if1 .left, c .if3 .left) (omega arith)
 pub word-of-spec : {M : Type 1} → statement M
 word-of-spec =
     tie.close
-    (tie.spec mul-w add-result add-result-2 add-result-3 returns returns-2 returns-3 returns-4)
+    (tie.spec cast-w mul-w add-result add-result-2 add-result-3 returns returns-2 returns-3 returns-4)

@@ -1,0 +1,2 @@
+-- What the contracts of this crate say of bytes.
+pub mod Slices

@@ -1,0 +1,35 @@
+// What sheets and the program's report both do with bytes.
+ghost use mathlib.Core.Path.{_≡_};
+ghost use lib.ListN.{length};
+ghost use Rattle.slices.specs.Slices.{before, putAt};
+
+// The number of bytes before the first that is `stop`; of all bytes when none is.
+pub fn len_before(bytes: &[u8], stop: u8) -> usize
+    ensures { λ r. ⌜ r ≡ length (before stop (now (bytes .entry))) ⌝ }
+{
+    let mut i = 0;
+    while i < bytes.len() {
+        if bytes[i] == stop {
+            return i;
+        }
+        i += 1;
+    }
+    i
+}
+
+// Writes bytes into the output at a place; nothing where they do not fit.
+pub fn put(out: &mut [u8], at: usize, bytes: &[u8])
+    ensures { λ _. ⌜ now (out .exit) ≡ putAt (now (out .entry)) at (now (bytes .entry)) ⌝ }
+{
+    if out.len() < at {
+        return;
+    }
+    if out.len() - at < bytes.len() {
+        return;
+    }
+    let mut i = 0;
+    while i < bytes.len() {
+        out[at + i] = bytes[i];
+        i += 1;
+    }
+}
