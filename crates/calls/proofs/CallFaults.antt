@@ -8,7 +8,6 @@ use mathlib.Core.List.{List}
 use lib.Dec.{ltb}
 use lib.ListN.{length}
 use borrow.Author.Tests.{ltb-true, ltb-false}
-use Rattle.operations.specs.Calls.{firstOf}
 use Rattle.formulas.specs.Tree.{Tree}
 use Rattle.formulas.specs.Grammar.{Writes}
 use Rattle.formulas.specs.Formula.{formulaTree}
@@ -19,10 +18,12 @@ use Rattle.calls.specs.OnSheet.{signalOn, exactOn}
 use Rattle.calls.specs.Calls.{neededWork, readingFault, workFault, partsFault, workingFault, wordsOn, roomFault, callFault, claimFault}
 use Rattle.calls.specs.NormalLists.{ListFor}
 use Rattle.calls.specs.Tabled.{Check, NoFault, SheetBreaks, Breaks18, Meets5, Meets6, FineBefore, Breaks5, Breaks6, Breaks7, ReadingChecks, WorkingChecks, CallFaultIs, ClaimFaultIs}
-use Rattle.calls.proofs.FirstFault.{first-none, first-some, first-with-none, zero-or-not, check-by}
+use Rattle.calls.proofs.FirstFault.{first-some, zero-or-not, check-by}
 use Rattle.calls.proofs.Settles.{exact-for, one-for}
 use Rattle.calls.proofs.PartFaults.{parts-fault}
 use Rattle.calls.proofs.ReadingFaults.{derived, text-fine, reading-fault}
+use Rattle.signals.specs.Answers.{firstOf}
+use Rattle.signals.proofs.FirstFault.{first-with-none, next-is}
 
 -- the part found first
 abbrev At5 : List ℕ → Tree → Type 0
@@ -61,7 +62,7 @@ working-fault sheet formula later rest ok t d w next = rw (tree-of formula t d w
     go : Check 5 (At5 sheet t) (Check 6 (At6 sheet t) NoFault) n → WorkingChecks sheet formula later (firstOf n rest)
     go (inl a) = inl ((t, d, w, a .0), first-some n rest 5 (a .1) (omega arith))
     go (inr (a, inl b)) = inr (no5 a, inl ((t, d, w, b .0), first-some n rest 6 (b .1) (omega arith)))
-    go (inr (a, inr b)) = inr (no5 a, inr (no6 (b .0), rw (first-none n rest (b .1)) (next (found ∙ b .1))))
+    go (inr (a, inr b)) = inr (no5 a, inr (no6 (b .0), rw (next-is n rest (b .1)) (next (found ∙ b .1))))
 
 -- 14 to 17
 sheet-fault : (sheet : List ℕ) (later : ℕ → Type 0) (rest : ℕ) → (sheetFault sheet ≡ 0 → later rest)
@@ -69,7 +70,7 @@ sheet-fault : (sheet : List ℕ) (later : ℕ → Type 0) (rest : ℕ) → (shee
 sheet-fault sheet later rest next = go (zero-or-not (sheetFault sheet))
   where
     go : (sheetFault sheet ≡ 0) ⊎ (¬ (sheetFault sheet ≡ 0)) → Check (sheetFault sheet) (SheetBreaks sheet) later (firstOf (sheetFault sheet) rest)
-    go (inl z) = inr (λ h. h z, rw (first-none (sheetFault sheet) rest z) (next z))
+    go (inl z) = inr (λ h. h z, rw (next-is (sheetFault sheet) rest z) (next z))
     go (inr s) = inl (s, first-some (sheetFault sheet) rest (sheetFault sheet) refl (omega (arith, s)))
 
 -- 18
@@ -80,7 +81,7 @@ work-fault sheet work later rest next = go (ltb work (neededWork sheet)) refl
   where
     go : (b : Bool) → ltb work (neededWork sheet) ≡ b → Check 18 (Breaks18 sheet work) later (firstOf (cond b 18 0) rest)
     go true q = inl (ltb-true work (neededWork sheet) q, first-some 18 rest 18 refl (omega arith))
-    go false q = inr (λ h. omega (arith, ltb-false work (neededWork sheet) q, h), rw (first-none 0 rest refl) next)
+    go false q = inr (λ h. omega (arith, ltb-false work (neededWork sheet) q, h), rw (next-is 0 rest refl) next)
 
 -- 7
 room-fault : (sheet formula : List ℕ) (room : ℕ) → sheetFault sheet ≡ 0 → (t : Tree) (d : ℕ) → Writes formula t d

@@ -1,4 +1,4 @@
--- The first of several faults, 0 being none.
+-- Tests and checks that give a fault.
 use Prim.Native.Nat.{ℕ, _<_}
 use native.Mathlib.Omega.{arith}
 use mathlib.Core.Path.{_≡_, refl, sym, _∙_}
@@ -6,8 +6,9 @@ use mathlib.Core.Bool.{Bool, true, false, cond}
 use mathlib.Core.Logic.{_⊎_, inl, inr}
 use lib.Dec.{eqb}
 use borrow.Author.Tests.{eqb-true, eqb-false, eq-eqb, ne-eqb}
-use Rattle.operations.specs.Calls.{firstOf}
 use Rattle.calls.specs.Tabled.{Check}
+use Rattle.signals.specs.Answers.{firstOf}
+use Rattle.signals.proofs.FirstFault.{first-is}
 
 -- a test that gives a fault did not
 pub passed : (b : Bool) (n x : ℕ) → 0 < n → cond b n x ≡ 0 → (b ≡ false) × (x ≡ 0)
@@ -19,29 +20,8 @@ pub missed : (b : Bool) (n : ℕ) → 0 < n → cond b 0 n ≡ 0 → b ≡ true
 missed true n l e = refl
 missed false n l e = absurd (omega arith)
 
-pub first-none : (f g : ℕ) → f ≡ 0 → firstOf f g ≡ g
-unfolding firstOf
-first-none f g e = rw (eq-eqb f 0 e) refl
-
 pub first-some : (f g n : ℕ) → f ≡ n → 0 < n → firstOf f g ≡ n
-unfolding firstOf
-first-some f g n e l = rw (ne-eqb f 0 (λ z. omega arith)) e
-
-pub first-with-none : (f : ℕ) → firstOf f 0 ≡ f
-unfolding firstOf
-first-with-none f = go (eqb f 0) refl
-  where
-    go : (b : Bool) → eqb f 0 ≡ b → cond b 0 f ≡ f
-    go true q = sym (eqb-true f 0 q)
-    go false q = refl
-
-pub both-none : (f g : ℕ) → firstOf f g ≡ 0 → (f ≡ 0) × (g ≡ 0)
-unfolding firstOf
-both-none f g e = go (eqb f 0) refl e
-  where
-    go : (b : Bool) → eqb f 0 ≡ b → cond b g f ≡ 0 → (f ≡ 0) × (g ≡ 0)
-    go true q z = (eqb-true f 0 q, z)
-    go false q z = absurd (eqb-false f 0 q z)
+first-some f g n e l = first-is f g (λ z. omega arith) ∙ e
 
 -- none or some
 pub zero-or-not : (n : ℕ) → (n ≡ 0) ⊎ (¬ (n ≡ 0))

@@ -28,10 +28,10 @@ use Rattle.calls.specs.OnSheet.{settlingDate, exactOn, leafFound, namesF
 use Rattle.calls.specs.TreesOnSheets.{TreesOnSheets}
 use Rattle.calls.proofs.Settles.{settles, exact-for}
 use Rattle.calls.specs.Calls.{readingFault, partFault, partsFault, workingFault, wordsOn}
-use Rattle.calls.proofs.FirstFault.{first-none, first-with-none}
 use Rattle.calls.proofs.SheetLists.{sheet-sound, named-sound, named-words}
 use Rattle.calls.proofs.PartFaults.{late-of}
 use Rattle.calls.proofs.NotRefused.{Clear}
+use Rattle.signals.proofs.FirstFault.{first-with-none, next-is}
 
 -- the sheet's rule of names and the grammar's are one
 rest-named : (bs : List ℕ) → lettersOrDigits bs ≡ true → allOf isNameByte bs ≡ true
@@ -103,7 +103,7 @@ name-parts sheet n e = first-with-none (partFault (exactOn sheet (leaf (name n))
 
 text-clear : (sheet n : List ℕ) → formulaFault n ≡ 0 → formulaTree n ≡ leaf (name n) → among n (names (signalsOn sheet)) ≡ true → readingFault sheet n ≡ 0
 unfolding readingFault namesFound
-text-clear sheet n f t e = first-none (formulaFault n) (cond (namesFound sheet (formulaTree n)) 0 13) f ∙ rw (t, e) refl
+text-clear sheet n f t e = next-is (formulaFault n) (cond (namesFound sheet (formulaTree n)) 0 13) f ∙ rw (t, e) refl
 
 -- names and constants meet neither 5 nor 6
 name-fine : (sheet n : List ℕ) → Words (listNamed n (signalsOn sheet)) → sheetFault sheet ≡ 0 → among n (names (signalsOn sheet)) ≡ true → partFault (exactOn sheet (leaf (name n))) ≡ 0

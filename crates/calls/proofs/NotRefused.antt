@@ -13,14 +13,15 @@ use Rattle.signals.specs.Implication.{earliest, verdictOf, failsIn, faultOfVerd
 use Rattle.signals.specs.Moment.{gap, isGap, tick}
 use Rattle.signals.specs.declared.Written.the-variants as written
 use Rattle.signals.specs.declared.Verdict.the-variants as verdict
-use Rattle.operations.specs.Calls.{firstOf}
 use Rattle.formulas.specs.Tree.{Tree}
 use Rattle.formulas.specs.Formula.{formulaTree}
 use Rattle.sheets.specs.Reading.{sheetFault}
 use Rattle.calls.specs.Calls.{neededWork, readingFault, workFault, workingFault, wordsOn, roomFault, callFault, callAnswer, claimFault, claimVerdict, claimAnswer}
 use Rattle.calls.specs.Answered.{Answered, Enough}
 use Rattle.calls.specs.NotRefused.{NotRefused}
-use Rattle.calls.proofs.FirstFault.{first-none, first-with-none, both-none, passed}
+use Rattle.calls.proofs.FirstFault.{passed}
+use Rattle.signals.specs.Answers.{firstOf}
+use Rattle.signals.proofs.FirstFault.{both-none, first-with-none, next-is}
 
 -- a formula without a fault of the sheet, of the text or of a part
 pub record Clear (sheet formula : List ℕ) : Type 0 where
@@ -67,10 +68,10 @@ pub clear-call : (sheet formula : List ℕ) → Clear sheet formula → (work ro
     → callFault sheet formula work room ≡ 0
 unfolding callFault
 clear-call sheet formula c work room l m =
-    first-none (sheetFault sheet) _ (c .sheet-ok)
-    ∙ first-none (readingFault sheet formula) _ (c .text-ok)
-    ∙ first-none (workFault sheet work) _ (work-ok sheet work l)
-    ∙ first-none (workingFault sheet formula) _ (c .parts-ok)
+    next-is (sheetFault sheet) _ (c .sheet-ok)
+    ∙ next-is (readingFault sheet formula) _ (c .text-ok)
+    ∙ next-is (workFault sheet work) _ (work-ok sheet work l)
+    ∙ next-is (workingFault sheet formula) _ (c .parts-ok)
     ∙ room-ok (wordsOn sheet formula) room m
 
 pub answered-clear : (sheet formula : List ℕ) → Answered sheet formula → Clear sheet formula
@@ -119,10 +120,10 @@ claim-clear sheet F G work e =
 pub clear-claim : (sheet F G : List ℕ) → Clear sheet F → Clear sheet G → (work : ℕ) → claimFault sheet F G work ≡ workFault sheet work
 unfolding claimFault
 clear-claim sheet F G c d work =
-    first-none (sheetFault sheet) _ (c .sheet-ok)
-    ∙ first-none (readingFault sheet F) _ (c .text-ok)
-    ∙ first-none (readingFault sheet G) _ (d .text-ok)
-    ∙ ap (firstOf (workFault sheet work)) (first-none (workingFault sheet F) (workingFault sheet G) (c .parts-ok) ∙ d .parts-ok)
+    next-is (sheetFault sheet) _ (c .sheet-ok)
+    ∙ next-is (readingFault sheet F) _ (c .text-ok)
+    ∙ next-is (readingFault sheet G) _ (d .text-ok)
+    ∙ ap (firstOf (workFault sheet work)) (next-is (workingFault sheet F) (workingFault sheet G) (c .parts-ok) ∙ d .parts-ok)
     ∙ first-with-none (workFault sheet work)
 
 pub claim-given : (sheet F G : List ℕ) (work : ℕ) → claimFault sheet F G work ≡ 0

@@ -12,7 +12,7 @@ use Rattle.signals.specs.Moment.{M}
 use Rattle.signals.specs.Signal.{Signal}
 use Rattle.signals.specs.Words.{dateOf}
 use Rattle.signals.proofs.Truth.{or-cases, or-left, or-right, not-both}
-use Rattle.operations.specs.Calls.{firstOf, changesAfterM}
+use Rattle.operations.specs.Calls.{changesAfterM}
 use Rattle.formulas.specs.Tree.{Tree, leaf, unary, binary}
 use Rattle.laws.specs.Rewriting.{parts}
 use Rattle.sheets.specs.Reading.{sheetFault}
@@ -20,8 +20,10 @@ use Rattle.calls.specs.OnSheet.{signalOn, exactOn}
 use Rattle.calls.specs.Calls.{partFault, partsFault}
 use Rattle.calls.specs.NormalLists.{ListFor}
 use Rattle.calls.specs.Tabled.{Check, NoFault, Meets5, Meets6}
-use Rattle.calls.proofs.FirstFault.{first-none, first-some, both-none, check-by}
+use Rattle.calls.proofs.FirstFault.{first-some, check-by}
 use Rattle.calls.proofs.Settles.{exact-for, one-for}
+use Rattle.signals.specs.Answers.{firstOf}
+use Rattle.signals.proofs.FirstFault.{both-none, next-is}
 
 -- some word is dated after M
 abbrev pub Late : List ℕ → Type 0
@@ -112,10 +114,10 @@ module _ (sheet : List ℕ) (ok : sheetFault sheet ≡ 0) (other : Tree) where
       rest = partsFault sheet ps
 
       later : Fine t → n ≡ 0 → PartsFaultIs ps rest → PartsFaultIs (t ∷ ps) (firstOf n rest)
-      later f z (inl a) = inl (more5 t ps f (a .0), first-none n rest z ∙ a .1)
-      later f z (inr (a, inl b)) = inr (λ h. a (less5 t ps (f .0) h .1), inl (more6 t ps f (b .0), first-none n rest z ∙ b .1))
+      later f z (inl a) = inl (more5 t ps f (a .0), next-is n rest z ∙ a .1)
+      later f z (inr (a, inl b)) = inr (λ h. a (less5 t ps (f .0) h .1), inl (more6 t ps f (b .0), next-is n rest z ∙ b .1))
       later f z (inr (a, inr b)) =
-          inr (λ h. a (less5 t ps (f .0) h .1), inr (λ h. b .0 (less6 t ps f h), first-none n rest z ∙ b .1))
+          inr (λ h. a (less5 t ps (f .0) h .1), inr (λ h. b .0 (less6 t ps f h), next-is n rest z ∙ b .1))
 
       go : PartFaultIs (signalOn sheet t) n → PartsFaultIs ps rest → PartsFaultIs (t ∷ ps) (firstOf n rest)
       go (inl a) r = inl ((0, omega arith, λ j l. absurd (omega arith), a .0), first-some n rest 5 (a .1) (omega arith))

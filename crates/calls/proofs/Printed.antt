@@ -10,7 +10,7 @@ use Rattle.signals.specs.Signal.{every, TON, refuted}
 use Rattle.signals.specs.Words.{word, dateOf, valueAt, valueAfter, headValue, changesNothing, valueFrom, signalOf, lastFrom, lastDate, wordsOf, listOf}
 use Rattle.signals.specs.Implication.{earliest, failsIn, verdictOf}
 use Rattle.signals.specs.declared.Verdict.the-variants.{FailsAt}
-use Rattle.operations.specs.Calls.{firstOf, changesAfterM}
+use Rattle.operations.specs.Calls.{changesAfterM}
 use Rattle.formulas.specs.Tree as tree
 use Rattle.formulas.specs.Tree.{Tree}
 use Rattle.formulas.specs.Grammar.{Writes, Sum, Product, Factor, isLower, isDigit, isNameByte, allOf, isName, isLength, value}
@@ -32,6 +32,7 @@ use Rattle.calls.specs.Printed.{printedSheet, printedF, printedG, Printe
 use Rattle.calls.proofs.NotRefused.{Clear, clear-answered, clear-call, given-claim}
 use Rattle.calls.proofs.Demand2.{delivered}
 use Rattle.calls.proofs.SmallCases.{tree-clear, tree-words}
+use Rattle.signals.specs.Answers.{firstOf}
 
 abbrev f : Tree
 f = tree.Tree.leaf (tree.Leaf.name printedF)
@@ -41,7 +42,7 @@ g = tree.Tree.unary (tree.Unary.ton 2) f
 
 -- the sheet is accepted and gives a the list [0,23,36]
 sheet-fine : sheetFault printedSheet ≡ 0
-unfolding sheetFault frontFault signalsFault signalFault sheetWordsFault laterWordsFault countOn wordCount signalSize reading.nameAt low16 low32 same among fieldFits wellNamed letter digit lettersOrDigits unpadded before zeros dateOf valueAt valueAfter headValue changesNothing
+unfolding sheetFault frontFault signalsFault signalFault sheetWordsFault laterWordsFault countOn wordCount signalSize reading.nameAt low16 low32 same among fieldFits wellNamed letter digit lettersOrDigits unpadded before zeros dateOf valueAt valueAfter headValue changesNothing firstOf
 sheet-fine = refl
 
 list-f : listNamed printedF (signalsOn printedSheet) ≡ 0 ∷ 23 ∷ 36 ∷ []

@@ -9,7 +9,6 @@ use lib.Dec.{ltb, eqb}
 use lib.ListN.{length}
 use Rattle.signals.specs.Moment.{M}
 use Rattle.signals.proofs.Truth.{and-left, and-right, not-both}
-use Rattle.operations.specs.Calls.{firstOf}
 use Rattle.formulas.specs.Tree.{Tree, leaf, unary, binary, down, up, name}
 use Rattle.formulas.specs.Grammar.{Writes}
 use Rattle.formulas.specs.Formula.{accepted, partsOf, depthOf, longestOf, formulaTree, formulaFault}
@@ -19,7 +18,9 @@ use Rattle.sheets.specs.Reading.{signalsOn, names}
 use Rattle.calls.specs.OnSheet.{namesFound}
 use Rattle.calls.specs.Calls.{readingFault}
 use Rattle.calls.specs.Tabled.{Check, Names, Breaks13, ReadingChecks}
-use Rattle.calls.proofs.FirstFault.{passed, first-none, first-some, both-none}
+use Rattle.calls.proofs.FirstFault.{passed, first-some}
+use Rattle.signals.specs.Answers.{firstOf}
+use Rattle.signals.proofs.FirstFault.{both-none, next-is}
 
 -- what a formula's fault can be
 pub data Way (formula : List ℕ) : Type 0 where
@@ -91,7 +92,7 @@ text-fault sheet formula rest n e l =
 
 names-fault : (sheet formula : List ℕ) → formulaFault formula ≡ 0 → readingFault sheet formula ≡ cond (namesFound sheet (formulaTree formula)) 0 13
 unfolding readingFault
-names-fault sheet formula e = first-none (formulaFault formula) (cond (namesFound sheet (formulaTree formula)) 0 13) e
+names-fault sheet formula e = next-is (formulaFault formula) (cond (namesFound sheet (formulaTree formula)) 0 13) e
 
 pub reading-fault : (sheet formula : List ℕ) (later : ℕ → Type 0) (rest : ℕ) → (readingFault sheet formula ≡ 0 → later rest)
     → ReadingChecks sheet formula later (firstOf (readingFault sheet formula) rest)
@@ -106,7 +107,7 @@ reading-fault sheet formula later rest next = go (way formula)
         let r : readingFault sheet formula ≡ 0 = names-fault sheet formula z ∙ ap (λ b. cond b 0 13) q in
         inr (
           λ h. not-both (has sheet (h .0) (ap (namesFound sheet) (sym (tree-of formula (h .0) (h .1) (h .2))) ∙ q) (h .3 .0) (h .3 .1)) (h .3 .2),
-          rw (first-none (readingFault sheet formula) rest r) (next r),
+          rw (next-is (readingFault sheet formula) rest r) (next r),
         )
     found false q z =
         let r : readingFault sheet formula ≡ 13 = names-fault sheet formula z ∙ ap (λ b. cond b 0 13) q in

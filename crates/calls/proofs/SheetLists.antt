@@ -11,13 +11,15 @@ use borrow.Author.Tests.{eqb-true, eqb-false}
 use Rattle.signals.specs.Words.{dateOf, valueAfter, headValue, changesNothing, listFault}
 use Rattle.sheets.specs.Bytes.{Bytes, Words, low16, low32, wordsIn}
 use Rattle.sheets.specs.Names.{wellNamed, fieldFits, same, among}
-use Rattle.sheets.specs.Reading.{mark, orElse, nameAt, wordCount, signalSize, laterWordsFault, sheetWordsFault, signalFault, signalsFault, frontFault, sheetFault, countOn, Entry, entry, signalsFrom, signalsOn, nameOf, listOn, names, listNamed}
+use Rattle.sheets.specs.Reading.{mark, nameAt, wordCount, signalSize, laterWordsFault, sheetWordsFault, signalFault, signalsFault, frontFault, sheetFault, countOn, Entry, entry, signalsFrom, signalsOn, nameOf, listOn, names, listNamed}
 use Rattle.sheets.proofs.Truth.{true-false}
 use Rattle.sheets.proofs.Steps.{same-equal}
 use Rattle.sheets.proofs.Digits.{bytes-drop, wordsIn-below}
 use Rattle.sheets.proofs.Fields.{fits-named}
 use Rattle.sheets.proofs.Judging.{sound}
 use Rattle.sheets.proofs.Accepting.{words-listed}
+use Rattle.signals.specs.Answers.{firstOf}
+use Rattle.signals.proofs.FirstFault.{both-none}
 
 -- an entry with a name that is one and an accepted list
 pub record Sound (e : Entry) : Type 0 where
@@ -34,23 +36,16 @@ entry-sound earlier rest e =
     let s = sound earlier rest e in
     record { named = fits-named (take 8 rest) (s .field); listed = words-listed (wordCount rest) (drop 10 rest) (s .some) (s .most) (s .words) }
 
-or-else-none : (f g : ℕ) → orElse f g ≡ 0 → (f ≡ 0) × (g ≡ 0)
-or-else-none f g e = go (eqb f 0) refl e
-  where
-    go : (b : Bool) → eqb f 0 ≡ b → cond b g f ≡ 0 → (f ≡ 0) × (g ≡ 0)
-    go true q z = (eqb-true f 0 q, z)
-    go false q z = absurd (eqb-false f 0 q z)
-
 entries-sound : (earlier : List (List ℕ)) (n : ℕ) (rest : List ℕ) → signalsFault earlier n rest ≡ 0 → AllSound (signalsFrom n rest)
-unfolding signalsFault signalsFrom
+unfolding signalsFault signalsFrom firstOf
 entries-sound earlier zero rest e = tt
 entries-sound earlier (suc n) rest e =
-    let a = or-else-none (signalFault earlier rest) _ e in
+    let a = both-none (signalFault earlier rest) _ e in
     (entry-sound earlier rest (a .0), entries-sound (earlier ++ nameAt rest ∷ []) n (drop (signalSize rest) rest) (a .1))
 
 pub sheet-sound : (sheet : List ℕ) → sheetFault sheet ≡ 0 → AllSound (signalsOn sheet)
-unfolding sheetFault signalsOn
-sheet-sound sheet e = entries-sound [] (countOn sheet) (drop 7 sheet) (or-else-none (frontFault sheet) _ e .1)
+unfolding sheetFault signalsOn firstOf
+sheet-sound sheet e = entries-sound [] (countOn sheet) (drop 7 sheet) (both-none (frontFault sheet) _ e .1)
 
 -- a name among an accepted sheet's is a name, and its list is accepted
 pub named-sound : (n : List ℕ) (es : List Entry) → AllSound es → among n (names es) ≡ true → (wellNamed n ≡ true) × (listFault (listNamed n es) ≡ 0)
@@ -118,7 +113,7 @@ signal-of earlier rest =
     (words-of (wordCount rest) (drop 10 rest)))))
 
 signals-of : (earlier : List (List ℕ)) (n : ℕ) (rest : List ℕ) → OfSheets (signalsFault earlier n rest)
-unfolding signalsFault
+unfolding signalsFault firstOf
 signals-of earlier zero rest = choice (eqb (length rest) 0) 0 15 (inl refl) (this 15 (omega arith) (omega arith))
 signals-of earlier (suc n) rest =
     choice (eqb (signalFault earlier rest) 0) _ _
@@ -136,6 +131,6 @@ front-of bytes =
     (choice (ltb 32 (low16 (drop 5 bytes))) 15 0 (this 15 (omega arith) (omega arith)) (inl refl))))))
 
 pub sheet-of : (sheet : List ℕ) → OfSheets (sheetFault sheet)
-unfolding sheetFault
+unfolding sheetFault firstOf
 sheet-of sheet =
     choice (eqb (frontFault sheet) 0) _ _ (signals-of [] (countOn sheet) (drop 7 sheet)) (front-of sheet)

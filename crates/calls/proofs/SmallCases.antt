@@ -9,7 +9,7 @@ use Rattle.signals.specs.Signal.{constant, NOT, AND, refuted}
 use Rattle.signals.specs.Words.{dateOf, word, wordsOf, listOf}
 use Rattle.signals.specs.Implication.{earliest, failsIn, verdictOf}
 use Rattle.signals.specs.declared.Verdict.the-variants.{FailsAfter}
-use Rattle.operations.specs.Calls.{firstOf, changesAfterM}
+use Rattle.operations.specs.Calls.{changesAfterM}
 use Rattle.formulas.specs.Tree as tree
 use Rattle.formulas.specs.Tree.{Tree}
 use Rattle.formulas.specs.Grammar.{Writes, Sum, Product, Factor, isLower, isDigit, isNameByte}
@@ -23,8 +23,9 @@ use Rattle.sheets.specs.Reading.{signalsFault, frontFault, countOn, sheetFault}
 use Rattle.calls.specs.OnSheet.{settlingDate, exactOn, namesFound}
 use Rattle.calls.specs.Calls.{neededWork, readingFault, partFault, partsFault, workingFault, wordsOn, claimVerdict}
 use Rattle.calls.specs.Answered.{Answered, Enough}
-use Rattle.calls.proofs.FirstFault.{first-none}
 use Rattle.calls.proofs.NotRefused.{Clear, clear-answered}
+use Rattle.signals.specs.Answers.{firstOf}
+use Rattle.signals.proofs.FirstFault.{next-is}
 
 -- SGL 1 0 0 0
 abbrev pub emptySheet : List ℕ
@@ -62,7 +63,7 @@ pub oneAndOne-writes : Writes oneAndOne (tree.Tree.binary tree.Binary.and up up)
 oneAndOne-writes = Sum.product (Product.dot (Product.factor Factor.one) Factor.one)
 
 empty-fine : sheetFault emptySheet ≡ 0
-unfolding sheetFault frontFault signalsFault countOn low16 same
+unfolding sheetFault frontFault signalsFault countOn low16 same firstOf
 empty-fine = refl
 
 one-fine : formulaFault one ≡ 0
@@ -88,7 +89,7 @@ unfolding readingFault workingFault
 tree-clear sheet formula t d ok w f n p =
     record {
       sheet-ok = ok;
-      text-ok = first-none (formulaFault formula) (cond (namesFound sheet (formulaTree formula)) 0 13) f ∙ rw (tree-of formula t d w, n) refl;
+      text-ok = next-is (formulaFault formula) (cond (namesFound sheet (formulaTree formula)) 0 13) f ∙ rw (tree-of formula t d w, n) refl;
       parts-ok = rw (tree-of formula t d w) p;
     }
 

@@ -21,12 +21,12 @@ use Rattle.calls.specs.Engine.{Engine, defined}
 use Rattle.calls.specs.Demand2.{Delivered, Demand2}
 use Rattle.calls.specs.Demand3.{Demand3}
 use Rattle.calls.specs.WrongEngines.{zeroOutput, givesZero, trueClaim, claimsTrue, faultsAs5, leavesOld, operandWords, copyFault, copyOutput, copiesOperand, oneMore, inventsCount, ShutOut, SixShutOut}
-use Rattle.calls.proofs.FirstFault.{first-none}
 use Rattle.calls.proofs.NotRefused.{answered-clear, work-ok, answered-claim, given-claim, enough-served}
 use Rattle.calls.proofs.Demand2.{clear-list, delivered, judged-as}
 use Rattle.calls.proofs.Demand3.{one-verdict}
 use Rattle.calls.proofs.OneEngine.{one-engine}
 use Rattle.calls.proofs.SmallCases.{emptySheet, one, none, notOne, oneAndOne, up, down, one-writes, none-writes, notOne-writes, oneAndOne-writes, one-answered, none-answered, notOne-answered, oneAndOne-answered, one-words, notOne-words, up-words, enough-of, one-to-none}
+use Rattle.signals.proofs.FirstFault.{next-is}
 
 -- what each demand says of these calls
 pub record Says (E : Engine) : Type 0 where
@@ -134,7 +134,7 @@ operand-words = rw (tree-of notOne (tree.Tree.unary tree.Unary.invert up) 1 notO
 
 copy-fine : copyFault emptySheet notOne 8192 1 ≡ 0
 unfolding copyFault roomFault
-copy-fine = first-none (callFault emptySheet notOne 8192 1) (roomFault (operandWords emptySheet notOne) 1) notOne-fault ∙ rw operand-words refl
+copy-fine = next-is (callFault emptySheet notOne 8192 1) (roomFault (operandWords emptySheet notOne) 1) notOne-fault ∙ rw operand-words refl
 
 copy-writes : copyOutput emptySheet notOne 8192 (1 ∷ []) ≡ 1 ∷ []
 unfolding copyOutput outputOf

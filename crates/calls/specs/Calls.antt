@@ -9,12 +9,13 @@ use Rattle.signals.specs.Implication.{verdictOf}
 use Rattle.signals.specs.declared.Written.{Written}
 use Rattle.signals.specs.declared.Verdict.{Verdict}
 use Rattle.signals.specs.declared.Verdict.the-variants.{Refused}
-use Rattle.operations.specs.Calls.{firstOf, changesAfterM}
+use Rattle.operations.specs.Calls.{changesAfterM}
 use Rattle.formulas.specs.Tree.{Tree}
 use Rattle.formulas.specs.Formula.{formulaFault, formulaTree}
 use Rattle.laws.specs.Rewriting.{parts}
 use Rattle.sheets.specs.Reading.{sheetFault}
 use Rattle.calls.specs.OnSheet.{signalOn, settlingDate, exactOn, namesFound}
+use Rattle.signals.specs.Answers.{firstOf}
 
 -- the work words that a call needs on a sheet
 unfoldable pub neededWork : List ℕ → ℕ

@@ -14,13 +14,13 @@ use Rattle.formulas.specs.Tree.{Tree, leaf, unary, binary}
 use Rattle.formulas.specs.Grammar.{Writes}
 use Rattle.formulas.specs.Formula.{formulaTree}
 use Rattle.laws.specs.Rewriting.{Rewrites}
-use Rattle.operations.specs.Calls.{firstOf}
 use Rattle.calls.specs.OnSheet.{exactOn}
 use Rattle.calls.specs.Calls.{callFault, roomFault, claimFault, callAnswer, callOutput, claimAnswer}
 use Rattle.calls.specs.Engine.{Engine}
 use Rattle.calls.specs.Demand2.{Demand2}
 use Rattle.calls.specs.Answered.{Answered}
 use Rattle.calls.specs.Demand3.{SameWords, Demand3}
+use Rattle.signals.specs.Answers.{firstOf}
 
 -- gives [0] for all formulas: where the defined call has no fault, the one word 0
 unfoldable pub zeroAnswer : List ℕ → List ℕ → ℕ → List ℕ → Written

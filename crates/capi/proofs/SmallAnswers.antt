@@ -16,10 +16,15 @@ use Rattle.signals.specs.declared.Written.the-variants as written
 use Rattle.signals.specs.declared.Verdict.the-variants as verdict
 use Rattle.signals.proofs.ListFaults.{listFaultsExact}
 use Rattle.capi.specs.Packing.{SmallWritten, SmallVerdict}
+use Rattle.signals.specs.Answers.{firstOf}
 
 pub choice : (t : Bool) (m n : ℕ) → m < 65536 → n < 65536 → cond t m n < 65536
 choice true m n a b = a
 choice false m n a b = b
+
+pub first-small : (f g : ℕ) → f < 65536 → g < 65536 → firstOf f g < 65536
+unfolding firstOf
+first-small f g a b = choice (eqb f 0) g f b a
 
 pub list-small : (l : List ℕ) → listFault l < 65536
 list-small l = omega (arith, listFaultsExact .range l)

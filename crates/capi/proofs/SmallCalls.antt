@@ -8,19 +8,20 @@ use lib.Dec.{eqb, ltb}
 use lib.ListN.{length}
 use borrow.Author.Tests.{ltb-false}
 use Rattle.signals.specs.Moment.{M}
-use Rattle.operations.specs.Calls.{firstOf, changesAfterM}
+use Rattle.operations.specs.Calls.{changesAfterM}
 use Rattle.formulas.specs.Tree.{Tree}
 use Rattle.formulas.specs.Formula.{formulaFault, formulaTree, accepted, longestOf, partsOf, depthOf}
 use Rattle.laws.specs.Rewriting.{parts}
 use Rattle.sheets.specs.Reading.{sheetFault}
 use Rattle.calls.specs.OnSheet.{exactOn, namesFound}
 use Rattle.calls.specs.Calls.{neededWork, readingFault, workFault, partFault, partsFault, workingFault, wordsOn, roomFault, callFault, callAnswer, claimFault, claimVerdict, claimAnswer}
-use Rattle.calls.proofs.FirstFault.{passed, both-none}
+use Rattle.calls.proofs.FirstFault.{passed}
 use Rattle.calls.proofs.PartFaults.{whole-none}
 use Rattle.capi.specs.Packing.{SmallWritten, SmallVerdict}
 use Rattle.capi.proofs.SmallAnswers.{choice, written-small, answer-small}
-use Rattle.capi.proofs.SmallOperations.{first-small}
+use Rattle.capi.proofs.SmallAnswers.{first-small}
 use Rattle.capi.proofs.SmallSheets.{sheet-small}
+use Rattle.signals.proofs.FirstFault.{both-none}
 
 formula-small : (text : List ℕ) → formulaFault text < 65536
 unfolding formulaFault

@@ -13,15 +13,12 @@ use Rattle.signals.specs.Tidying.{tidied}
 use Rattle.signals.specs.declared.Told.the-variants as told
 use Rattle.signals.proofs.TidyFaults.{tidyFaultsExact}
 use Rattle.signals.proofs.Tidying.{tidying}
-use Rattle.lists.specs.Questions.{firstOf, toldValue, toldOf, instantFault, gapFault, valueAtOf, valueInOf, equalOf, impliesOf, tidyingFault}
-use Rattle.sheets.proofs.Locating.{both-none}
+use Rattle.lists.specs.Questions.{toldValue, toldOf, instantFault, gapFault, valueAtOf, valueInOf, equalOf, impliesOf, tidyingFault}
 use Rattle.sheets.proofs.Accepting.{listed-some}
 use Rattle.capi.specs.Packing.{SmallWritten, SmallTold, SmallVerdict}
-use Rattle.capi.proofs.SmallAnswers.{choice, list-small, written-small, answer-small}
-
-first-small : (f g : ℕ) → f < 65536 → g < 65536 → firstOf f g < 65536
-unfolding firstOf
-first-small f g a b = choice (eqb f 0) g f b a
+use Rattle.capi.proofs.SmallAnswers.{choice, first-small, list-small, written-small, answer-small}
+use Rattle.signals.specs.Answers.{firstOf}
+use Rattle.signals.proofs.FirstFault.{both-none}
 
 pair-small : (a b : List ℕ) → firstOf (listFault a) (listFault b) < 65536
 pair-small a b = first-small (listFault a) (listFault b) (list-small a) (list-small b)

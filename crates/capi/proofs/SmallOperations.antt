@@ -11,14 +11,12 @@ use Rattle.signals.specs.Moment.{M}
 use Rattle.signals.specs.Signal.{Signal}
 use Rattle.signals.specs.Words.{listFault}
 use Rattle.signals.specs.Answers.{writtenOf}
-use Rattle.operations.specs.Calls.{firstOf, changesAfterM, answerFault, lengthFault, pairFault, faultOfOne, exactOfOne, faultOfTwo, exactOfTwo, faultOfDelay, exactOfDelay}
-use Rattle.calls.proofs.FirstFault.{passed, both-none}
+use Rattle.operations.specs.Calls.{changesAfterM, answerFault, lengthFault, pairFault, faultOfOne, exactOfOne, faultOfTwo, exactOfTwo, faultOfDelay, exactOfDelay}
+use Rattle.calls.proofs.FirstFault.{passed}
 use Rattle.capi.specs.Packing.{SmallWritten}
-use Rattle.capi.proofs.SmallAnswers.{choice, list-small, written-small}
-
-pub first-small : (f g : ℕ) → f < 65536 → g < 65536 → firstOf f g < 65536
-unfolding firstOf
-first-small f g a b = choice (eqb f 0) g f b a
+use Rattle.capi.proofs.SmallAnswers.{choice, first-small, list-small, written-small}
+use Rattle.signals.specs.Answers.{firstOf}
+use Rattle.signals.proofs.FirstFault.{both-none}
 
 answer-small : (exact : List ℕ) (n : ℕ) → answerFault exact n < 65536
 unfolding answerFault

@@ -18,7 +18,7 @@ use Rattle.sheets.specs.Calls.{beginFault, lookupFault, placeOf, appended, appe
 use Rattle.sheets.specs.declared.Place.{Place}
 use Rattle.sheets.specs.declared.Place.the-variants as place
 use Rattle.sheets.proofs.Judging.{sound}
-use Rattle.sheets.proofs.Locating.{both-none, front-none, signals-none, place-within, faultAt, lookup-none, place-fault}
+use Rattle.sheets.proofs.Locating.{front-none, signals-none, place-within, faultAt, lookup-none, place-fault}
 use Rattle.sheets.proofs.Fields.{named-short}
 use Rattle.sheets.proofs.Filling.{two, length-entry}
 use Rattle.sheets.proofs.Accepting.{listed-some}
@@ -26,6 +26,8 @@ use Rattle.sheets.proofs.Appending.{length-on, entries-snoc, appends}
 use Rattle.calls.proofs.SheetLists.{Sound, AllSound, OfSheets, sheet-sound, sheet-of}
 use Rattle.capi.specs.Packing.{SmallWritten, SmallPlace}
 use Rattle.capi.proofs.SmallAnswers.{choice, list-small, written-small}
+use Rattle.signals.specs.Answers.{firstOf}
+use Rattle.signals.proofs.FirstFault.{both-none}
 
 pub sheet-small : (sheet : List ℕ) → sheetFault sheet < 65536
 sheet-small sheet = go (sheetFault sheet) (sheet-of sheet)
@@ -44,7 +46,7 @@ begin-small room =
     written-small _ _ (choice (ltb room (length (sheetBytes []))) 7 0 (omega arith) (omega arith)) (λ z. empty-short)
 
 signals-short : (earlier : List (List ℕ)) (n : ℕ) (rest : List ℕ) → signalsFault earlier n rest ≡ 0 → length rest ≤ 1034 * n
-unfolding signalsFault signalSize
+unfolding signalsFault signalSize firstOf
 signals-short earlier zero rest z = last (eqb (length rest) 0) refl z
   where
     last : (t : Bool) → eqb (length rest) 0 ≡ t → _≡_ {A = ℕ} (cond t 0 15) 0 → length rest ≤ 0
@@ -62,7 +64,7 @@ sheet-short sheet z =
     omega (arith, signals-short [] (countOn sheet) (drop 7 sheet) (signals-none sheet z), length-drop 7 sheet)
 
 lookup-small : (sheet name : List ℕ) → lookupFault sheet name < 65536
-unfolding lookupFault
+unfolding lookupFault firstOf
 lookup-small sheet name =
     choice (eqb (sheetFault sheet) 0) _ (sheetFault sheet)
     (choice (wellNamed name) _ 16 (choice (among name (names (signalsOn sheet))) 0 13 (omega arith) (omega arith)) (omega arith))
@@ -112,7 +114,7 @@ appended-short sheet name list room z =
     omega (arith, length-on sheet, appended-bytes sheet name list)
 
 append-fault-small : (sheet name list : List ℕ) (room : ℕ) → appendFault sheet name list room < 65536
-unfolding appendFault
+unfolding appendFault firstOf
 append-fault-small sheet name list room =
     choice (eqb (sheetFault sheet) 0) _ (sheetFault sheet)
     (choice (not (wellNamed name) || among name (names (signalsOn sheet))) 16 _ (omega arith)

@@ -13,16 +13,17 @@ use Rattle.signals.specs.Signal.{NOT, rising, falling, SR, RS, TON, TOF, connec
 use Rattle.signals.specs.Words.{listFault}
 use Rattle.signals.specs.Answers.{writtenOf}
 use Rattle.signals.specs.declared.Written.{Written}
-use Rattle.operations.specs.Calls.{firstOf, pairFault, lengthFault, exactOfOne, exactOfTwo, exactOfDelay, answerFault, changesAfterM}
+use Rattle.operations.specs.Calls.{pairFault, lengthFault, exactOfOne, exactOfTwo, exactOfDelay, answerFault, changesAfterM}
 use Rattle.operations.specs.Slots.{slotFault, inSlotFault, slotAfter, CallInSlot}
 use Rattle.operations.specs.Building.{slotWith}
-use Rattle.operations.proofs.JudgedCalls.{next-is}
 use Rattle.operations.proofs.BuildingLaws.{slot-short}
 use Rattle.formulas.specs.Tree.{Unary, Binary, invert, rise, fall, ton, tof, and, or, sr, rs}
 use Rattle.formulas.specs.Code.{ticksOf}
 use Rattle.calls.specs.Calls.{partFault}
 use Rattle.evaluation.specs.Machine.{Applied, unaryOf, binaryOf, unaryExact, binaryExact, AND-table, OR-table}
 use Rattle.evaluation.proofs.Exact.{slot-part}
+use Rattle.signals.specs.Answers.{firstOf}
+use Rattle.signals.proofs.FirstFault.{next-is}
 
 pub part-none : (exact : List ℕ) → partFault exact ≡ 0 → (length exact ≤ 256) × (changesAfterM exact ≡ false)
 unfolding partFault

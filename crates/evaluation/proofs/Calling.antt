@@ -17,8 +17,7 @@ use Rattle.signals.specs.declared.Verdict.{Verdict}
 use Rattle.signals.specs.declared.Verdict.the-variants as verdict
 use Rattle.signals.proofs.Settling.{settled-later}
 use Rattle.lists.specs.Questions as questions
-use Rattle.operations.specs.Calls.{firstOf}
-use Rattle.operations.proofs.JudgedCalls.{first-is, next-is, refused, passes-on}
+use Rattle.operations.proofs.JudgedCalls.{refused, passes-on}
 use Rattle.formulas.specs.Tree.{Tree}
 use Rattle.formulas.specs.Code.{code}
 use Rattle.formulas.specs.Formula.{codeOf, formulaTree}
@@ -34,6 +33,8 @@ use Rattle.evaluation.specs.Work.{firstFault, firstClaimFault}
 use Rattle.evaluation.proofs.Exact.{signal-is, settled-at}
 use Rattle.evaluation.proofs.Stepping.{counted, refused-by}
 use Rattle.evaluation.proofs.SlotFacts.{short}
+use Rattle.signals.specs.Answers.{firstOf}
+use Rattle.signals.proofs.FirstFault.{next-is}
 
 -- handing a list over
 module _ (work out : List ℕ) (n : ℕ) (enough : n ≤ length work) where

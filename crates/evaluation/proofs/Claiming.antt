@@ -18,8 +18,6 @@ use Rattle.signals.specs.declared.Verdict.the-variants.{Refused}
 use Rattle.signals.proofs.Settling.{settled-later}
 use Rattle.lists.specs.Questions.{impliesOf, laterLast}
 use Rattle.lists.specs.Questions as questions
-use Rattle.operations.specs.Calls.{firstOf}
-use Rattle.operations.proofs.JudgedCalls.{first-is, next-is}
 use Rattle.formulas.specs.Tree.{Tree}
 use Rattle.formulas.specs.Formula.{formulaTree}
 use Rattle.laws.specs.Rewriting.{parts}
@@ -34,6 +32,8 @@ use Rattle.evaluation.specs.Work.{firstClaimFault}
 use Rattle.evaluation.proofs.Exact.{signal-is, settled-at}
 use Rattle.evaluation.proofs.Stepping.{counted, refused-by}
 use Rattle.evaluation.proofs.SlotFacts.{short}
+use Rattle.signals.specs.Answers.{firstOf}
+use Rattle.signals.proofs.FirstFault.{first-is, next-is}
 
 -- faults in their order
 pub by-first : (f g rest : ℕ) (v : Verdict) → g ≡ f → (f ≡ 0 → ⊥) → Refused f ≡ verdictBy (firstOf g rest) v

@@ -18,7 +18,7 @@ use Rattle.calls.specs.Calls.{partFault}
 use Rattle.signals.proofs.Normal.{readBack, acceptedNormal}
 use Rattle.sheets.specs.Bytes.{Bytes, wordsIn}
 use Rattle.sheets.specs.Names.{wellNamed, among}
-use Rattle.sheets.specs.Reading.{sheetFault, signalsOn, names, listNamed, environmentOn, orElse}
+use Rattle.sheets.specs.Reading.{sheetFault, signalsOn, names, listNamed, environmentOn}
 use Rattle.sheets.specs.Calls.{lookupFault, lookupOf, placeOf, partAt}
 use Rattle.sheets.specs.declared.Place.{Place}
 use Rattle.sheets.specs.declared.Place.the-variants.{At, Refused}
@@ -31,6 +31,7 @@ use Rattle.calls.specs.OnSheet.{exactOn, settlingDate, signalOn}
 use Rattle.evaluation.specs.Machine.{leafOf, leafKnown, Loaded}
 use Rattle.evaluation.proofs.SlotFacts.{short}
 use Rattle.evaluation.proofs.Putting.{words-length}
+use Rattle.signals.specs.Answers.{firstOf}
 
 pub paste-one : (d : List ℕ) (at w : ℕ) → at < length d → set d at w ≡ paste d at (w ∷ []) 1
 paste-one d at w h =
@@ -53,7 +54,7 @@ up-list sheet = constant-list true
 -- a name's list on the sheet, as its part there
 module _ (sheet n : List ℕ) (ok : sheetFault sheet ≡ 0) (bytes : Bytes sheet) (known : (wellNamed n ≡ true) × (among n (names (signalsOn sheet)) ≡ true)) where
   found : lookupFault sheet n ≡ 0
-  unfolding lookupFault
+  unfolding lookupFault firstOf
   found = rw (ok, known .0, known .1)
 
   the-part : PartIsList sheet n

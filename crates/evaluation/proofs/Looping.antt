@@ -12,8 +12,6 @@ use borrow.Author.Tests.{eq-eqb, ne-eqb}
 use Rattle.signals.specs.Answers.{writtenOf}
 use Rattle.signals.specs.declared.Written.{Written}
 use Rattle.signals.specs.declared.Written.the-variants.{Count, Refused}
-use Rattle.operations.specs.Calls.{firstOf}
-use Rattle.operations.proofs.JudgedCalls.{first-is, next-is}
 use Rattle.formulas.specs.Tree.{Tree}
 use Rattle.formulas.specs.Code.{Part, operand, one, two, code, work, top}
 use Rattle.formulas.specs.Formula.{partOf}
@@ -25,6 +23,8 @@ use Rattle.calls.specs.Calls.{partFault, partsFault}
 use Rattle.evaluation.specs.declared.Next.{Next}
 use Rattle.evaluation.specs.Machine.{InSlot, Stacked, Enough, Known, AllKnown, Stepped, Steps, Ready, worked, trace, partsIn, Plan, WorkedOut}
 use Rattle.evaluation.proofs.Tracing.{trace-code, work-all, work-step, low-enough, grows-by-one}
+use Rattle.signals.specs.Answers.{firstOf}
+use Rattle.signals.proofs.FirstFault.{first-is, next-is}
 
 refused-is : (f : ℕ) (l : List ℕ) → (f ≡ 0 → ⊥) → Refused f ≡ writtenOf f l
 unfolding writtenOf

@@ -14,8 +14,6 @@ use Rattle.signals.specs.Answers.{writtenOf}
 use Rattle.signals.specs.declared.Written.{Written}
 use Rattle.signals.specs.declared.Written.the-variants.{Count, Refused}
 use Rattle.signals.proofs.Truth.{and-left, and-right}
-use Rattle.operations.specs.Calls.{firstOf}
-use Rattle.operations.proofs.JudgedCalls.{first-is, next-is}
 use Rattle.formulas.specs.Tree.{Tree, Leaf, Unary, Binary, leaf, unary, binary, down, up, name}
 use Rattle.formulas.specs.Code.{Part, operand, one, two, code, longest, ticksOf}
 use Rattle.formulas.specs.Formula.{partOf, codeOf, codeAfter, formulaFault, formulaTree, longestOf, partsOf, depthOf, accepted, nameAt}
@@ -28,7 +26,7 @@ use Rattle.sheets.specs.Calls.{lookupFault}
 use Rattle.sheets.proofs.Steps.{same-equal}
 use Rattle.calls.specs.OnSheet.{namesFound, leafFound}
 use Rattle.calls.specs.Calls.{readingFault}
-use Rattle.calls.proofs.FirstFault.{passed, both-none, missed}
+use Rattle.calls.proofs.FirstFault.{passed, missed}
 use Rattle.calls.proofs.ReadingFaults.{derived}
 use Rattle.calls.proofs.SheetLists.{Sound, AllSound, sheet-sound}
 use Rattle.evaluation.specs.Machine.{leafOf, leafKnown, Known, AllKnown, partsIn, partFound, allFound, Prepared}
@@ -36,6 +34,8 @@ use Rattle.evaluation.proofs.Leaves.{leaf-name, leaf-up, leaf-down}
 use Rattle.evaluation.proofs.PartCodes.{part-leaf-low, part-leaf-high, part-unary, part-binary}
 use Rattle.evaluation.proofs.Stepping.{counted, refused-by}
 use Rattle.evaluation.proofs.Looping.{rest, rest-next, rest-none}
+use Rattle.signals.specs.Answers.{firstOf}
+use Rattle.signals.proofs.FirstFault.{first-is, next-is}
 
 -- names on an accepted sheet are names
 named-well : (n : List ℕ) (es : List Entry) → AllSound es → among n (names es) ≡ true → wellNamed n ≡ true
@@ -49,7 +49,7 @@ named-well n (e ∷ es) s h = go (same (nameOf e) n) refl h (λ k. named-well n 
 
 -- so a lookup finds a name exactly when the sheet has it
 pub looked : (sheet n : List ℕ) → sheetFault sheet ≡ 0 → eqb (lookupFault sheet n) 0 ≡ among n (names (signalsOn sheet))
-unfolding lookupFault
+unfolding lookupFault firstOf
 looked sheet n ok = go (among n (names (signalsOn sheet))) (wellNamed n) refl refl
   where
     go : (a w : Bool) → among n (names (signalsOn sheet)) ≡ a → wellNamed n ≡ w → eqb (lookupFault sheet n) 0 ≡ among n (names (signalsOn sheet))

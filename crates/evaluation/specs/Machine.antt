@@ -13,7 +13,7 @@ use Rattle.signals.specs.declared.Verdict.the-variants.{Refused}
 use Rattle.signals.specs.Moment.{M}
 use Rattle.signals.specs.Signal.{Table, tableOf, NOT, rising, falling, SR, RS, TON, TOF, connective}
 use Rattle.signals.specs.Words.{listFault}
-use Rattle.operations.specs.Calls.{firstOf, exactOfOne, exactOfTwo, exactOfDelay}
+use Rattle.operations.specs.Calls.{exactOfOne, exactOfTwo, exactOfDelay}
 use Rattle.formulas.specs.Tree.{Tree, Leaf, Unary, Binary, leaf, unary, binary, down, up, name, invert, rise, fall, ton, tof, and, or, sr, rs}
 use Rattle.formulas.specs.Code.{Part, operand, one, two, ticksOf, top, code}
 use Rattle.formulas.specs.Formula.{nameAt, partOf, codeOf, formulaTree}
@@ -23,6 +23,7 @@ use Rattle.calls.specs.OnSheet.{exactOn, leafFound}
 use Rattle.calls.specs.Calls.{partFault, partsFault, readingFault, workFault, workingFault, roomFault, wordsOn, claimVerdict}
 use Rattle.laws.specs.Rewriting.{parts}
 use Rattle.evaluation.specs.declared.Next.{Next}
+use Rattle.signals.specs.Answers.{firstOf}
 
 -- the part that a code word stands for, by its kind in the low four bits: an operand below 3 and from 12 on, of one operand from 3 to 7,
 -- of two from 8 to 11

@@ -1,9 +1,9 @@
 -- The work area: untouched by a call that does not pass check 18, free after one that does.
 use Prim.Native.Nat.{ℕ}
 use mathlib.Core.List.{List}
-use Rattle.operations.specs.Calls.{firstOf}
 use Rattle.sheets.specs.Reading.{sheetFault}
 use Rattle.calls.specs.Calls.{readingFault, workFault}
+use Rattle.signals.specs.Answers.{firstOf}
 
 -- the faults of a formula call up to 18
 unfoldable pub firstFault : List ℕ → List ℕ → ℕ → ℕ

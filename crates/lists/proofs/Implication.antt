@@ -9,9 +9,10 @@ use Rattle.signals.specs.Normal.{Accepted}
 use Rattle.signals.specs.Implication.{verdictOf}
 use Rattle.signals.specs.Earliest.{Judged}
 use Rattle.signals.proofs.Implication.{verdict-judged, failsIn-instant, failsIn-gap}
-use Rattle.lists.specs.Questions.{firstOf, laterLast, impliesOf}
+use Rattle.lists.specs.Questions.{laterLast, impliesOf}
 use Rattle.lists.specs.Implication.{Claimed, Implication}
 use Rattle.lists.proofs.Verdicts.{settled-a, settled-b}
+use Rattle.signals.specs.Answers.{firstOf}
 
 verdict-is : (a b : List ℕ) → Accepted a → Accepted b → impliesOf a b ≡ verdictOf (signalOf a) (signalOf b) (laterLast a b)
 unfolding impliesOf firstOf

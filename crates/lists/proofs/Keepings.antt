@@ -22,10 +22,11 @@ use Rattle.signals.proofs.Operand.{At, Passed, at-pass, at-end, next-later, wor
 use Rattle.signals.proofs.Normal.{last-le, changes-word, acceptedNormal}
 use Rattle.signals.proofs.Tidying.{tidy-start, tidying}
 use Rattle.lists.specs.Reading.{nextDate, stepPast}
-use Rattle.lists.specs.Questions.{firstOf, tidyingFault}
+use Rattle.lists.specs.Questions.{tidyingFault}
 use Rattle.lists.specs.Keeping.{entryOf, putIn, overlay}
 use Rattle.lists.specs.declared.Step.{Step}
 use Rattle.lists.proofs.Searching.{next-in, passed-next}
+use Rattle.signals.specs.Answers.{firstOf}
 
 -- words laid over an output
 pub overlay-set : (h x : ℕ) (ws old : List ℕ) → overlay (h ∷ ws) (set old 0 x) ≡ overlay (h ∷ ws) old

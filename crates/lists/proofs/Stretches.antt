@@ -9,19 +9,18 @@ use lib.ListN.{getD}
 use borrow.Author.Tests.{eq-eqb, ne-eqb, lt-ltb, le-ltb, ltb-true, ltb-false}
 use Rattle.signals.specs.Signal.{Signal, Table, num, cell}
 use Rattle.signals.specs.Quantified.{Up, Down}
-use Rattle.lists.specs.Questions.{firstOf}
 use Rattle.lists.specs.Finding.{shows, inStretch, Clear, FirstFrom}
 use Rattle.lists.specs.declared.Found.{Found}
 use Rattle.lists.specs.declared.Found.the-variants.{In, Nowhere}
+use Rattle.signals.specs.Answers.{firstOf}
+use Rattle.signals.proofs.FirstFault as first
 
 -- the first fault, from what the code found
 pub first-is : (f g fault : ℕ) → fault ≡ f → (fault ≡ 0 → ⊥) → fault ≡ firstOf f g
-unfolding firstOf
-first-is f g fault e n = rw (ne-eqb f 0 (λ z. n (e ∙ z))) e
+first-is f g fault e n = e ∙ sym (first.first-is f g (λ z. n (e ∙ z)))
 
 pub second-is : (f g fault r : ℕ) → fault ≡ f → fault ≡ 0 → r ≡ g → r ≡ firstOf f g
-unfolding firstOf
-second-is f g fault r e z q = rw (eq-eqb f 0 (sym e ∙ z)) q
+second-is f g fault r e z q = q ∙ sym (first.next-is f g (sym e ∙ z))
 
 wanted : (v : Bool) → v ≡ Bool·beq true v
 wanted true = refl

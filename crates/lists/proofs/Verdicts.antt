@@ -23,10 +23,12 @@ use Rattle.signals.proofs.Settling.{settled-later}
 use Rattle.signals.proofs.Normal.{accepted-settled}
 use Rattle.signals.proofs.Implication.{refuted-up, refuted-of, verdict-judged}
 use Rattle.lists.specs.Reading.{NEVER}
-use Rattle.lists.specs.Questions.{firstOf, toldValue, toldOf, laterLast, agreeing, equalOf, impliesOf}
+use Rattle.lists.specs.Questions.{toldValue, toldOf, laterLast, agreeing, equalOf, impliesOf}
 use Rattle.lists.specs.Finding.{shows, shown, FirstFrom, Near, verdictIn}
 use Rattle.lists.specs.declared.Found.{Found}
 use Rattle.lists.specs.declared.Found.the-variants.{In, Nowhere}
+use Rattle.signals.specs.Answers.{firstOf}
+use Rattle.signals.proofs.FirstFault.{both-none}
 
 -- how a found moment is told
 module _ (t : ℕ) (r : Found) (e : r ≡ In t) where
@@ -46,16 +48,8 @@ near p (In t) h = omega (arith, h .1)
 near p Nowhere h = tt
 
 -- both lists are accepted where neither fault is one
-zeros : (f g : ℕ) → firstOf f g ≡ 0 → (f ≡ 0) × (g ≡ 0)
-unfolding firstOf
-zeros f g h = go (eqb f 0) refl h
-  where
-    go : (t : Bool) → eqb f 0 ≡ t → cond t g f ≡ 0 → (f ≡ 0) × (g ≡ 0)
-    go true e q = (eqb-true f 0 e, q)
-    go false e q = absurd (eqb-false f 0 e q)
-
 pub both-accepted : (a b : List ℕ) (fault : ℕ) → fault ≡ firstOf (listFault a) (listFault b) → fault ≡ 0 → (listFault a ≡ 0) × (listFault b ≡ 0)
-both-accepted a b fault e z = zeros (listFault a) (listFault b) (sym e ∙ z)
+both-accepted a b fault e z = both-none (listFault a) (listFault b) (sym e ∙ z)
 
 module _ (a b : List ℕ) (za : listFault a ≡ 0) (zb : listFault b ≡ 0) where
   pub settled-a : SettledFrom (signalOf a) (laterLast a b)

@@ -13,10 +13,7 @@ use Rattle.signals.specs.declared.Told.{Told}
 use Rattle.signals.specs.declared.Told.the-variants as told
 use Rattle.signals.specs.declared.Verdict.{Verdict}
 use Rattle.signals.specs.declared.Verdict.the-variants as verdict
-
--- the first of two faults that is one
-unfoldable pub firstOf : ℕ → ℕ → ℕ
-firstOf f g = cond (eqb f 0) g f
+use Rattle.signals.specs.Answers.{firstOf}
 
 -- yes for up, no for down
 abbrev pub toldValue : Bool → Told

@@ -16,9 +16,11 @@ use Rattle.signals.specs.Quantified.{Up, Down}
 use Rattle.signals.specs.Normal.{Accepted}
 use Rattle.signals.proofs.Truth.{up-or-down, not-both, or-cases, or-left, or-right}
 use Rattle.signals.proofs.ListFaults.{listFaultsExact}
-use Rattle.operations.specs.Calls.{firstOf, changesAfterM, answerFault, lengthFault, pairFault, exactOfOne, exactOfTwo, exactOfDelay, faultOfOne, faultOfTwo, faultOfDelay}
+use Rattle.operations.specs.Calls.{changesAfterM, answerFault, lengthFault, pairFault, exactOfOne, exactOfTwo, exactOfDelay, faultOfOne, faultOfTwo, faultOfDelay}
 use Rattle.operations.specs.CallFaults.{Breaks5, Breaks6, Breaks7, Breaks8, AnswerFaults, FaultsOfOne, FaultsOfTwo, FaultsOfDelay, CallFaultsExact}
-use Rattle.operations.proofs.JudgedCalls.{first-is, next-is, none-of-both, pair-none}
+use Rattle.operations.proofs.JudgedCalls.{pair-none}
+use Rattle.signals.specs.Answers.{firstOf}
+use Rattle.signals.proofs.FirstFault.{both-none, first-assoc, first-is, next-is}
 
 -- the test for 6 says what its sentence says
 pub late-up : (l : List ℕ) → Up (changesAfterM l) → Breaks6 l
@@ -230,7 +232,7 @@ delay-first : (d : ℕ) (a : List ℕ) → First (firstOf (listFault a) (lengthF
 delay-first d a = go (length-ways d)
   where
     says-none : firstOf (listFault a) (lengthFault d) ≡ 0 → (lengthFault d ≡ 0 → ¬ Breaks8 d) → Accepted a × (¬ Breaks8 d)
-    says-none e h = let b = none-of-both (listFault a) (lengthFault d) e in (b .0, h (b .1))
+    says-none e h = let b = both-none (listFault a) (lengthFault d) e in (b .0, h (b .1))
 
     go : ((lengthFault d ≡ 0) × (¬ Breaks8 d)) ⊎ ((lengthFault d ≡ 8) × Breaks8 d) → First (firstOf (listFault a) (lengthFault d)) (Accepted a × (¬ Breaks8 d))
     go (inl g) =
@@ -250,13 +252,6 @@ delay-first d a = go (length-ways d)
         eight (yes z) = inr (next-is (listFault a) (lengthFault d) z ∙ g .0)
         eight (no o) = inl (rw (first-is (listFault a) (lengthFault d) o) (list-le a))
 
-first-assoc : (f g h : ℕ) → firstOf f (firstOf g h) ≡ firstOf (firstOf f g) h
-first-assoc f g h = go (ℕ-discrete f 0)
-  where
-    go : Dec (f ≡ 0) → firstOf f (firstOf g h) ≡ firstOf (firstOf f g) h
-    go (yes z) = rw (next-is f (firstOf g h) z, next-is f g z)
-    go (no o) = rw (first-is f (firstOf g h) o, first-is f g o, first-is f h o)
-
 -- the length, then the answer
 rest-ways : (d : ℕ) (exact : List ℕ) (n : ℕ)
     → ((firstOf (lengthFault d) (answerFault exact n) ≡ 8) × Breaks8 d) ⊎ ((firstOf (lengthFault d) (answerFault exact n) ≡ answerFault exact n) × (¬ Breaks8 d))
@@ -273,7 +268,7 @@ of-delay operation d a n =
     record {
       list = λ f p q. first-only (listFault a) rest f p (not-rest f p q ways);
       eight = (λ e. forth e ways, λ s. next-is (listFault a) rest (s .0) ∙ back (s .1) ways);
-      answer = rw (first-assoc (listFault a) (lengthFault d) (answerFault exact n)) (answered (firstOf (listFault a) (lengthFault d)) (Accepted a × (¬ Breaks8 d)) (delay-first d a) exact n);
+      answer = rw (← first-assoc (listFault a) (lengthFault d) (answerFault exact n)) (answered (firstOf (listFault a) (lengthFault d)) (Accepted a × (¬ Breaks8 d)) (delay-first d a) exact n);
       range = first-range (listFault a) rest 8 (omega (arith, list-le a)) (rest-le ways);
     }
   where

@@ -9,16 +9,9 @@ use borrow.Author.Tests.{lt-ltb, le-ltb, ltb-false}
 use Rattle.signals.specs.Moment.{M}
 use Rattle.signals.specs.Signal.{Signal}
 use Rattle.signals.specs.Words.{listFault}
-use Rattle.operations.specs.Calls.{firstOf, lengthFault, answerFault, exactOfDelay, faultOfDelay}
-use Rattle.operations.proofs.JudgedCalls.{first-is, next-is, none-of-both}
-
-first-assoc : (a b c : ℕ) → firstOf (firstOf a b) c ≡ firstOf a (firstOf b c)
-unfolding firstOf
-first-assoc a b c = go (eqb a 0) refl
-  where
-    go : (t : Bool) → eqb a 0 ≡ t → cond (eqb (cond t b a) 0) c (cond t b a) ≡ cond t (cond (eqb b 0) c b) a
-    go true e = refl
-    go false e = rw e
+use Rattle.operations.specs.Calls.{lengthFault, answerFault, exactOfDelay, faultOfDelay}
+use Rattle.signals.specs.Answers.{firstOf}
+use Rattle.signals.proofs.FirstFault.{both-none, first-assoc, first-is, next-is}
 
 pub fault-order : (operation : Signal → Signal) (d : ℕ) (l : List ℕ) (n : ℕ)
     → firstOf (firstOf (listFault l) (lengthFault d)) (answerFault (exactOfDelay operation d l) n) ≡ faultOfDelay operation d l n
@@ -48,5 +41,5 @@ length-none d h = go (ltb M d) refl h
 -- no fault: the list is accepted and the length is one
 pub judged-none : (f : ℕ) (l : List ℕ) (d : ℕ) → f ≡ firstOf (listFault l) (lengthFault d) → f ≡ 0 → (listFault l ≡ 0) × (d ≤ M)
 judged-none f l d e z =
-    let both = none-of-both (listFault l) (lengthFault d) (sym e ∙ z) in
+    let both = both-none (listFault l) (lengthFault d) (sym e ∙ z) in
     (both .0, length-none d (both .1))

@@ -12,29 +12,16 @@ use Rattle.signals.specs.Words.{listFault}
 use Rattle.signals.specs.Answers.{writtenOf, outputOf}
 use Rattle.signals.specs.declared.Written.{Written}
 use Rattle.signals.specs.declared.Written.the-variants.{Count, Refused}
-use Rattle.operations.specs.Calls.{firstOf, pairFault, answerFault, changesAfterM}
+use Rattle.operations.specs.Calls.{pairFault, answerFault, changesAfterM}
 use Rattle.operations.specs.Slots.{slotFault, inSlotFault, slotAfter}
 use Rattle.operations.specs.Building.{Built, slotWith}
 use Rattle.operations.specs.declared.Made.{Made}
-
-pub first-is : (f g : ℕ) → (f ≡ 0 → ⊥) → firstOf f g ≡ f
-unfolding firstOf
-first-is f g h = rw (ne-eqb f 0 h)
-
-pub next-is : (f g : ℕ) → f ≡ 0 → firstOf f g ≡ g
-unfolding firstOf
-next-is f g h = rw (eq-eqb f 0 h)
-
-pub none-of-both : (f g : ℕ) → firstOf f g ≡ 0 → (f ≡ 0) × (g ≡ 0)
-none-of-both f g h = go (ℕ-discrete f 0)
-  where
-    go : Dec (f ≡ 0) → (f ≡ 0) × (g ≡ 0)
-    go (yes e) = (e, sym (next-is f g e) ∙ h)
-    go (no n) = absurd (n (sym (first-is f g n) ∙ h))
+use Rattle.signals.specs.Answers.{firstOf}
+use Rattle.signals.proofs.FirstFault.{both-none, first-is, next-is}
 
 pub pair-none : (a b : List ℕ) → pairFault a b ≡ 0 → (listFault a ≡ 0) × (listFault b ≡ 0)
 unfolding pairFault
-pair-none a b h = none-of-both (listFault a) (listFault b) h
+pair-none a b h = both-none (listFault a) (listFault b) h
 
 -- a refused call: the number is given, the output stays as it was
 pub refused : (fault rest : ℕ) (words out : List ℕ) (f : ℕ) → f ≡ fault → (f ≡ 0 → ⊥)

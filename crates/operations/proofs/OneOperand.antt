@@ -10,9 +10,10 @@ use Rattle.signals.specs.Signal.{Signal, Table, NOT, cell, connective}
 use Rattle.signals.specs.Words.{listFault, wordsFault, signalOf, lastDate, lastFrom, listOf}
 use Rattle.signals.specs.declared.Written.{Written}
 use Rattle.signals.proofs.Scan.{listOf-ext}
-use Rattle.operations.specs.Calls.{firstOf, pairFault, exactOfOne, exactOfTwo, faultOfOne, faultOfTwo, CallOfOne, CallOfTwo}
+use Rattle.operations.specs.Calls.{pairFault, exactOfOne, exactOfTwo, faultOfOne, faultOfTwo, CallOfOne, CallOfTwo}
 use Rattle.operations.specs.Slots.{CallInSlot}
-use Rattle.operations.proofs.JudgedCalls.{first-is, next-is}
+use Rattle.signals.specs.Answers.{firstOf}
+use Rattle.signals.proofs.FirstFault.{first-with-none}
 
 abbrev none : List ℕ
 none = 0 ∷ []
@@ -27,11 +28,7 @@ none-last = refl
 
 pair-of-one : (a : List ℕ) → pairFault a none ≡ listFault a
 unfolding pairFault
-pair-of-one a = rw none-accepted (go (ℕ-discrete (listFault a) 0))
-  where
-    go : Dec (listFault a ≡ 0) → firstOf (listFault a) 0 ≡ listFault a
-    go (yes e) = next-is (listFault a) 0 e ∙ sym e
-    go (no n) = first-is (listFault a) 0 n
+pair-of-one a = rw none-accepted (first-with-none (listFault a))
 
 module _ (one : Signal → Signal) (two : Signal → Signal → Signal) (same : (f g : Signal) (t : ℕ) → two f g t ≡ one f t) (a : List ℕ) where
   pub exact-of-one : exactOfTwo two a none ≡ exactOfOne one a

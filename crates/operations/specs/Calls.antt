@@ -10,10 +10,7 @@ use Rattle.signals.specs.declared.Written.{Written}
 use Rattle.signals.specs.Moment.{M}
 use Rattle.signals.specs.Signal.{Signal, Table, NOT, connective, rising, falling, SR, RS, TON, TOF}
 use Rattle.signals.specs.Words.{dateOf, listFault, signalOf, lastDate, listOf}
-
--- the first of two faults that is one
-unfoldable pub firstOf : ℕ → ℕ → ℕ
-firstOf f g = cond (eqb f 0) g f
+use Rattle.signals.specs.Answers.{firstOf}
 
 -- a word of the list is dated after M
 unfoldable pub changesAfterM : List ℕ → Bool

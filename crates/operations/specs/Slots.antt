@@ -7,8 +7,9 @@ use lib.Dec.{ltb, eqb}
 use lib.ListN.{length}
 use Rattle.signals.specs.Answers.{writtenOf}
 use Rattle.signals.specs.declared.Written.{Written}
-use Rattle.operations.specs.Calls.{firstOf, answerFault}
+use Rattle.operations.specs.Calls.{answerFault}
 use Rattle.operations.specs.Building.{slotWith}
+use Rattle.signals.specs.Answers.{firstOf}
 
 -- a slot under 256 words is refused as an output that is too short
 unfoldable pub slotFault : ℕ → ℕ

@@ -15,7 +15,7 @@ use Rattle.signals.specs.declared.Written.the-variants.{Count, Refused}
 use Rattle.sheets.proofs.Truth.{or-left, or-right, not-false-true}
 use Rattle.sheets.proofs.Judging.{past}
 use Rattle.sheets.proofs.Steps.{part-rest}
-use Rattle.sheets.proofs.Locating.{both-none, front-none}
+use Rattle.sheets.proofs.Locating.{front-none}
 use Rattle.sheets.proofs.Fields.{named-short}
 use Rattle.sheets.proofs.Filling.{length-entry, two}
 use Rattle.slices.proofs.Placing.{then-put}
@@ -26,6 +26,8 @@ use Rattle.sheets.specs.Reading.{mark, sheetFault, countOn, signalsFrom,
 use Rattle.sheets.specs.Writing.{entryBytes, entriesBytes, sheetBytes}
 use Rattle.sheets.specs.Calls.{appended, appendFault}
 use Rattle.slices.specs.Slices.{placed}
+use Rattle.signals.specs.Answers.{firstOf}
+use Rattle.signals.proofs.FirstFault.{both-none}
 
 pub length-on : (sheet : List ℕ) → length (signalsOn sheet) ≡ countOn sheet
 unfolding signalsOn
@@ -81,27 +83,27 @@ module _ (sheet : List ℕ) (b : Bytes sheet) (z : sheetFault sheet ≡ 0) where
 -- the cases of its faults
 module _ (sheet name list : List ℕ) (room : ℕ) where
   pub append-sheet : (sheetFault sheet ≡ 0 → ⊥) → sheetFault sheet ≡ appendFault sheet name list room
-  unfolding appendFault
+  unfolding appendFault firstOf
   append-sheet n = sym (rw (ne-eqb _ _ n))
 
   module _ (z : sheetFault sheet ≡ 0) where
     pub append-malformed : wellNamed name ≡ false → appendFault sheet name list room ≡ 16
-    unfolding appendFault
+    unfolding appendFault firstOf
     append-malformed f = rw (eq-eqb _ _ z, f)
 
     module _ (t : wellNamed name ≡ true) (k : Bool) (ke : k ≡ among name (names (signalsOn sheet))) where
       pub append-repeated : k ≡ true → appendFault sheet name list room ≡ 16
-      unfolding appendFault
+      unfolding appendFault firstOf
       append-repeated u = rw (eq-eqb _ _ z, t, ← ke, u)
 
       module _ (u : k ≡ false) (l : ℕ) (le : l ≡ listFault list) where
         pub append-list : (l ≡ 0 → ⊥) → l ≡ appendFault sheet name list room
-        unfolding appendFault
+        unfolding appendFault firstOf
         append-list n = sym (rw (eq-eqb _ _ z, t, ← ke, u, ← le, ne-eqb _ _ n))
 
         module _ (m : l ≡ 0) (n : ℕ) (ne : n ≡ countOn sheet) where
           pub append-full : 32 ≤ n → appendFault sheet name list room ≡ 15
-          unfolding appendFault
+          unfolding appendFault firstOf
           append-full p = rw (eq-eqb _ _ z, t, ← ke, u, ← le, eq-eqb _ _ m, length-on sheet, ← ne, le-leb _ _ p)
 
           module _ (q : n < 32) (b : Bytes sheet) where
@@ -109,12 +111,12 @@ module _ (sheet name list : List ℕ) (room : ℕ) where
             size = length-appended sheet b z name list (named-short name t)
 
             pub append-short : room < length sheet + (10 + 4 * length list) → appendFault sheet name list room ≡ 7
-            unfolding appendFault
+            unfolding appendFault firstOf
             append-short p =
                 rw (eq-eqb _ _ z, t, ← ke, u, ← le, eq-eqb _ _ m, length-on sheet, ← ne, lt-leb _ _ q, size, lt-ltb _ _ p)
 
             pub append-fine : length sheet + (10 + 4 * length list) ≤ room → appendFault sheet name list room ≡ 0
-            unfolding appendFault
+            unfolding appendFault firstOf
             append-fine p =
                 rw (eq-eqb _ _ z, t, ← ke, u, ← le, eq-eqb _ _ m, length-on sheet, ← ne, lt-leb _ _ q, size, le-ltb _ _ p)
 
@@ -128,7 +130,7 @@ pub record Appends (sheet name list : List ℕ) (room : ℕ) : Type 0 where
   pub room-enough : length (appended sheet name list) ≤ room
 
 pub appends : (sheet name list : List ℕ) (room : ℕ) → appendFault sheet name list room ≡ 0 → Appends sheet name list room
-unfolding appendFault
+unfolding appendFault firstOf
 appends sheet name list room h =
     let a = both-none (sheetFault sheet) _ h in
     let n = past (not (wellNamed name) || among name (names (signalsOn sheet))) 15 _ (a .1) in

@@ -13,14 +13,16 @@ use Rattle.sheets.proofs.Truth.{true-false, is-false}
 use Rattle.sheets.proofs.Locating.{lookup-none}
 use Rattle.sheets.proofs.NameRule.{names-exact}
 use Rattle.sheets.specs.Names.{wellNamed, among}
-use Rattle.sheets.specs.Reading.{orElse, sheetFault, signalsOn, names}
+use Rattle.sheets.specs.Reading.{sheetFault, signalsOn, names}
 use Rattle.sheets.specs.Calls.{lookupFault, appendFault, appended}
 use Rattle.sheets.specs.Sentences.{IsName, NewName, LookupFaultsExact, AppendFaultsExact}
+use Rattle.signals.specs.Answers.{firstOf}
+use Rattle.signals.proofs.FirstFault.{first-is, next-is}
 
 -- a lookup on an accepted sheet, by its two tests
 lookup-tests : (sheet name : List ℕ) → sheetFault sheet ≡ 0
     → lookupFault sheet name ≡ cond (wellNamed name) (cond (among name (names (signalsOn sheet))) 0 13) 16
-unfolding lookupFault
+unfolding lookupFault firstOf
 lookup-tests sheet name z = rw z
 
 not-named : (name : List ℕ) → wellNamed name ≡ false → IsName name → ⊥
@@ -28,7 +30,7 @@ not-named name e n = true-false (sym (names-exact name .1 n) ∙ e)
 
 module _ (sheet name : List ℕ) where
   lookup-refused : (sheetFault sheet ≡ 0 → ⊥) → lookupFault sheet name ≡ sheetFault sheet
-  unfolding lookupFault
+  unfolding lookupFault firstOf
   lookup-refused n = rw (ne-eqb (sheetFault sheet) 0 n)
 
   sixteen : sheetFault sheet ≡ 0 → lookupFault sheet name ≡ 16 → IsName name → ⊥
@@ -92,30 +94,31 @@ list-most (h ∷ ws) = go (ltb 256 (suc (length ws))) (ltb 1 h) (words-most 0 (h
 -- an append on an accepted sheet, by its tests
 module _ (sheet name list : List ℕ) (room : ℕ) where
   append-refused : (sheetFault sheet ≡ 0 → ⊥) → appendFault sheet name list room ≡ sheetFault sheet
-  unfolding appendFault
+  unfolding appendFault firstOf
   append-refused n = rw (ne-eqb (sheetFault sheet) 0 n)
 
   append-tests : sheetFault sheet ≡ 0
       → appendFault sheet name list room
       ≡ cond (not (wellNamed name) || among name (names (signalsOn sheet))) 16
-      (orElse (listFault list)
+      (firstOf (listFault list)
       (cond (leb 32 (length (signalsOn sheet))) 15 (cond (ltb room (length (appended sheet name list))) 7 0)))
-  unfolding appendFault
+  unfolding appendFault firstOf
   append-tests z = rw z
 
   append-new : sheetFault sheet ≡ 0 → NewName (names (signalsOn sheet)) name
       → appendFault sheet name list room
-      ≡ orElse (listFault list)
+      ≡ firstOf (listFault list)
       (cond (leb 32 (length (signalsOn sheet))) 15 (cond (ltb room (length (appended sheet name list))) 7 0))
   append-new z n = append-tests z ∙ rw (names-exact name .1 (n .named), n .new)
 
   append-listed : sheetFault sheet ≡ 0 → NewName (names (signalsOn sheet)) name → listFault list ≡ 0
       → appendFault sheet name list room
       ≡ cond (leb 32 (length (signalsOn sheet))) 15 (cond (ltb room (length (appended sheet name list))) 7 0)
-  append-listed z n l = append-new z n ∙ rw l
+  append-listed z n l = append-new z n ∙ next-is _ _ l
 
   append-16 : sheetFault sheet ≡ 0 → appendFault sheet name list room ≡ 16
       → (IsName name → ⊥) ⊎ (among name (names (signalsOn sheet)) ≡ true)
+  unfolding firstOf
   append-16 z h =
       go (wellNamed name) (among name (names (signalsOn sheet))) (eqb (listFault list) 0) (leb 32 (length (signalsOn sheet)))
       (ltb room (length (appended sheet name list))) refl refl (sym (append-tests z) ∙ h)
@@ -164,7 +167,7 @@ append-faults-exact sheet name list room =
     record {
       ofSheet = append-refused sheet name list room;
       name16 = λ z. (append-16 sheet name list room z, given-16 sheet name list room z);
-      ofList = λ z n l. append-new sheet name list room z n ∙ rw (ne-eqb (listFault list) 0 l);
+      ofList = λ z n l. append-new sheet name list room z n ∙ first-is _ _ l;
       full =
           λ z n l. (
             λ h. full-15 sheet name list room (sym (append-listed sheet name list room z n l) ∙ h),

@@ -17,12 +17,13 @@ use Rattle.sheets.proofs.OneSignal.{name-back, tail-back, signal-back, 
 use Rattle.sheets.proofs.Exactly.{signal-given, signal-found}
 use Rattle.sheets.specs.Names.{same}
 use Rattle.sheets.specs.Bytes.{low16, bytes16, wordsIn, Bytes}
-use Rattle.sheets.specs.Reading.{mark, orElse, nameAt, wordCount, signalSize, signalFault, signalsFault, frontFault, sheetFault, countOn, Entry, entry, nameOf}
+use Rattle.sheets.specs.Reading.{mark, nameAt, wordCount, signalSize, signalFault, signalsFault, frontFault, sheetFault, countOn, Entry, entry, nameOf}
 use Rattle.sheets.specs.Writing.{entryBytes, Fits}
 use Rattle.sheets.specs.Sentences.{SignalFaulty, SignalsFaulty, SheetFaulty, SheetFaultsExact}
 use Rattle.sheets.specs.Sentences.SignalFaulty.{nameCut, nameMalformed, nameRepeated, countCut, countOutside, wordCut, wordBroken}
 use Rattle.sheets.specs.Sentences.SignalsFaulty.{tooLong, here, later}
 use Rattle.sheets.specs.Sentences.SheetFaulty.{frontWrong, countMissing, countMany, inside}
+use Rattle.signals.specs.Answers.{firstOf}
 
 faulty : {earlier : List (List ℕ)} {rest : List ℕ} {f : ℕ} → SignalFaulty earlier rest f → f ≡ 0 → ⊥
 faulty (nameCut l) e = omega arith
@@ -34,20 +35,20 @@ faulty (wordCut name k ws r n m b s l c) e = omega arith
 faulty (wordBroken name k ws w r n m b s l c q) e = omega arith
 
 signals-given : {earlier : List (List ℕ)} {n : ℕ} {rest : List ℕ} {f : ℕ} → SignalsFaulty earlier n rest f → signalsFault earlier n rest ≡ f
-unfolding signalsFault
+unfolding signalsFault firstOf
 signals-given (tooLong {rest = r} l) = rw (ne-eqb (length r) 0 (λ e. omega (arith, e)))
 signals-given (here {earlier = a} {rest = r} s) = rw (signal-given a s, ne-eqb _ 0 (faulty s))
 signals-given (later {earlier = a} {n = n} {rest = r} {f = f} e fits s) = go e fits (signals-given s)
   where
     go : (e : Entry) → Fits a e → signalsFault (a ++ nameOf e ∷ []) n r ≡ f
-        → orElse (signalFault a (entryBytes e ++ r))
+        → firstOf (signalFault a (entryBytes e ++ r))
         (signalsFault (a ++ nameAt (entryBytes e ++ r) ∷ []) n (drop (signalSize (entryBytes e ++ r)) (entryBytes e ++ r)))
         ≡ f
     go (entry name list) fits h = rw (signal-back a name list r fits, name-back a name list r fits, tail-back a name list r fits) h
 
 signals-found : (earlier : List (List ℕ)) (n : ℕ) (rest : List ℕ) (f : ℕ) → Bytes rest → (f ≡ 0 → ⊥) → signalsFault earlier n rest ≡ f
     → SignalsFaulty earlier n rest f
-unfolding signalsFault
+unfolding signalsFault firstOf
 signals-found earlier zero rest f b z h = go (eqb (length rest) 0) refl h
   where
     go : (t : Bool) → eqb (length rest) 0 ≡ t → cond t 0 15 ≡ f → SignalsFaulty earlier 0 rest f

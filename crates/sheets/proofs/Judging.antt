@@ -20,6 +20,7 @@ use Rattle.sheets.specs.Calls.{placeFrom}
 use Rattle.sheets.specs.Walk.{Whole, sizeOf}
 use Rattle.sheets.specs.declared.Place.{Place}
 use Rattle.sheets.specs.declared.Place.the-variants.{At, Refused}
+use Rattle.signals.specs.Answers.{firstOf}
 
 -- mark, version and count, test after test
 module _ (s : List ℕ) where
@@ -208,26 +209,26 @@ fronted s h =
     }
 
 pub sheet-front : (s : List ℕ) → (frontFault s ≡ 0 → ⊥) → frontFault s ≡ sheetFault s
-unfolding sheetFault
+unfolding sheetFault firstOf
 sheet-front s z = sym (rw (ne-eqb _ _ z))
 
 pub sheet-past : (s : List ℕ) → frontFault s ≡ 0 → sheetFault s ≡ signalsFault [] (countOn s) (drop 7 s)
-unfolding sheetFault
+unfolding sheetFault firstOf
 sheet-past s z = rw (eq-eqb _ _ z)
 
 pub signals-fault : (earlier : List (List ℕ)) (n i : ℕ) (rest : List ℕ) → i < n → (signalFault earlier rest ≡ 0 → ⊥)
     → signalFault earlier rest ≡ signalsFault earlier (n - i) rest
-unfolding signalsFault
+unfolding signalsFault firstOf
 signals-fault earlier n i rest h z = sym (rw (sub-step n i h, ne-eqb _ _ z))
 
 pub signals-past : (earlier : List (List ℕ)) (n i : ℕ) (rest : List ℕ) → i < n → signalFault earlier rest ≡ 0
     → signalsFault earlier (n - i) rest ≡ signalsFault (earlier ++ nameAt rest ∷ []) (n - (i + 1)) (drop (signalSize rest) rest)
-unfolding signalsFault
+unfolding signalsFault firstOf
 signals-past earlier n i rest h z = rw (sub-step n i h, eq-eqb _ _ z)
 
 pub signals-end : (earlier : List (List ℕ)) (n i : ℕ) (rest : List ℕ) → n ≤ i
     → signalsFault earlier (n - i) rest ≡ cond (eqb (length rest) 0) 0 15
-unfolding signalsFault
+unfolding signalsFault firstOf
 signals-end earlier n i rest h = let e : n - i ≡ 0 = omega arith in rw e
 
 -- one accepted signal, after i

@@ -11,22 +11,17 @@ use Rattle.sheets.proofs.Truth.{true-false}
 use Rattle.sheets.proofs.Judging.{sound, foundIn, found-known, Fronted, fronted}
 use Rattle.sheets.specs.Names.{same, among, wellNamed}
 use Rattle.sheets.specs.Bytes.{low16}
-use Rattle.sheets.specs.Reading.{orElse, nameAt, wordCount, signalSize, signalFault, signalsFault, frontFault, sheetFault, countOn, signalsOn, signalsFrom, names}
+use Rattle.sheets.specs.Reading.{nameAt, wordCount, signalSize, signalFault, signalsFault, frontFault, sheetFault, countOn, signalsOn, signalsFrom, names}
 use Rattle.sheets.specs.Calls.{placeFrom, placeOf, lookupFault, lookupOf, partAt}
 use Rattle.sheets.specs.Walk.{Whole}
 use Rattle.sheets.specs.declared.Place.{Place}
 use Rattle.sheets.specs.declared.Place.the-variants.{At, Refused}
+use Rattle.signals.specs.Answers.{firstOf}
+use Rattle.signals.proofs.FirstFault.{both-none}
 
 -- the first of two faults is none: both are
-pub both-none : (f g : ℕ) → orElse f g ≡ 0 → (f ≡ 0) × (g ≡ 0)
-both-none f g h = go (eqb f 0) refl h
-  where
-    go : (t : Bool) → eqb f 0 ≡ t → cond t g f ≡ 0 → (f ≡ 0) × (g ≡ 0)
-    go true e k = (eqb-true f 0 e, k)
-    go false e k = absurd (eqb-false f 0 e k)
-
 pub all-whole : (earlier : List (List ℕ)) (n : ℕ) (rest : List ℕ) → signalsFault earlier n rest ≡ 0 → Whole n rest
-unfolding signalsFault
+unfolding signalsFault firstOf
 all-whole earlier zero rest h = tt
 all-whole earlier (suc n) rest h =
     let e = both-none (signalFault earlier rest) _ h in
@@ -34,11 +29,11 @@ all-whole earlier (suc n) rest h =
 
 -- an accepted sheet: its front passed, its signals are whole
 pub front-none : (sheet : List ℕ) → sheetFault sheet ≡ 0 → Fronted sheet
-unfolding sheetFault
+unfolding sheetFault firstOf
 front-none sheet h = fronted sheet (both-none (frontFault sheet) _ h .0)
 
 pub signals-none : (sheet : List ℕ) → sheetFault sheet ≡ 0 → signalsFault [] (countOn sheet) (drop 7 sheet) ≡ 0
-unfolding sheetFault
+unfolding sheetFault firstOf
 signals-none sheet h = both-none (frontFault sheet) _ h .1
 
 pub sheet-whole : (sheet : List ℕ) → sheetFault sheet ≡ 0 → Whole (countOn sheet) (drop 7 sheet)
@@ -61,16 +56,16 @@ place-refused name at (suc n) rest h =
 
 module _ (sheet name : List ℕ) where
   pub place-bad-sheet : (sheetFault sheet ≡ 0 → ⊥) → Refused (sheetFault sheet) ≡ placeOf sheet name
-  unfolding placeOf lookupFault
+  unfolding placeOf lookupFault firstOf
   place-bad-sheet z = sym (rw (ne-eqb _ _ z, ne-eqb _ _ z))
 
   module _ (z : sheetFault sheet ≡ 0) where
     pub place-bad-name : wellNamed name ≡ false → Refused 16 ≡ placeOf sheet name
-    unfolding placeOf lookupFault
+    unfolding placeOf lookupFault firstOf
     place-bad-name f = sym (rw (eq-eqb _ _ z, f))
 
     pub place-walked : wellNamed name ≡ true → placeFrom name 7 (countOn sheet) (drop 7 sheet) ≡ placeOf sheet name
-    unfolding placeOf lookupFault signalsOn
+    unfolding placeOf lookupFault signalsOn firstOf
     place-walked t =
         sym (rw (eq-eqb _ _ z, t)
         (go (among name (names (signalsFrom (countOn sheet) (drop 7 sheet)))) (found-known name 7 (countOn sheet) (drop 7 sheet))))
@@ -103,7 +98,7 @@ within-from name at (suc n) rest start count w e =
 
 pub place-within : (sheet name : List ℕ) (start count : ℕ) → placeOf sheet name ≡ At start count
     → (start ≤ length sheet) × (start + count ≤ length sheet)
-unfolding placeOf lookupFault
+unfolding placeOf lookupFault firstOf
 place-within sheet name start count e = go (eqb (lookupFault sheet name) 0) refl e
   where
     go : (t : Bool) → eqb (lookupFault sheet name) 0 ≡ t
@@ -128,7 +123,7 @@ pub record Found (sheet name : List ℕ) : Type 0 where
   pub held : among name (names (signalsOn sheet)) ≡ true
 
 pub lookup-none : (sheet name : List ℕ) → lookupFault sheet name ≡ 0 → Found sheet name
-unfolding lookupFault
+unfolding lookupFault firstOf
 lookup-none sheet name h =
     let e = both-none (sheetFault sheet) _ h in
     go (wellNamed name) (among name (names (signalsOn sheet))) refl refl (e .0) (e .1)

@@ -10,7 +10,7 @@ use lib.ListN.{length, take, drop, take-append-drop, length-drop}
 use lib.Seq.{drop-drop}
 use borrow.Author.Tests.{ne-eqb}
 use Rattle.sheets.proofs.Judging.{sound, Fronted, front-fine, sheet-past}
-use Rattle.sheets.proofs.Locating.{both-none, front-none, signals-none}
+use Rattle.sheets.proofs.Locating.{front-none, signals-none}
 use Rattle.sheets.proofs.Steps.{same-equal}
 use Rattle.sheets.proofs.Digits.{low16-written, written16, bytes-drop}
 use Rattle.sheets.proofs.OneSignal.{name-back, words-back, tail-back, signal-back, signal-written, signal-fits}
@@ -18,6 +18,8 @@ use Rattle.sheets.specs.Names.{same}
 use Rattle.sheets.specs.Bytes.{low16, bytes16, wordsIn, Bytes}
 use Rattle.sheets.specs.Reading.{mark, nameAt, wordCount, signalSize, signalFault, signalsFault, frontFault, sheetFault, countOn, signalsFrom, signalsOn, names, Entry, entry}
 use Rattle.sheets.specs.Writing.{entryBytes, entriesBytes, sheetBytes, AllFit, Holdable}
+use Rattle.signals.specs.Answers.{firstOf}
+use Rattle.signals.proofs.FirstFault.{both-none}
 
 -- signals that are written read back, and are accepted with what follows
 pub signals-back : (earlier : List (List ℕ)) (es : List Entry) (tail : List ℕ) → AllFit earlier es
@@ -31,7 +33,7 @@ signals-back earlier (entry name list ∷ es) tail f =
 
 pub signals-passed : (earlier : List (List ℕ)) (es : List Entry) (n : ℕ) (tail : List ℕ) → AllFit earlier es
     → signalsFault earlier (length es + n) (entriesBytes es ++ tail) ≡ signalsFault (earlier ++ names es) n tail
-unfolding signalsFault entriesBytes names
+unfolding signalsFault entriesBytes names firstOf
 signals-passed earlier [] n tail f = rw (zero-add, append-nil)
 signals-passed earlier (entry name list ∷ es) n tail f =
     let k : suc (length es) + n ≡ suc (length es + n) = omega arith in
@@ -47,7 +49,7 @@ none-over (x ∷ xs) h = absurd (let z = rw (ne-eqb (suc (length xs)) 0 (λ e. o
 -- accepted signals are what is written of what they hold
 pub signals-written : (earlier : List (List ℕ)) (n : ℕ) (rest : List ℕ) → Bytes rest → signalsFault earlier n rest ≡ 0
     → (entriesBytes (signalsFrom n rest) ≡ rest) × AllFit earlier (signalsFrom n rest)
-unfolding signalsFault signalsFrom entriesBytes
+unfolding signalsFault signalsFrom entriesBytes firstOf
 signals-written earlier zero rest b h = (none-over rest h, tt)
 signals-written earlier (suc n) rest b h =
     let e = both-none (signalFault earlier rest) _ h in
@@ -79,7 +81,7 @@ module _ (es : List Entry) (few : length es ≤ 32) where
       (sym (low16-written (length es) (entriesBytes es) (omega arith))) few
 
 accepted : (es : List Entry) → AllFit [] es → signalsFault [] (length es) (entriesBytes es) ≡ 0
-unfolding signalsFault
+unfolding signalsFault firstOf
 accepted es f =
     ap (λ (k : ℕ). signalsFault [] k (entriesBytes es)) (sym (add-zero (length es)))
     ∙ ap (λ (l : List ℕ). signalsFault [] (length es + 0) l) (sym (append-nil (entriesBytes es)))

@@ -23,6 +23,7 @@ use Rattle.sheets.specs.Reading.{sheetFault, countOn, signalsOn, names, 
 use Rattle.sheets.specs.Writing.{sheetBytes, Fits, AllFit, Holdable}
 use Rattle.sheets.specs.Calls.{placeOf, partAt, lookupFault, lookupOf, appendFault, appended}
 use Rattle.sheets.specs.Theorems.{decoded, WrittenReadsBack, ReadWritesBack, LookupGivesTheList, AppendKeepsSheet, AppendGivesNew, AppendKeepsOthers, appendAll, AllAppend, BegunReadsBack, OneWriting}
+use Rattle.signals.specs.Answers.{firstOf}
 
 pub written-reads-back : WrittenReadsBack
 written-reads-back = sheet-read
@@ -93,11 +94,11 @@ module _ (sheet name list : List ℕ) (room : ℕ) (b : Bytes sheet) (k : Words 
   lookup-after : (m : List ℕ)
       → lookupFault (appended sheet name list) m
       ≡ cond (wellNamed m) (cond (among m (names (signalsOn sheet)) || same name m) 0 13) 16
-  unfolding lookupFault
+  unfolding lookupFault firstOf
   lookup-after m = rw (fine-after, after, among-snoc)
 
   lookup-before : (m : List ℕ) → lookupFault sheet m ≡ cond (wellNamed m) (cond (among m (names (signalsOn sheet))) 0 13) 16
-  unfolding lookupFault
+  unfolding lookupFault firstOf
   lookup-before m = rw (appends sheet name list room z .fine)
 
   list-new : listNamed name (signalsOn (appended sheet name list)) ≡ list
@@ -164,7 +165,7 @@ module _ (es : List Entry) (name list : List ℕ) (fs : List Entry) (h : Holdabl
   next-sheet = rw on-part
 
   no-fault : (room : ℕ) → length (appended (sheetBytes es) name list) ≤ room → appendFault (sheetBytes es) name list room ≡ 0
-  unfolding appendFault
+  unfolding appendFault firstOf
   no-fault room r =
       rw
       (sheet-read es part-holds .0, part-fits .1 .named, on-part, part-fits .1 .new, part-fits .1 .listed, lt-leb 32 (length es) (omega (arith, total)), le-ltb room _ r)

@@ -6,10 +6,11 @@ use lib.Dec.{leb, ltb, eqb}
 use lib.ListN.{length, take, drop}
 use Rattle.signals.specs.Words.{listFault}
 use Rattle.sheets.specs.Names.{wellNamed, same, among}
-use Rattle.sheets.specs.Reading.{orElse, nameAt, wordCount, signalSize, sheetFault, countOn, signalsOn, names, Entry, entry}
+use Rattle.sheets.specs.Reading.{nameAt, wordCount, signalSize, sheetFault, countOn, signalsOn, names, Entry, entry}
 use Rattle.sheets.specs.Writing.{sheetBytes}
 use Rattle.sheets.specs.declared.Place.{Place}
 use Rattle.sheets.specs.declared.Place.the-variants.{At, Refused}
+use Rattle.signals.specs.Answers.{firstOf}
 
 -- begin: the empty sheet; 7 when the output, of `room` bytes, is shorter
 unfoldable pub beginFault : ℕ → ℕ
@@ -18,7 +19,7 @@ beginFault room = cond (ltb room (length (sheetBytes []))) 7 0
 -- A lookup takes sheet, 16, 13.
 unfoldable pub lookupFault : List ℕ → List ℕ → ℕ
 lookupFault sheet name =
-    orElse (sheetFault sheet) (cond (wellNamed name) (cond (among name (names (signalsOn sheet))) 0 13) 16)
+    firstOf (sheetFault sheet) (cond (wellNamed name) (cond (among name (names (signalsOn sheet))) 0 13) 16)
 
 -- where the words of the signal with this name stand among n signals, of which the first starts at this place
 unfoldable pub placeFrom : List ℕ → ℕ → ℕ → List ℕ → Place
@@ -47,8 +48,8 @@ appended sheet name list = sheetBytes (signalsOn sheet ++ entry name list ∷ []
 -- Appending takes sheet, 16, list, 15, 7.
 unfoldable pub appendFault : List ℕ → List ℕ → List ℕ → ℕ → ℕ
 appendFault sheet name list room =
-    orElse (sheetFault sheet)
+    firstOf (sheetFault sheet)
     (cond (not (wellNamed name) || among name (names (signalsOn sheet))) 16
-    (orElse (listFault list)
+    (firstOf (listFault list)
     (cond (leb 32 (length (signalsOn sheet))) 15
     (cond (ltb room (length (appended sheet name list))) 7 0))))

@@ -8,14 +8,11 @@ use Rattle.signals.specs.Signal.{Signal}
 use Rattle.signals.specs.Words.{dateOf, valueAfter, headValue, changesNothing, signalOf}
 use Rattle.sheets.specs.Names.{fieldFits, unpadded, same, among}
 use Rattle.sheets.specs.Bytes.{low16, low32, wordsIn}
+use Rattle.signals.specs.Answers.{firstOf}
 
 -- The mark is the three letters SGL.
 abbrev pub mark : List ℕ
 mark = 83 ∷ 71 ∷ 76 ∷ []
-
--- the first of two faults, 0 being none
-abbrev pub orElse : ℕ → ℕ → ℕ
-orElse fault next = cond (eqb fault 0) next fault
 
 -- A signal: 8 name bytes, a 16-bit word count, the words.
 unfoldable pub nameAt : List ℕ → List ℕ
@@ -56,7 +53,7 @@ signalFault earlier rest =
 unfoldable pub signalsFault : List (List ℕ) → ℕ → List ℕ → ℕ
 signalsFault earlier zero rest = cond (eqb (length rest) 0) 0 15
 signalsFault earlier (suc n) rest =
-    orElse (signalFault earlier rest) (signalsFault (earlier ++ nameAt rest ∷ []) n (drop (signalSize rest) rest))
+    firstOf (signalFault earlier rest) (signalsFault (earlier ++ nameAt rest ∷ []) n (drop (signalSize rest) rest))
 
 -- The mark; then the version, 16 bits, 1; a 16-bit count of signals, 0 to 32. Cut or wrong is 14 in mark or version, then 15.
 unfoldable pub frontFault : List ℕ → ℕ
@@ -73,7 +70,7 @@ countOn sheet = low16 (drop 5 sheet)
 
 -- The fault of a sheet, 0 for an accepted one.
 unfoldable pub sheetFault : List ℕ → ℕ
-sheetFault sheet = orElse (frontFault sheet) (signalsFault [] (countOn sheet) (drop 7 sheet))
+sheetFault sheet = firstOf (frontFault sheet) (signalsFault [] (countOn sheet) (drop 7 sheet))
 
 -- What a sheet holds of a signal: its name and its list.
 pub data Entry : Type 0 where

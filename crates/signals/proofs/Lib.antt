@@ -17,3 +17,4 @@ pub mod HeadFaults
 pub mod ListFaults
 pub mod TidyFaults
 pub mod Tidying
+pub mod FirstFault

@@ -15,6 +15,10 @@ use Rattle.signals.specs.declared.Verdict.the-variants as verdict
 use Rattle.signals.specs.declared.Told.{Told}
 use Rattle.signals.specs.declared.Told.the-variants as told
 
+-- the first of two faults, 0 being none
+unfoldable pub firstOf : ℕ → ℕ → ℕ
+firstOf f g = cond (eqb f 0) g f
+
 -- Date plus length: 9 for a date above M, then 8 for a length above M, else the date, or the exact sum past M.
 abbrev pub sumOf : ℕ → ℕ → Sum
 sumOf d n =

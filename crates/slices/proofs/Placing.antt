@@ -53,7 +53,6 @@ pub put-turn : (out₀ : List ℕ) (at : ℕ) (s : List ℕ) (i : ℕ) (out : Li
     → out ≡ paste out₀ at s i → set out (at + i) (getD s i 0) ≡ paste out₀ at s (i + 1)
 put-turn out₀ at s i out room h e = rw (e, add-one) (paste-suc out₀ at s i 0 (omega arith) h)
 
-
 -- bytes that fit, and bytes that do not
 pub put-fits : (out : List ℕ) (at : ℕ) (s : List ℕ) → at + length s ≤ length out → putAt out at s ≡ placed out at s
 unfolding putAt

@@ -1,8 +1,8 @@
 -- `operations::pair_fault` gives the first fault of two lists.
 use mathlib.Core.Path.{_≡_, refl, sym, _∙_, ap}
 use Rattle.operations.specs.Calls.{pairFault}
-use Rattle.operations.proofs.JudgedCalls.{first-is, next-is}
 use borrow.Author.Needs.{needs}
+use Rattle.signals.proofs.FirstFault.{first-is, next-is}
 use Rattle.operations.proofs.pair_fault.Statement.{statement}
 use Rattle.operations.proofs.pair_fault.Tie as tie
 
