@@ -17,5 +17,6 @@ pub mod Marking
 pub mod Doing
 pub mod LeafPaths
 pub mod ReaderPaths
+pub mod Chaining
 pub mod Storing
 pub mod WholeRead
