@@ -9,10 +9,10 @@ use lib.ListN.{length}
 use borrow.Author.Tests.{eq-eqb}
 use Rattle.formulas.specs.Reader.{State, next, stepped, put, sumAt, sumsAt, productAt, productsAt, factorAt}
 use Rattle.formulas.specs.Formula.{coded}
-use Rattle.formulas.specs.Marks.{viewOf, nextMark, movedMark, putMark, putCode, Ready, Done}
+use Rattle.formulas.specs.Marks.{viewOf, nextMark, putMark, putCode, Ready, Done}
 use Rattle.formulas.specs.declared.mark.Mark.{Mark}
 use Rattle.formulas.proofs.Doing.{view-next, put-is, ready-on, starting, turned, calling, put-needs, putting, finishing}
-use Rattle.formulas.proofs.ReaderPaths.{Step, step, ready-step, own-byte}
+use Rattle.formulas.proofs.ReaderPaths.{Step, before, one-on, past, own-byte}
 
 -- the operator's byte and kind, the level of an operand's reader, and the readers of an operand, of the rest after it and of the whole chain
 pub record Chain (text : List ℕ) (deep byte kind level : ℕ) (operand rest whole : ℕ → State ℕ → State ℕ) : Type 0 where
@@ -45,34 +45,32 @@ module _ {text : List ℕ} {deep byte kind level : ℕ} {operand rest whole : �
   pub rest-end : eqb (nextMark text m) byte ≡ false → Done rest 1 text m old old m
   rest-end e = finishing (starting 0 g) (λ n. C .goes-on n (viewOf m old) ∙ rw (view-next text m old, e) refl)
 
-  -- the operator's byte is next, and passed at x
-  module _ (e : nextMark text m ≡ byte) {x : Mark} (q : x ≡ movedMark m (m .at + 1)) where
-    passed : Step g x
-    passed = step g e (C .some) q
+-- past the operator's byte
+module _ {text : List ℕ} {deep byte kind level : ℕ} {operand rest whole : ℕ → State ℕ → State ℕ} (C : Chain text deep byte kind level operand rest whole)
+    {old : List ℕ} {m : Mark} {t : ℕ} {x : Mark} (k : Step text old m deep 1 t byte x) where
+  pub operand-needs : (5 * (length text - x .at) + deep + level < t) × Ready text old x deep
+  operand-needs = (omega (arith, one-on k, before k, C .below, k .falls), ready-on (k .ready) (past k 0))
 
-    pub operand-needs : {t : ℕ} → 5 * (length text - m .at) + deep + 1 ≡ t → (5 * (length text - x .at) + deep + level < t) × Ready text old x deep
-    operand-needs h = (omega (arith, passed .at, passed .before, C .below), ready-step g passed)
+  -- an operand after it, to y
+  module _ {mid : List ℕ} {y : Mark} (p : Done operand level text x old mid y) where
+    read : Done (λ n s. operand n (stepped 1 s)) 0 text m old mid y
+    read = calling (past k 0) p (omega (arith, one-on k, before k, C .below))
 
-    -- an operand after it, to y
-    module _ {mid : List ℕ} {y : Mark} (p : Done operand level text x old mid y) where
-      read : Done (λ n s. operand n (stepped 1 s)) 0 text m old mid y
-      read = calling (passed .done 0) p (omega (arith, passed .at, passed .before, C .below))
+    pub operator-needs : (length mid ≡ 1024) × (y .ok ≡ true → y .parts < 1024)
+    operator-needs = put-needs (k .ready) read (own-byte k p)
 
-      pub operator-needs : (length mid ≡ 1024) × (y .ok ≡ true → y .parts < 1024)
-      operator-needs = put-needs g read (own-byte g passed p)
+    -- and the operator put out, to z
+    module _ {mid2 : List ℕ} {z : Mark} (w : (z ≡ putMark y deep 0) × (mid2 ≡ putCode y kind mid)) where
+      joined : Done (λ n s. put kind deep 0 (operand n (stepped 1 s))) 0 text m old mid2 z
+      joined = turned (w .1) (w .0) (putting kind deep 0 (k .ready) read (own-byte k p))
 
-      -- and the operator put out, to z
-      module _ {mid2 : List ℕ} {z : Mark} (w : (z ≡ putMark y deep 0) × (mid2 ≡ putCode y kind mid)) where
-        joined : Done (λ n s. put kind deep 0 (operand n (stepped 1 s))) 0 text m old mid2 z
-        joined = turned (w .1) (w .0) (putting kind deep 0 g read (own-byte g passed p))
+      beyond : m .at < z .at
+      beyond = omega (arith, ap (λ (j : Mark). j .at) (w .0) ∙ put-is y deep 0 .at, p .on, one-on k)
 
-        beyond : m .at < z .at
-        beyond = omega (arith, ap (λ (j : Mark). j .at) (w .0) ∙ put-is y deep 0 .at, p .on, passed .at)
+      pub rest-needs : (5 * (length text - z .at) + deep + 1 < t) × Ready text mid2 z deep
+      rest-needs = (omega (arith, beyond, joined .within, k .falls), ready-on (k .ready) joined)
 
-        pub rest-needs : {t : ℕ} → 5 * (length text - m .at) + deep + 1 ≡ t → (5 * (length text - z .at) + deep + 1 < t) × Ready text mid2 z deep
-        rest-needs h = (omega (arith, beyond, joined .within), ready-on g joined)
-
-        pub rest-path : {new : List ℕ} {r : Mark} → Done rest 1 text z mid2 new r → Done rest 1 text m old new r
-        rest-path s =
-            finishing (calling joined s (omega (arith, beyond, joined .within)))
-            (λ n. C .goes-on n (viewOf m old) ∙ rw (view-next text m old, eq-eqb _ _ e) refl)
+      pub rest-path : {new : List ℕ} {r : Mark} → Done rest 1 text z mid2 new r → Done rest 1 text m old new r
+      rest-path s =
+          finishing (calling joined s (omega (arith, beyond, joined .within)))
+          (λ n. C .goes-on n (viewOf m old) ∙ rw (view-next text m old, eq-eqb _ _ (k .next)) refl)

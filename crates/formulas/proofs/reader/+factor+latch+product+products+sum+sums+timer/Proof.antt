@@ -8,7 +8,7 @@ use lib.ListN.{length}
 use borrow.Author.Needs.{needs}
 use Rattle.formulas.specs.declared.mark.Mark.{Mark}
 use Rattle.formulas.proofs.Marking.{capped-most}
-use Rattle.formulas.proofs.Doing.{passed, put-needs, inner-needs}
+use Rattle.formulas.proofs.Doing.{passed, inner-needs}
 use Rattle.formulas.proofs.ReaderPaths as paths
 use Rattle.formulas.proofs.Chaining as chaining
 use Rattle.formulas.proofs.Chaining.{plus, times}
@@ -137,26 +137,22 @@ factor-add-moved t c = let g = c .before .before .before .before .before .pre .1
 factor-add-factor : (t : ℕ) → factor-lts.Need-add-factor (factor-calls t) (factor-at t) factor.Post
 factor-add-factor t c = let g = c .before .before .before .before .before .before .pre .1 in omega (arith, g .opened, g .within, g .short)
 
+-- past the byte b at the front of a factor, at x
+abbrev Factor-step : (t : ℕ) → factor-lts.Start (factor-calls t) (factor-at t) factor.Post → ℕ → Mark → Type 0
+Factor-step t s b x = paths.Step (s .args .text .now) (s .args .code .now) (s .args .m) (s .args .deep) 2 t b x
+
+prefix-step : (t : ℕ) (c : factor-lts.After-moved (factor-calls t) (factor-at t) factor.Post) → Factor-step t (c .before .before .before .before .before .before) (c .before .before .before .before .next .result) (c .moved .result)
+prefix-step t c = paths.step (c .before .before .before .before .before .before .pre) (sym (c .before .before .before .before .next .ensures)) (paths.prefix-above _ _ (c .before .before .before .prefix-kind .ensures) (c .before .before .if1 .taken)) (c .moved .ensures)
+
 factor-factor-requires : (t : ℕ) → factor-lts.Need-factor-requires (factor-calls t) (factor-at t) factor.Post
-factor-factor-requires t c κs =
-    let s = c .before .before .before .before .before .before in
-    let e = sym (c .before .before .before .before .next .ensures) in
-    let k = paths.step (s .pre .1) e (paths.prefix-above _ _ (c .before .before .before .prefix-kind .ensures) (c .before .before .if1 .taken)) (c .moved .ensures) in
-    paths.deeper-needs (s .pre .1) k (omega arith) (s .pre .0)
+factor-factor-requires t c κs = paths.deeper-needs (prefix-step t c) (omega arith)
 
 factor-put-requires : (t : ℕ) → factor-lts.Need-put-requires (factor-calls t) (factor-at t) factor.Post
-factor-put-requires t c κs =
-    let s = c .before .before .before .before .before .before .before .before in
-    let e = sym (c .before .before .before .before .before .before .next .ensures) in
-    let k = paths.step (s .pre .1) e (paths.prefix-above _ _ (c .before .before .before .before .before .prefix-kind .ensures) (c .before .before .before .before .if1 .taken)) (c .before .before .moved .ensures) in
-    put-needs (s .pre .1) (paths.factor-deeper (s .pre .1) k (c .before .factor .ensures)) (paths.own-byte (s .pre .1) k (c .before .factor .ensures))
+factor-put-requires t c κs = paths.prefix-needs (prefix-step t (c .before .before)) (c .before .factor .ensures)
 
 factor-returns : (t : ℕ) → factor-lts.Need-returns (factor-calls t) (factor-at t) factor.Post
 factor-returns t c =
-    let s = c .before .before .before .before .before .before .before .before .before in
-    let e = sym (c .before .before .before .before .before .before .before .next .ensures) in
-    let k = paths.step (s .pre .1) e (paths.prefix-above _ _ (c .before .before .before .before .before .before .prefix-kind .ensures) (c .before .before .before .before .before .if1 .taken)) (c .before .before .before .moved .ensures) in
-    paths.prefix-path (s .pre .1) k _ _ e (c .before .before .before .before .before .before .prefix-kind .ensures) (c .before .before .before .before .before .if1 .taken) (c .before .before .factor .ensures) (c .put .ensures .1) (c .put .ensures .0)
+    paths.prefix-path (prefix-step t (c .before .before .before)) _ (c .before .before .before .before .before .before .prefix-kind .ensures) (c .before .before .before .before .before .if1 .taken) (c .before .before .factor .ensures) (c .put .ensures)
 
 factor-add-moved-2 : (t : ℕ) → factor-lts.Need-add-moved-2 (factor-calls t) (factor-at t) factor.Post
 factor-add-moved-2 t c = let g = c .before .before .before .before .before .before .pre .1 in omega (arith, g .within, g .short)
@@ -164,107 +160,94 @@ factor-add-moved-2 t c = let g = c .before .before .before .before .before .befo
 factor-add-sum : (t : ℕ) → factor-lts.Need-add-sum (factor-calls t) (factor-at t) factor.Post
 factor-add-sum t c = let g = c .before .before .before .before .before .before .before .pre .1 in omega (arith, g .opened, g .within, g .short)
 
+bracket-step : (t : ℕ) (c : factor-lts.After-moved2 (factor-calls t) (factor-at t) factor.Post) → Factor-step t (c .before .before .before .before .before .before .before) 40 (c .moved2 .result)
+bracket-step t c = paths.step (c .before .before .before .before .before .before .before .pre) (sym (c .before .before .before .before .before .next .ensures) ∙ c .before .before .if2 .taken) (omega arith) (c .moved2 .ensures)
+
 factor-sum-requires : (t : ℕ) → factor-lts.Need-sum-requires (factor-calls t) (factor-at t) factor.Post
-factor-sum-requires t c κs =
-    let s = c .before .before .before .before .before .before .before in
-    let e = sym (c .before .before .before .before .before .next .ensures) ∙ c .before .before .if2 .taken in
-    let k = paths.step (s .pre .1) e (omega arith) (c .moved2 .ensures) in
-    paths.deeper-needs (s .pre .1) k (omega arith) (s .pre .0)
+factor-sum-requires t c κs = paths.deeper-needs (bracket-step t c) (omega arith)
 
 factor-returns-2 : (t : ℕ) → factor-lts.Need-returns-2 (factor-calls t) (factor-at t) factor.Post
-factor-returns-2 t c =
-    let s = c .before .before .before .before .before .before .before .before .before in
-    let e = sym (c .before .before .before .before .before .before .before .next .ensures) ∙ c .before .before .before .before .if2 .taken in
-    let k = paths.step (s .pre .1) e (omega arith) (c .before .before .moved2 .ensures) in
-    paths.brackets-path (s .pre .1) k e (c .before .sum .ensures) (c .expect .ensures)
+factor-returns-2 t c = paths.brackets-path (bracket-step t (c .before .before)) (c .before .sum .ensures) (c .expect .ensures)
 
 factor-add-moved-3 : (t : ℕ) → factor-lts.Need-add-moved-3 (factor-calls t) (factor-at t) factor.Post
 factor-add-moved-3 t c = let g = c .before .before .before .before .before .before .pre .1 in omega (arith, g .within, g .short)
 
+sr-step : (t : ℕ) (c : factor-lts.After-moved3 (factor-calls t) (factor-at t) factor.Post) → Factor-step t (c .before .before .before .before .before .before .before) 83 (c .moved3 .result)
+sr-step t c = paths.step (c .before .before .before .before .before .before .before .pre) (sym (c .before .before .before .before .before .next .ensures) ∙ c .before .if3 .taken) (omega arith) (c .moved3 .ensures)
+
 factor-latch-requires : (t : ℕ) → factor-lts.Need-latch-requires (factor-calls t) (factor-at t) factor.Post
 factor-latch-requires t c κs =
-    let s = c .before .before .before .before .before .before .before .before .before in
-    let e = sym (c .before .before .before .before .before .before .before .next .ensures) ∙ c .before .before .before .if3 .taken in
-    let k = paths.step (s .pre .1) e (omega arith) (c .before .before .moved3 .ensures) in
-    paths.block-needs (s .pre .1) k (paths.letter (s .pre .1) k 82 (omega arith) (c .before .expect2 .ensures)) (s .pre .0)
+    let k = sr-step t (c .before .before) in
+    paths.block-needs k (paths.letter k 82 (omega arith) (c .before .expect2 .ensures))
 
 factor-returns-3 : (t : ℕ) → factor-lts.Need-returns-3 (factor-calls t) (factor-at t) factor.Post
 factor-returns-3 t c =
-    let s = c .before .before .before .before .before .before .before .before .before .before in
-    let e = sym (c .before .before .before .before .before .before .before .before .next .ensures) ∙ c .before .before .before .before .if3 .taken in
-    let k = paths.step (s .pre .1) e (omega arith) (c .before .before .before .moved3 .ensures) in
-    paths.block-path (s .pre .1) k (paths.letter (s .pre .1) k 82 (omega arith) (c .before .before .expect2 .ensures)) (c .latch .ensures) (paths.sr-is (s .pre .1) e)
+    let k = sr-step t (c .before .before .before) in
+    paths.block-path k (paths.letter k 82 (omega arith) (c .before .before .expect2 .ensures)) (c .latch .ensures) (paths.sr-is k)
 
 factor-add-moved-4 : (t : ℕ) → factor-lts.Need-add-moved-4 (factor-calls t) (factor-at t) factor.Post
 factor-add-moved-4 t c = let g = c .before .before .before .before .before .before .before .pre .1 in omega (arith, g .within, g .short)
 
+rs-step : (t : ℕ) (c : factor-lts.After-moved4 (factor-calls t) (factor-at t) factor.Post) → Factor-step t (c .before .before .before .before .before .before .before .before) 82 (c .moved4 .result)
+rs-step t c = paths.step (c .before .before .before .before .before .before .before .before .pre) (sym (c .before .before .before .before .before .before .next .ensures) ∙ c .before .if4 .taken) (omega arith) (c .moved4 .ensures)
+
 factor-latch-requires-2 : (t : ℕ) → factor-lts.Need-latch-requires-2 (factor-calls t) (factor-at t) factor.Post
 factor-latch-requires-2 t c κs =
-    let s = c .before .before .before .before .before .before .before .before .before .before in
-    let e = sym (c .before .before .before .before .before .before .before .before .next .ensures) ∙ c .before .before .before .if4 .taken in
-    let k = paths.step (s .pre .1) e (omega arith) (c .before .before .moved4 .ensures) in
-    paths.block-needs (s .pre .1) k (paths.letter (s .pre .1) k 83 (omega arith) (c .before .expect3 .ensures)) (s .pre .0)
+    let k = rs-step t (c .before .before) in
+    paths.block-needs k (paths.letter k 83 (omega arith) (c .before .expect3 .ensures))
 
 factor-returns-4 : (t : ℕ) → factor-lts.Need-returns-4 (factor-calls t) (factor-at t) factor.Post
 factor-returns-4 t c =
-    let s = c .before .before .before .before .before .before .before .before .before .before .before in
-    let e = sym (c .before .before .before .before .before .before .before .before .before .next .ensures) ∙ c .before .before .before .before .if4 .taken in
-    let k = paths.step (s .pre .1) e (omega arith) (c .before .before .before .moved4 .ensures) in
-    paths.block-path (s .pre .1) k (paths.letter (s .pre .1) k 83 (omega arith) (c .before .before .expect3 .ensures)) (c .latch2 .ensures) (paths.rs-is (s .pre .1) e)
+    let k = rs-step t (c .before .before .before) in
+    paths.block-path k (paths.letter k 83 (omega arith) (c .before .before .expect3 .ensures)) (c .latch2 .ensures) (paths.rs-is k)
 
 factor-add-moved-5 : (t : ℕ) → factor-lts.Need-add-moved-5 (factor-calls t) (factor-at t) factor.Post
 factor-add-moved-5 t c = let g = c .before .before .before .before .before .before .before .before .pre .1 in omega (arith, g .within, g .short)
 
+t-step : (t : ℕ) (c : factor-lts.After-moved5 (factor-calls t) (factor-at t) factor.Post) → Factor-step t (c .before .before .before .before .before .before .before .before .before) 84 (c .moved5 .result)
+t-step t c = paths.step (c .before .before .before .before .before .before .before .before .before .pre) (sym (c .before .before .before .before .before .before .before .next .ensures) ∙ c .before .if5 .taken) (omega arith) (c .moved5 .ensures)
+
 factor-add-moved-6 : (t : ℕ) → factor-lts.Need-add-moved-6 (factor-calls t) (factor-at t) factor.Post
 factor-add-moved-6 t c =
-    let s = c .before .before .before .before .before .before .before .before .before .before .before .before .before in
-    let e = sym (c .before .before .before .before .before .before .before .before .before .before .before .next .ensures) ∙ c .before .before .before .before .before .if5 .taken in
-    let k = paths.step (s .pre .1) e (omega arith) (c .before .before .before .before .moved5 .ensures) in
-    omega (arith, paths.letter (s .pre .1) k 79 (omega arith) (c .before .before .before .expect4 .ensures) .done .within, s .pre .1 .short)
+    let k = t-step t (c .before .before .before .before) in
+    omega (arith, paths.letter k 79 (omega arith) (c .before .before .before .expect4 .ensures) .done .within, k .ready .short)
 
 factor-timer-requires : (t : ℕ) → factor-lts.Need-timer-requires (factor-calls t) (factor-at t) factor.Post
 factor-timer-requires t c κs =
-    let s = c .before .before .before .before .before .before .before .before .before .before .before .before .before .before in
-    let e = sym (c .before .before .before .before .before .before .before .before .before .before .before .before .next .ensures) ∙ c .before .before .before .before .before .before .if5 .taken in
-    let k = paths.step (s .pre .1) e (omega arith) (c .before .before .before .before .before .moved5 .ensures) in
+    let k = t-step t (c .before .before .before .before .before) in
     let w = sym (c .before .before .before .next2 .ensures) ∙ c .before .before .if6 .taken in
-    let b = paths.block-needs (s .pre .1) k (paths.ton-letters (s .pre .1) k (c .before .before .before .before .expect4 .ensures) w (c .moved6 .ensures)) (s .pre .0) in
+    let b = paths.block-needs k (paths.ton-letters k (c .before .before .before .before .expect4 .ensures) w (c .moved6 .ensures)) in
     (b .0, (b .1, omega arith))
 
 factor-returns-5 : (t : ℕ) → factor-lts.Need-returns-5 (factor-calls t) (factor-at t) factor.Post
 factor-returns-5 t c =
-    let s = c .before .before .before .before .before .before .before .before .before .before .before .before .before .before .before in
-    let e = sym (c .before .before .before .before .before .before .before .before .before .before .before .before .before .next .ensures) ∙ c .before .before .before .before .before .before .before .if5 .taken in
-    let k = paths.step (s .pre .1) e (omega arith) (c .before .before .before .before .before .before .moved5 .ensures) in
+    let k = t-step t (c .before .before .before .before .before .before) in
     let w = sym (c .before .before .before .before .next2 .ensures) ∙ c .before .before .before .if6 .taken in
     let o = c .before .before .before .before .before .expect4 .ensures in
-    paths.block-path (s .pre .1) k (paths.ton-letters (s .pre .1) k o w (c .before .moved6 .ensures)) (c .timer .ensures) (paths.ton-is (s .pre .1) k e o w)
+    paths.block-path k (paths.ton-letters k o w (c .before .moved6 .ensures)) (c .timer .ensures) (paths.ton-is k o w)
 
 factor-timer-requires-2 : (t : ℕ) → factor-lts.Need-timer-requires-2 (factor-calls t) (factor-at t) factor.Post
 factor-timer-requires-2 t c κs =
-    let s = c .before .before .before .before .before .before .before .before .before .before .before .before .before .before in
-    let e = sym (c .before .before .before .before .before .before .before .before .before .before .before .before .next .ensures) ∙ c .before .before .before .before .before .before .if5 .taken in
-    let k = paths.step (s .pre .1) e (omega arith) (c .before .before .before .before .before .moved5 .ensures) in
-    let b = paths.block-needs (s .pre .1) k (paths.tof-letters (s .pre .1) k (c .before .before .before .before .expect4 .ensures) (c .before .expect5 .ensures)) (s .pre .0) in
+    let k = t-step t (c .before .before .before .before .before) in
+    let b = paths.block-needs k (paths.tof-letters k (c .before .before .before .before .expect4 .ensures) (c .before .expect5 .ensures)) in
     (b .0, (b .1, omega arith))
 
 factor-returns-6 : (t : ℕ) → factor-lts.Need-returns-6 (factor-calls t) (factor-at t) factor.Post
 factor-returns-6 t c =
-    let s = c .before .before .before .before .before .before .before .before .before .before .before .before .before .before .before in
-    let e = sym (c .before .before .before .before .before .before .before .before .before .before .before .before .before .next .ensures) ∙ c .before .before .before .before .before .before .before .if5 .taken in
-    let k = paths.step (s .pre .1) e (omega arith) (c .before .before .before .before .before .before .moved5 .ensures) in
+    let k = t-step t (c .before .before .before .before .before .before) in
     let w = ne-eqb _ _ (λ h. c .before .before .before .if6 .left (c .before .before .before .before .next2 .ensures ∙ h)) in
     let o = c .before .before .before .before .before .expect4 .ensures in
-    paths.block-path (s .pre .1) k (paths.tof-letters (s .pre .1) k o (c .before .before .expect5 .ensures)) (c .timer2 .ensures) (paths.tof-is (s .pre .1) k e o w)
+    paths.block-path k (paths.tof-letters k o (c .before .before .expect5 .ensures)) (c .timer2 .ensures) (paths.tof-is k o w)
 
 factor-leaf-requires : (t : ℕ) → factor-lts.Need-leaf-requires (factor-calls t) (factor-at t) factor.Post
 factor-leaf-requires t c κs = c .before .before .before .before .before .before .before .before .before .pre .1
 
 factor-returns-7 : (t : ℕ) → factor-lts.Need-returns-7 (factor-calls t) (factor-at t) factor.Post
 factor-returns-7 t c =
-    let b = c .before .before .before .before .before .before .before .before .next .result in
-    paths.leaf-path (c .before .before .before .before .before .before .before .before .before .before .pre .1) b (c .before .before .before .before .before .before .before .prefix-kind .result) (sym (c .before .before .before .before .before .before .before .before .next .ensures)) (c .before .before .before .before .before .before .before .prefix-kind .ensures)
-    (c .before .before .before .before .before .before .if1 .left) (ne-eqb b 40 (c .before .before .before .before .before .if2 .left)) (ne-eqb b 83 (c .before .before .before .before .if3 .left)) (ne-eqb b 82 (c .before .before .before .if4 .left)) (ne-eqb b 84 (c .before .before .if5 .left)) (c .leaf .ensures)
+    let n = c .before .before .before .before .before .before .before .before in
+    let b = n .next .result in
+    paths.leaf-path (n .before .before .pre .1) b _ (sym (n .next .ensures)) (c .before .before .before .before .before .before .before .prefix-kind .ensures) (c .before .before .before .before .before .before .if1 .left)
+    (ne-eqb b 40 (c .before .before .before .before .before .if2 .left)) (ne-eqb b 83 (c .before .before .before .before .if3 .left)) (ne-eqb b 82 (c .before .before .before .if4 .left)) (ne-eqb b 84 (c .before .before .if5 .left)) (c .leaf .ensures)
 
 latch-add-sum : (t : ℕ) → latch-lts.Need-add-sum (latch-calls t) (latch-at t) latch.Post
 latch-add-sum t c = let g = c .before .before .before .pre .1 in omega (arith, g .opened, g .within, g .short)
@@ -305,25 +288,24 @@ product-returns t c = chaining.whole-path times (c .before .before .before .befo
 products-add-moved : (t : ℕ) → products-lts.Need-add-moved (products-calls t) (products-at t) products.Post
 products-add-moved t c = let g = c .before .before .before .before .pre .1 in omega (arith, g .within, g .short)
 
+-- past the byte b at the front of the rest of a chain, at x
+abbrev Products-step : (t : ℕ) → products-lts.Start (products-calls t) (products-at t) products.Post → ℕ → Mark → Type 0
+Products-step t s b x = paths.Step (s .args .text .now) (s .args .code .now) (s .args .m) (s .args .deep) 1 t b x
+
+times-step : (t : ℕ) (c : products-lts.After-moved (products-calls t) (products-at t) products.Post) → Products-step t (c .before .before .before .before .before) 46 (c .moved .result)
+times-step t c = paths.step (c .before .before .before .before .before .pre) (sym (c .before .before .before .next .ensures) ∙ c .before .before .if1 .taken) (omega arith) (c .moved .ensures)
+
 products-factor-requires : (t : ℕ) → products-lts.Need-factor-requires (products-calls t) (products-at t) products.Post
-products-factor-requires t c κs =
-    let s = c .before .before .before .before .before in
-    chaining.operand-needs times (s .pre .1) (sym (c .before .before .before .next .ensures) ∙ c .before .before .if1 .taken) (c .moved .ensures) (s .pre .0)
+products-factor-requires t c κs = chaining.operand-needs times (times-step t c)
 
 products-put-requires : (t : ℕ) → products-lts.Need-put-requires (products-calls t) (products-at t) products.Post
-products-put-requires t c κs =
-    let s = c .before .before .before .before .before .before .before in
-    chaining.operator-needs times (s .pre .1) (sym (c .before .before .before .before .before .next .ensures) ∙ c .before .before .before .before .if1 .taken) (c .before .before .moved .ensures) (c .before .factor .ensures)
+products-put-requires t c κs = chaining.operator-needs times (times-step t (c .before .before)) (c .before .factor .ensures)
 
 products-products-requires : (t : ℕ) → products-lts.Need-products-requires (products-calls t) (products-at t) products.Post
-products-products-requires t c κs =
-    let s = c .before .before .before .before .before .before .before .before .before in
-    chaining.rest-needs times (s .pre .1) (sym (c .before .before .before .before .before .before .before .next .ensures) ∙ c .before .before .before .before .before .before .if1 .taken) (c .before .before .before .before .moved .ensures) (c .before .before .before .factor .ensures) (c .before .put .ensures) (s .pre .0)
+products-products-requires t c κs = chaining.rest-needs times (times-step t (c .before .before .before .before)) (c .before .before .before .factor .ensures) (c .before .put .ensures)
 
 products-returns : (t : ℕ) → products-lts.Need-returns (products-calls t) (products-at t) products.Post
-products-returns t c =
-    let s = c .before .before .before .before .before .before .before .before .before .before in
-    chaining.rest-path times (s .pre .1) (sym (c .before .before .before .before .before .before .before .before .next .ensures) ∙ c .before .before .before .before .before .before .before .if1 .taken) (c .before .before .before .before .before .moved .ensures) (c .before .before .before .before .factor .ensures) (c .before .before .put .ensures) (c .products .ensures)
+products-returns t c = chaining.rest-path times (times-step t (c .before .before .before .before .before)) (c .before .before .before .before .factor .ensures) (c .before .before .put .ensures) (c .products .ensures)
 
 products-returns-2 : (t : ℕ) → products-lts.Need-returns-2 (products-calls t) (products-at t) products.Post
 products-returns-2 t c = chaining.rest-end times (c .before .before .before .pre .1) (ne-eqb _ _ (λ h. c .if1 .left (c .before .next .ensures ∙ h)))
@@ -340,25 +322,24 @@ sum-returns t c = chaining.whole-path plus (c .before .before .before .before .b
 sums-add-moved : (t : ℕ) → sums-lts.Need-add-moved (sums-calls t) (sums-at t) sums.Post
 sums-add-moved t c = let g = c .before .before .before .before .pre .1 in omega (arith, g .within, g .short)
 
+-- past the byte b at the front of the rest of a chain, at x
+abbrev Sums-step : (t : ℕ) → sums-lts.Start (sums-calls t) (sums-at t) sums.Post → ℕ → Mark → Type 0
+Sums-step t s b x = paths.Step (s .args .text .now) (s .args .code .now) (s .args .m) (s .args .deep) 1 t b x
+
+plus-step : (t : ℕ) (c : sums-lts.After-moved (sums-calls t) (sums-at t) sums.Post) → Sums-step t (c .before .before .before .before .before) 43 (c .moved .result)
+plus-step t c = paths.step (c .before .before .before .before .before .pre) (sym (c .before .before .before .next .ensures) ∙ c .before .before .if1 .taken) (omega arith) (c .moved .ensures)
+
 sums-product-requires : (t : ℕ) → sums-lts.Need-product-requires (sums-calls t) (sums-at t) sums.Post
-sums-product-requires t c κs =
-    let s = c .before .before .before .before .before in
-    chaining.operand-needs plus (s .pre .1) (sym (c .before .before .before .next .ensures) ∙ c .before .before .if1 .taken) (c .moved .ensures) (s .pre .0)
+sums-product-requires t c κs = chaining.operand-needs plus (plus-step t c)
 
 sums-put-requires : (t : ℕ) → sums-lts.Need-put-requires (sums-calls t) (sums-at t) sums.Post
-sums-put-requires t c κs =
-    let s = c .before .before .before .before .before .before .before in
-    chaining.operator-needs plus (s .pre .1) (sym (c .before .before .before .before .before .next .ensures) ∙ c .before .before .before .before .if1 .taken) (c .before .before .moved .ensures) (c .before .product .ensures)
+sums-put-requires t c κs = chaining.operator-needs plus (plus-step t (c .before .before)) (c .before .product .ensures)
 
 sums-sums-requires : (t : ℕ) → sums-lts.Need-sums-requires (sums-calls t) (sums-at t) sums.Post
-sums-sums-requires t c κs =
-    let s = c .before .before .before .before .before .before .before .before .before in
-    chaining.rest-needs plus (s .pre .1) (sym (c .before .before .before .before .before .before .before .next .ensures) ∙ c .before .before .before .before .before .before .if1 .taken) (c .before .before .before .before .moved .ensures) (c .before .before .before .product .ensures) (c .before .put .ensures) (s .pre .0)
+sums-sums-requires t c κs = chaining.rest-needs plus (plus-step t (c .before .before .before .before)) (c .before .before .before .product .ensures) (c .before .put .ensures)
 
 sums-returns : (t : ℕ) → sums-lts.Need-returns (sums-calls t) (sums-at t) sums.Post
-sums-returns t c =
-    let s = c .before .before .before .before .before .before .before .before .before .before in
-    chaining.rest-path plus (s .pre .1) (sym (c .before .before .before .before .before .before .before .before .next .ensures) ∙ c .before .before .before .before .before .before .before .if1 .taken) (c .before .before .before .before .before .moved .ensures) (c .before .before .before .before .product .ensures) (c .before .before .put .ensures) (c .sums .ensures)
+sums-returns t c = chaining.rest-path plus (plus-step t (c .before .before .before .before .before)) (c .before .before .before .before .product .ensures) (c .before .before .put .ensures) (c .sums .ensures)
 
 sums-returns-2 : (t : ℕ) → sums-lts.Need-returns-2 (sums-calls t) (sums-at t) sums.Post
 sums-returns-2 t c = chaining.rest-end plus (c .before .before .before .pre .1) (ne-eqb _ _ (λ h. c .if1 .left (c .before .next .ensures ∙ h)))
