@@ -1,36 +1,21 @@
 -- The paths through the readers of a chain of operands with an operator between them: + of products, and . of factors.
-use Prim.Native.Nat.{ℕ, suc, _+_, _*_, _-_, _≤_, _<_}
+use Prim.Native.Nat.{ℕ, suc, _+_, _*_, _-_, _<_}
 use native.Mathlib.Omega.{arith}
 use mathlib.Core.Path.{_≡_, refl, ap, _∙_}
-use mathlib.Core.Bool.{true, false, cond}
+use mathlib.Core.Bool.{true, false}
 use mathlib.Core.List.{List}
 use lib.Dec.{eqb}
 use lib.ListN.{length}
 use borrow.Author.Tests.{eq-eqb}
-use Rattle.formulas.specs.Reader.{State, next, stepped, put, sumAt, sumsAt, productAt, productsAt, factorAt}
+use Rattle.formulas.specs.Reader.{State, stepped, put}
 use Rattle.formulas.specs.Formula.{coded}
 use Rattle.formulas.specs.Marks.{viewOf, nextMark, putMark, putCode, Ready, Done}
 use Rattle.formulas.specs.declared.mark.Mark.{Mark}
+use Rattle.formulas.proofs.Branches.{Chain}
 use Rattle.formulas.proofs.Doing.{view-next, put-is, ready-on, starting, turned, calling, put-needs, putting, finishing}
 use Rattle.formulas.proofs.ReaderPaths.{Step, before, one-on, past, own-byte}
 
--- the operator's byte and kind, the level of an operand's reader, and the readers of an operand, of the rest after it and of the whole chain
-pub record Chain (text : List ℕ) (deep byte kind level : ℕ) (operand rest whole : ℕ → State ℕ → State ℕ) : Type 0 where
-  pub some : 0 < byte
-  pub above : 1 ≤ level
-  pub below : level < 5
-  pub goes-on : (n : ℕ) (s : State ℕ) → rest (suc n) s ≡ cond (eqb (next text s) byte) (rest n (put kind deep 0 (operand n (stepped 1 s)))) s
-  pub begins : (n : ℕ) (s : State ℕ) → whole (suc n) s ≡ rest n (operand n s)
-
-pub plus : {text : List ℕ} {deep : ℕ} → Chain text deep 43 9 3 (λ n. productAt coded text n deep) (λ n. sumsAt coded text n deep) (λ n. sumAt coded text n deep)
-unfolding sumAt sumsAt
-plus = record { some = omega arith; above = omega arith; below = omega arith; goes-on = λ n s. refl; begins = λ n s. refl }
-
-pub times : {text : List ℕ} {deep : ℕ} → Chain text deep 46 8 2 (λ n. factorAt coded text n deep) (λ n. productsAt coded text n deep) (λ n. productAt coded text n deep)
-unfolding productAt productsAt
-times = record { some = omega arith; above = omega arith; below = omega arith; goes-on = λ n s. refl; begins = λ n s. refl }
-
-module _ {text : List ℕ} {deep byte kind level : ℕ} {operand rest whole : ℕ → State ℕ → State ℕ} (C : Chain text deep byte kind level operand rest whole)
+module _ {text : List ℕ} {deep byte kind level : ℕ} {operand rest whole : ℕ → State ℕ → State ℕ} (C : Chain coded text deep byte kind level operand rest whole)
     {old : List ℕ} {m : Mark} (g : Ready text old m deep) where
   pub first-needs : {t : ℕ} → 5 * (length text - m .at) + deep + suc level ≡ t → (5 * (length text - m .at) + deep + level < t) × Ready text old m deep
   first-needs e = (omega arith, g)
@@ -46,7 +31,7 @@ module _ {text : List ℕ} {deep byte kind level : ℕ} {operand rest whole : �
   rest-end e = finishing (starting 0 g) (λ n. C .goes-on n (viewOf m old) ∙ rw (view-next text m old, e) refl)
 
 -- past the operator's byte
-module _ {text : List ℕ} {deep byte kind level : ℕ} {operand rest whole : ℕ → State ℕ → State ℕ} (C : Chain text deep byte kind level operand rest whole)
+module _ {text : List ℕ} {deep byte kind level : ℕ} {operand rest whole : ℕ → State ℕ → State ℕ} (C : Chain coded text deep byte kind level operand rest whole)
     {old : List ℕ} {m : Mark} {t : ℕ} {x : Mark} (k : Step text old m deep 1 t byte x) where
   pub operand-needs : (5 * (length text - x .at) + deep + level < t) × Ready text old x deep
   operand-needs = (omega (arith, one-on k, before k, C .below, k .falls), ready-on (k .ready) (past k 0))

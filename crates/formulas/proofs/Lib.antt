@@ -2,6 +2,7 @@
 pub mod Standing
 pub mod Bytes
 pub mod Steps
+pub mod Branches
 pub mod Complete
 pub mod Found
 pub mod FoundLeaves

@@ -12,6 +12,7 @@ use Rattle.formulas.specs.Formula.{coded, capped, timerWord}
 use Rattle.formulas.specs.Marks.{viewOf, nextMark, movedMark, expectMark, lengthMark, putMark, putCode, Ready, Done, LeafRead, SumRead, FactorRead, LatchRead, TimerRead}
 use Rattle.formulas.specs.declared.mark.Mark.{Mark}
 use Rattle.formulas.proofs.Marking.{inside}
+use Rattle.formulas.proofs.Branches.{Latch}
 use Rattle.formulas.proofs.Doing.{view-next, expected, ready-deeper, starting, turned, moving, expecting, passing, calling, put-needs, putting, closing, finishing}
 
 -- a byte with a prefix's kind is not 0
@@ -94,6 +95,9 @@ module _ {text old : List ℕ} {m : Mark} {deep t b : ℕ} {x : Mark} (k : Step 
         ((n : ℕ) → factorAt coded text (suc n) deep (viewOf m old) ≡ F n (G n (viewOf m old))) → FactorRead text deep m old new r
     block-path s e = finishing (calling (l .done) s (omega (arith, l .on, l .done .within))) e
 
+  pub latch-is : {c kind : ℕ} → Latch coded text deep b c kind → (n : ℕ) → factorAt coded text (suc n) deep (viewOf m old) ≡ latchAt coded text n kind deep (expect text c (stepped 1 (viewOf m old)))
+  latch-is l n = l .is n (viewOf m old) (view-next text m old ∙ k .next)
+
   -- what stands after T and O
   letters-next : {o : Mark} → o ≡ expectMark text 79 x → next text (expect text 79 (stepped 1 (viewOf m old))) ≡ nextMark text o
   letters-next {o} w =
@@ -104,14 +108,6 @@ module _ {text old : List ℕ} {m : Mark} {deep t : ℕ} {x : Mark} where
   pub brackets-path : {mid : List ℕ} {y r : Mark} → Step text old m deep 2 t 40 x → SumRead text (deep + 1) x old mid y → r ≡ expectMark text 41 y → FactorRead text deep m old mid r
   unfolding factorAt prefixKind
   brackets-path k p w = finishing (turned refl w (expecting 41 (omega arith) (deeper k (omega arith) p))) (λ n. rw (view-next text m old, k .next) refl)
-
-  pub sr-is : Step text old m deep 2 t 83 x → (n : ℕ) → factorAt coded text (suc n) deep (viewOf m old) ≡ latchAt coded text n 10 deep (expect text 82 (stepped 1 (viewOf m old)))
-  unfolding factorAt prefixKind
-  sr-is k n = rw (view-next text m old, k .next) refl
-
-  pub rs-is : Step text old m deep 2 t 82 x → (n : ℕ) → factorAt coded text (suc n) deep (viewOf m old) ≡ latchAt coded text n 11 deep (expect text 83 (stepped 1 (viewOf m old)))
-  unfolding factorAt prefixKind
-  rs-is k n = rw (view-next text m old, k .next) refl
 
   pub ton-is : {o : Mark} (k : Step text old m deep 2 t 84 x) → o ≡ expectMark text 79 x → nextMark text o ≡ 78 → (n : ℕ) →
       factorAt coded text (suc n) deep (viewOf m old) ≡ timerAt coded text n 6 deep (stepped 1 (expect text 79 (stepped 1 (viewOf m old))))

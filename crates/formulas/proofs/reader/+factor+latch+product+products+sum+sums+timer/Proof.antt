@@ -11,7 +11,7 @@ use Rattle.formulas.proofs.Marking.{capped-most}
 use Rattle.formulas.proofs.Doing.{passed, inner-needs}
 use Rattle.formulas.proofs.ReaderPaths as paths
 use Rattle.formulas.proofs.Chaining as chaining
-use Rattle.formulas.proofs.Chaining.{plus, times}
+use Rattle.formulas.proofs.Branches.{plus, times, sr-latch, rs-latch}
 use borrow.Fn.Kinds.{In}
 use borrow.Fn.PlainCycle.{Measures, is, falls, and}
 use Rattle.formulas.proofs.reader.factor.Reads as factor
@@ -183,7 +183,7 @@ factor-latch-requires t c κs =
 factor-returns-3 : (t : ℕ) → factor-lts.Need-returns-3 (factor-calls t) (factor-at t) factor.Post
 factor-returns-3 t c =
     let k = sr-step t (c .before .before .before) in
-    paths.block-path k (paths.letter k 82 (omega arith) (c .before .before .expect2 .ensures)) (c .latch .ensures) (paths.sr-is k)
+    paths.block-path k (paths.letter k 82 (omega arith) (c .before .before .expect2 .ensures)) (c .latch .ensures) (paths.latch-is k sr-latch)
 
 factor-add-moved-4 : (t : ℕ) → factor-lts.Need-add-moved-4 (factor-calls t) (factor-at t) factor.Post
 factor-add-moved-4 t c = let g = c .before .before .before .before .before .before .before .pre .1 in omega (arith, g .within, g .short)
@@ -199,7 +199,7 @@ factor-latch-requires-2 t c κs =
 factor-returns-4 : (t : ℕ) → factor-lts.Need-returns-4 (factor-calls t) (factor-at t) factor.Post
 factor-returns-4 t c =
     let k = rs-step t (c .before .before .before) in
-    paths.block-path k (paths.letter k 83 (omega arith) (c .before .before .expect3 .ensures)) (c .latch2 .ensures) (paths.rs-is k)
+    paths.block-path k (paths.letter k 83 (omega arith) (c .before .before .expect3 .ensures)) (c .latch2 .ensures) (paths.latch-is k rs-latch)
 
 factor-add-moved-5 : (t : ℕ) → factor-lts.Need-add-moved-5 (factor-calls t) (factor-at t) factor.Post
 factor-add-moved-5 t c = let g = c .before .before .before .before .before .before .before .before .pre .1 in omega (arith, g .within, g .short)
