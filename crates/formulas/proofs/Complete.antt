@@ -7,14 +7,15 @@ use mathlib.Core.List.{List, [], _∷_, _++_, append-assoc}
 use lib.Dec.{leb, ltb, eqb, eqb·suc-zero}
 use lib.ListN.{length, getD, length-append}
 use lib.Seq.{take-append-seam}
-use borrow.Author.Tests.{leb-true, le-leb}
+use borrow.Author.Tests.{leb-true, le-leb, eq-eqb}
 use Rattle.formulas.specs.Tree.{Tree, Unary, Binary, leaf, unary, binary, invert, rise, fall, ton, tof, and, or, sr, rs, name, down, up}
 use Rattle.formulas.specs.Code.{Part, code, longest, one, two, ticksOf}
 use Rattle.formulas.specs.Grammar.{Sum, Product, Factor, isLower, isDigit, isNameByte, allOf, isName, isLength, value}
-use Rattle.formulas.specs.Reader.{State, stepped, put, passLength, valueBetween, prefixKind, leafAt, timed, sumAt, sumsAt, productAt, productsAt, factorAt, latchAt, timerAt}
+use Rattle.formulas.specs.Reader.{State, next, stepped, put, passLength, valueBetween, prefixKind, leafAt, timed, sumAt, sumsAt, productAt, productsAt, factorAt, latchAt, timerAt}
 use Rattle.formulas.specs.Formula.{plainPart, timedPart, nameAt, spelled}
 use Rattle.formulas.proofs.Bytes.{never, and-left, and-right, run-all, lower-not}
 use Rattle.formulas.proofs.Standing.{state-eq, At, next-of, step-at, steps-at, expect-at, after, after-at}
+use Rattle.formulas.proofs.Branches.{Chain, Latch, Timer, plus, times, sr-latch, rs-latch, ton-timer, tof-timer}
 use Rattle.formulas.proofs.Steps.{joined, prefixed, bracketed, latched, clocked, two-letters, three-letters, regroup}
 
 -- a name or a number ends before these bytes
@@ -61,27 +62,29 @@ module _ (text : List ℕ) where
       sumAt (spelled text) text n deep s ≡ after w t d deep s
 
   -- a chain ends where no operator follows
-  products-end : (n deep : ℕ) (s : State Part) (l : List ℕ) → At text s l → eqb (getD l 0 0) 46 ≡ false → 1 ≤ n → productsAt (spelled text) text n deep s ≡ s
-  unfolding productsAt
-  products-end zero deep s l a e h = absurd (omega arith)
-  products-end (suc n) deep s l a e h = rw (next-of a, e) refl
+  module _ {deep byte kind level : ℕ} {operand rest whole : ℕ → State Part → State Part} (C : Chain (spelled text) text deep byte kind level operand rest whole) where
+    rest-end : (n : ℕ) (s : State Part) (l : List ℕ) → At text s l → eqb (getD l 0 0) byte ≡ false → 1 ≤ n → rest n s ≡ s
+    rest-end zero s l a e h = absurd (omega arith)
+    rest-end (suc n) s l a e h = C .goes-on n s ∙ rw (next-of a, e) refl
 
-  sums-end : (n deep : ℕ) (s : State Part) (l : List ℕ) → At text s l → eqb (getD l 0 0) 43 ≡ false → 1 ≤ n → sumsAt (spelled text) text n deep s ≡ s
-  unfolding sumsAt
-  sums-end zero deep s l a e h = absurd (omega arith)
-  sums-end (suc n) deep s l a e h = rw (next-of a, e) refl
+    -- and goes on where one more operand follows
+    one-more : (o : Binary) → plainPart kind ≡ two o → (w v : List ℕ) (t u : Tree) (d e n : ℕ) (s : State Part) (l : List ℕ) → At text s (w ++ (byte ∷ (v ++ l))) →
+        operand n (stepped 1 (after w t d deep s)) ≡ after v u e deep (stepped 1 (after w t d deep s)) →
+        rest (suc n) (after w t d deep s) ≡ rest n (after (w ++ (byte ∷ v)) (binary o t u) (max d e) deep s)
+    one-more o p w v t u d e n s l a q =
+        C .goes-on n (after w t d deep s) ∙ rw (eq-eqb _ _ (next-of (after-at w t d deep a)), q, joined o w v t u d e byte kind deep s p) refl
 
   pub whole : (w : List ℕ) (t : Tree) (d : ℕ) → ReadsSum w t d → ReadsWhole w t d
   whole w t d r n deep s l a e h =
       let q = r n deep s l a (e .name) (e .dot) h in
-      q .2 ∙ sums-end (q .0) deep (after w t d deep s) l (after-at w t d deep a) (e .plus) (omega (arith, q .1))
+      q .2 ∙ rest-end plus (q .0) (after w t d deep s) l (after-at w t d deep a) (e .plus) (omega (arith, q .1))
 
   pub sum-of-product : (w : List ℕ) (t : Tree) (d : ℕ) → ReadsProduct w t d → ReadsSum w t d
   unfolding sumAt
   sum-of-product w t d r zero deep s l a e e2 h = absurd (omega arith)
   sum-of-product w t d r (suc n) deep s l a e e2 h =
       let q = r n deep s l a e (omega arith) in
-      (n, omega (arith, length-append w l), rw (q .2, products-end (q .0) deep (after w t d deep s) l (after-at w t d deep a) e2 (omega (arith, q .1))) refl)
+      (n, omega (arith, length-append w l), ap (sumsAt (spelled text) text n deep) (q .2 ∙ rest-end times (q .0) (after w t d deep s) l (after-at w t d deep a) e2 (omega (arith, q .1))))
 
   pub product-of-factor : (w : List ℕ) (t : Tree) (d : ℕ) → ReadsFactor w t d → ReadsProduct w t d
   unfolding productAt
@@ -93,14 +96,13 @@ module _ (text : List ℕ) where
       (k deep : ℕ) (s : State Part) (l : List ℕ) → At text s (w ++ (43 ∷ (v ++ l))) → NameEnds l → eqb (getD l 0 0) 46 ≡ false →
       5 * length (43 ∷ (v ++ l)) + 1 ≤ k →
       (j : ℕ) × (5 * length l + 1 ≤ j) × (sumsAt (spelled text) text k deep (after w t d deep s) ≡ sumsAt (spelled text) text j deep (after (w ++ (43 ∷ v)) (binary or t u) (max d e) deep s))
-  unfolding sumsAt
   plus-step w v t u d e r zero deep s l a f g h = absurd (omega arith)
   plus-step w v t u d e r (suc k) deep s l a f g h =
       let b = after-at w t d deep a in
       let q = r k deep (stepped 1 (after w t d deep s)) l (step-at b) f (omega arith) in (
         k,
         omega (arith, length-append v l),
-        rw (next-of b, q .2, products-end (q .0) deep (after v u e deep (stepped 1 (after w t d deep s))) l (after-at v u e deep (step-at b)) g (omega (arith, q .1)), joined or w v t u d e 43 9 deep s refl) refl,
+        one-more plus or refl w v t u d e k s l a (q .2 ∙ rest-end times (q .0) (after v u e deep (stepped 1 (after w t d deep s))) l (after-at v u e deep (step-at b)) g (omega (arith, q .1))),
       )
 
   pub plus-reads : (w v : List ℕ) (t u : Tree) (d e : ℕ) → ReadsSum w t d → ReadsProduct v u e → ReadsSum (w ++ (43 ∷ v)) (binary or t u) (max d e)
@@ -115,14 +117,10 @@ module _ (text : List ℕ) where
       (k deep : ℕ) (s : State Part) (l : List ℕ) → At text s (w ++ (46 ∷ (v ++ l))) → NameEnds l →
       5 * length (46 ∷ (v ++ l)) + 1 ≤ k →
       (j : ℕ) × (5 * length l + 1 ≤ j) × (productsAt (spelled text) text k deep (after w t d deep s) ≡ productsAt (spelled text) text j deep (after (w ++ (46 ∷ v)) (binary and t u) (max d e) deep s))
-  unfolding productsAt
   dot-step w v t u d e r zero deep s l a f h = absurd (omega arith)
   dot-step w v t u d e r (suc k) deep s l a f h =
-      let b = after-at w t d deep a in (
-        k,
-        omega (arith, length-append v l),
-        rw (next-of b, r k deep (stepped 1 (after w t d deep s)) l (step-at b) f (omega arith), joined and w v t u d e 46 8 deep s refl) refl,
-      )
+      let q = r k deep (stepped 1 (after w t d deep s)) l (step-at (after-at w t d deep a)) f (omega arith) in
+      (k, omega (arith, length-append v l), one-more times and refl w v t u d e k s l a q)
 
   pub dot-reads : (w v : List ℕ) (t u : Tree) (d e : ℕ) → ReadsProduct w t d → ReadsFactor v u e → ReadsProduct (w ++ (46 ∷ v)) (binary and t u) (max d e)
   unfolding isNameByte isLower isDigit
@@ -241,51 +239,32 @@ module _ (text : List ℕ) where
       )
       (clocked kind (value w) o p tk w v t d deep s)
 
-  pub sr-reads : (w v : List ℕ) (t u : Tree) (d e : ℕ) → ReadsWhole w t d → ReadsWhole v u e → ReadsFactor (83 ∷ 82 ∷ 40 ∷ (w ++ (44 ∷ (v ++ (41 ∷ []))))) (binary sr t u) (max d e + 1)
-  unfolding factorAt prefixKind
-  sr-reads w v t u d e r q zero deep s l a f h = absurd (omega arith)
-  sr-reads w v t u d e r q (suc n) deep s l a f h =
+  pub latch-letters : (a b kind : ℕ) (o : Binary) → plainPart kind ≡ two o → ((deep : ℕ) → Latch (spelled text) text deep a b kind) → (w v : List ℕ) (t u : Tree) (d e : ℕ) →
+      ReadsWhole w t d → ReadsWhole v u e → ReadsFactor (a ∷ b ∷ 40 ∷ (w ++ (44 ∷ (v ++ (41 ∷ []))))) (binary o t u) (max d e + 1)
+  latch-letters a b kind o p c w v t u d e r q zero deep s l y f h = absurd (omega arith)
+  latch-letters a b kind o p c w v t u d e r q (suc n) deep s l y f h =
       let g = regroup w v l in
       let h2 = ap length g in
-      let a2 : At text s (83 ∷ 82 ∷ 40 ∷ (w ++ (44 ∷ (v ++ (41 ∷ l))))) = rw g at a in
-      rw (next-of a, expect-at (step-at a2), latch-reads 10 sr refl w v t u d e r q n deep (stepped 1 (stepped 1 s)) l (step-at (step-at a2)) (omega arith))
-      (two-letters 83 82 (40 ∷ (w ++ (44 ∷ (v ++ (41 ∷ []))))) (binary sr t u) (max d e + 1) deep s)
+      let y2 : At text s (a ∷ b ∷ 40 ∷ (w ++ (44 ∷ (v ++ (41 ∷ l))))) = rw g at y in
+      c deep .is n s (next-of y)
+      ∙ rw (expect-at (step-at y2), latch-reads kind o p w v t u d e r q n deep (stepped 1 (stepped 1 s)) l (step-at (step-at y2)) (omega arith))
+      (two-letters a b (40 ∷ (w ++ (44 ∷ (v ++ (41 ∷ []))))) (binary o t u) (max d e + 1) deep s)
 
-  pub rs-reads : (w v : List ℕ) (t u : Tree) (d e : ℕ) → ReadsWhole w t d → ReadsWhole v u e → ReadsFactor (82 ∷ 83 ∷ 40 ∷ (w ++ (44 ∷ (v ++ (41 ∷ []))))) (binary rs t u) (max d e + 1)
-  unfolding factorAt prefixKind
-  rs-reads w v t u d e r q zero deep s l a f h = absurd (omega arith)
-  rs-reads w v t u d e r q (suc n) deep s l a f h =
+  pub timer-letters : (b kind : ℕ) (o : ℕ → Unary) → ((k : ℕ) → timedPart kind k ≡ one (o k)) → ((k : ℕ) → ticksOf (o k) ≡ k) → ((deep : ℕ) → Timer (spelled text) text deep b kind) →
+      (w v : List ℕ) (t : Tree) (d : ℕ) → isLength w ≡ true → ReadsWhole v t d → ReadsFactor (84 ∷ 79 ∷ b ∷ 40 ∷ (w ++ (44 ∷ (v ++ (41 ∷ []))))) (unary (o (value w)) t) (d + 1)
+  timer-letters b kind o p tk c w v t d e q zero deep s l y f h = absurd (omega arith)
+  timer-letters b kind o p tk c w v t d e q (suc n) deep s l y f h =
       let g = regroup w v l in
       let h2 = ap length g in
-      let a2 : At text s (82 ∷ 83 ∷ 40 ∷ (w ++ (44 ∷ (v ++ (41 ∷ l))))) = rw g at a in
-      rw (next-of a, expect-at (step-at a2), latch-reads 11 rs refl w v t u d e r q n deep (stepped 1 (stepped 1 s)) l (step-at (step-at a2)) (omega arith))
-      (two-letters 82 83 (40 ∷ (w ++ (44 ∷ (v ++ (41 ∷ []))))) (binary rs t u) (max d e + 1) deep s)
-
-  pub ton-reads : (w v : List ℕ) (t : Tree) (d : ℕ) → isLength w ≡ true → ReadsWhole v t d → ReadsFactor (84 ∷ 79 ∷ 78 ∷ 40 ∷ (w ++ (44 ∷ (v ++ (41 ∷ []))))) (unary (ton (value w)) t) (d + 1)
-  unfolding factorAt prefixKind timedPart
-  ton-reads w v t d e q zero deep s l a f h = absurd (omega arith)
-  ton-reads w v t d e q (suc n) deep s l a f h =
-      let g = regroup w v l in
-      let h2 = ap length g in
-      let a2 : At text s (84 ∷ 79 ∷ 78 ∷ 40 ∷ (w ++ (44 ∷ (v ++ (41 ∷ l))))) = rw g at a in
-      let a3 = step-at (step-at a2) in
-      rw (next-of a, expect-at (step-at a2), next-of a3, timer-reads 6 w v (ton (value w)) refl refl t d e q n deep (stepped 1 (stepped 1 (stepped 1 s))) l (step-at a3) (omega arith))
-      (three-letters 84 79 78 (40 ∷ (w ++ (44 ∷ (v ++ (41 ∷ []))))) (unary (ton (value w)) t) (d + 1) deep s)
-
-  pub tof-reads : (w v : List ℕ) (t : Tree) (d : ℕ) → isLength w ≡ true → ReadsWhole v t d → ReadsFactor (84 ∷ 79 ∷ 70 ∷ 40 ∷ (w ++ (44 ∷ (v ++ (41 ∷ []))))) (unary (tof (value w)) t) (d + 1)
-  unfolding factorAt prefixKind timedPart
-  tof-reads w v t d e q zero deep s l a f h = absurd (omega arith)
-  tof-reads w v t d e q (suc n) deep s l a f h =
-      let g = regroup w v l in
-      let h2 = ap length g in
-      let a2 : At text s (84 ∷ 79 ∷ 70 ∷ 40 ∷ (w ++ (44 ∷ (v ++ (41 ∷ l))))) = rw g at a in
-      let a3 = step-at (step-at a2) in
-      rw (next-of a, expect-at (step-at a2), next-of a3, expect-at a3, timer-reads 7 w v (tof (value w)) refl refl t d e q n deep (stepped 1 (stepped 1 (stepped 1 s))) l (step-at a3) (omega arith))
-      (three-letters 84 79 70 (40 ∷ (w ++ (44 ∷ (v ++ (41 ∷ []))))) (unary (tof (value w)) t) (d + 1) deep s)
+      let y2 : At text s (84 ∷ 79 ∷ b ∷ 40 ∷ (w ++ (44 ∷ (v ++ (41 ∷ l))))) = rw g at y in
+      let y3 = step-at (step-at y2) in
+      c deep .is n s (next-of y) (ap (next text) (expect-at (step-at y2)) ∙ next-of y3)
+      ∙ rw (expect-at (step-at y2), timer-reads kind w v (o (value w)) (p (value w)) (tk (value w)) t d e q n deep (stepped 1 (stepped 1 (stepped 1 s))) l (step-at y3) (omega arith))
+      (three-letters 84 79 b (40 ∷ (w ++ (44 ∷ (v ++ (41 ∷ []))))) (unary (o (value w)) t) (d + 1) deep s)
 
   -- by the rules of the grammar
   pub sum-reads : {w : List ℕ} {t : Tree} {d : ℕ} → Sum w t d → ReadsSum w t d
-  unfolding prefixKind
+  unfolding prefixKind timedPart
   sum-reads {w} {t} {d} x =
       elim x as (λ w t d x. ReadsSum w t d) (λ w t d x. ReadsProduct w t d) (λ w t d x. ReadsFactor w t d) [
         | Sum.product {w} {t} {d} (p → h) ↦ sum-of-product w t d h
@@ -299,8 +278,8 @@ module _ (text : List ℕ) where
         | Factor.zero ↦ zero-reads
         | Factor.one ↦ one-reads
         | Factor.named {w} e ↦ named-reads w e
-        | Factor.sr {w} {v} {t} {u} {d} {e} (p → h) (q → k) ↦ sr-reads w v t u d e (whole w t d h) (whole v u e k)
-        | Factor.rs {w} {v} {t} {u} {d} {e} (p → h) (q → k) ↦ rs-reads w v t u d e (whole w t d h) (whole v u e k)
-        | Factor.ton w {v} {t} {d} e (p → h) ↦ ton-reads w v t d e (whole v t d h)
-        | Factor.tof w {v} {t} {d} e (p → h) ↦ tof-reads w v t d e (whole v t d h)
+        | Factor.sr {w} {v} {t} {u} {d} {e} (p → h) (q → k) ↦ latch-letters 83 82 10 sr refl (λ deep. sr-latch) w v t u d e (whole w t d h) (whole v u e k)
+        | Factor.rs {w} {v} {t} {u} {d} {e} (p → h) (q → k) ↦ latch-letters 82 83 11 rs refl (λ deep. rs-latch) w v t u d e (whole w t d h) (whole v u e k)
+        | Factor.ton w {v} {t} {d} e (p → h) ↦ timer-letters 78 6 ton (λ k. refl) (λ k. refl) (λ deep. ton-timer) w v t d e (whole v t d h)
+        | Factor.tof w {v} {t} {d} e (p → h) ↦ timer-letters 70 7 tof (λ k. refl) (λ k. refl) (λ deep. tof-timer) w v t d e (whole v t d h)
       ]

@@ -169,6 +169,23 @@ module _ {text old : List ℕ} {m : Mark} {G : ℕ → State ℕ → State ℕ} 
       go true z = let p = put-is x deep k in omega (arith, p .at, p .most, h z)
       go false z = let p = put-is x deep k in omega (arith, p .at, p .bad z, d .few)
 
+  pub put-needs : {deep : ℕ} → Ready text old m deep → Done G level text m old mid x → (x .ok ≡ true → x .parts + m .at + 1 ≤ m .parts + x .at) →
+      (length mid ≡ 1024) × (x .ok ≡ true → x .parts < 1024)
+  put-needs g d h = (d .room, roomy g d h)
+
+  -- a sum inside a block may be read
+  pub inner-needs : (deep : ℕ) {t : ℕ} → Ready text old m (deep + 1) → Done G level text m old mid x → 5 * (length text - m .at) + deep + 6 ≡ t →
+      (5 * (length text - x .at) + (deep + 1) + 4 < t) × Ready text mid x (deep + 1)
+  inner-needs deep g d h = (omega (arith, d .on, d .within), ready-on g d)
+
+  -- what stands before a bracket that was closed leaves the bracket's byte to a part
+  pub closing : {r : Mark} → Done G level text m old mid x → r ≡ expectMark text 41 x → r .ok ≡ true → r .parts + m .at + 1 ≤ m .parts + r .at
+  closing {r} d q h =
+      let e = expected text 41 (omega arith) x in
+      let a : r .at ≡ (expectMark text 41 x) .at = ap (λ (j : Mark). j .at) q in
+      let b : r .parts ≡ (expectMark text 41 x) .parts = ap (λ (j : Mark). j .parts) q in
+      omega (arith, e .eaten (ap (λ (j : Mark). j .ok) (sym q) ∙ h), e .parts, d .few)
+
   pub finishing : {F : ℕ → State ℕ → State ℕ} → Done G level text m old mid x → ((n : ℕ) → F (suc n) (viewOf m old) ≡ G n (viewOf m old)) → Done F (suc level) text m old mid x
   finishing {F} d e = record { same = with-fuel; room = d .room; within = d .within; on = d .on; few = d .few }
     where

@@ -8,14 +8,15 @@ use mathlib.Core.List.{List, [], _∷_, _++_}
 use lib.Dec.{eqb}
 use lib.ListN.{length, getD, drop, List·getD-eq-default}
 use lib.Seq.{drop-cons}
-use borrow.Author.Tests.{eqb-true}
+use borrow.Author.Tests.{eqb-true, ne-eqb}
 use Rattle.formulas.specs.Tree.{Tree, Unary, Binary, unary, binary}
 use Rattle.formulas.specs.Code.{Part, longest, operand, one, ticksOf}
 use Rattle.formulas.specs.Grammar.{Sum, isLength, value}
-use Rattle.formulas.specs.Reader.{State, next, bad, expect, put, sumsAt, productsAt}
+use Rattle.formulas.specs.Reader.{State, next, bad, expect, put}
 use Rattle.formulas.specs.Formula.{timedPart, spelled}
 use Rattle.formulas.proofs.Bytes.{never, by-cond}
 use Rattle.formulas.proofs.Standing.{At, after}
+use Rattle.formulas.proofs.Branches.{Chain}
 
 pub same-left : {text : List ℕ} {s : State Part} {l m : List ℕ} → At text s l → At text s m → l ≡ m
 same-left a b = sym (a .left) ∙ b .left
@@ -73,23 +74,18 @@ module _ (text : List ℕ) where
   unfolding next
   bad-next s z = rw z refl
 
-  pub sums-ok : (n deep : ℕ) (s : State Part) → (sumsAt (spelled text) text n deep s) .ok ≡ true → s .ok ≡ true
-  unfolding sumsAt bad
-  sums-ok zero deep s h = never h
-  sums-ok (suc n) deep s h = go (s .ok) refl
+  -- what follows an operand does not mend it
+  pub rest-ok : {deep byte kind level : ℕ} {operand rest whole : ℕ → State Part → State Part} → Chain (spelled text) text deep byte kind level operand rest whole →
+      (n : ℕ) (s : State Part) → (rest n s) .ok ≡ true → s .ok ≡ true
+  unfolding bad
+  rest-ok C zero s h = never (ap (λ (r : State Part). r .ok) (sym (C .stops s)) ∙ h)
+  rest-ok {byte = byte} C (suc n) s h = go (s .ok) refl
     where
       go : (z : Bool) → s .ok ≡ z → s .ok ≡ true
       go true z = z
-      go false z = rw (bad-next s z) at h
-
-  pub products-ok : (n deep : ℕ) (s : State Part) → (productsAt (spelled text) text n deep s) .ok ≡ true → s .ok ≡ true
-  unfolding productsAt bad
-  products-ok zero deep s h = never h
-  products-ok (suc n) deep s h = go (s .ok) refl
-    where
-      go : (z : Bool) → s .ok ≡ z → s .ok ≡ true
-      go true z = z
-      go false z = rw (bad-next s z) at h
+      go false z =
+          let e : eqb (next text s) byte ≡ false = ne-eqb (next text s) byte (λ q. let b = bad-next s z in omega (arith, C .some)) in
+          rw (C .goes-on n s, e) at h
 
   pub record LatchFound (o : Binary) (deep : ℕ) (s r : State Part) : Type 0 where
     pub first : List ℕ

@@ -2,6 +2,7 @@
 pub mod Standing
 pub mod Bytes
 pub mod Steps
+pub mod Branches
 pub mod Complete
 pub mod Found
 pub mod FoundLeaves
@@ -17,5 +18,6 @@ pub mod Marking
 pub mod Doing
 pub mod LeafPaths
 pub mod ReaderPaths
+pub mod Chaining
 pub mod Storing
 pub mod WholeRead

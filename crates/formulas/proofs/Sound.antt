@@ -14,7 +14,8 @@ use Rattle.formulas.specs.Formula.{plainPart, timedPart, spelled}
 use Rattle.formulas.proofs.Bytes.{never, by-cond}
 use Rattle.formulas.proofs.Standing.{At, step-at, expect-at, after, after-at}
 use Rattle.formulas.proofs.Steps.{joined, prefixed, bracketed, two-letters, three-letters}
-use Rattle.formulas.proofs.Found.{next-inv, same-left, moved, expect-inv, put-ok, Finds, sums-ok, products-ok, Block, LatchFound, TimerFound}
+use Rattle.formulas.proofs.Branches.{Chain, plus, times}
+use Rattle.formulas.proofs.Found.{next-inv, same-left, moved, expect-inv, put-ok, Finds, rest-ok, Block, LatchFound, TimerFound}
 use Rattle.formulas.proofs.FoundLeaves.{length-inv, leaf-step}
 use Rattle.formulas.proofs.FoundBlocks.{latch-found, timer-found}
 
@@ -42,18 +43,6 @@ module _ (text : List ℕ) where
         timer = λ kind deep s h. never h;
       }
 
-  sum-step : (n : ℕ) → Sound n → (deep : ℕ) (s : State Part) → Finds text Sum deep s (sumAt (spelled text) text (suc n) deep s)
-  unfolding sumAt
-  sum-step n ih deep s h =
-      let p = ih .product deep s (sums-ok text n deep (productAt (spelled text) text n deep s) h) in
-      rw (p .gives) (ih .sums deep s (p .bytes) (p .tree) (p .depth) (p .rest) (Sum.product (p .derived)) (p .here) (rw (p .gives) at h))
-
-  product-step : (n : ℕ) → Sound n → (deep : ℕ) (s : State Part) → Finds text Product deep s (productAt (spelled text) text (suc n) deep s)
-  unfolding productAt
-  product-step n ih deep s h =
-      let p = ih .factor deep s (products-ok text n deep (factorAt (spelled text) text n deep s) h) in
-      rw (p .gives) (ih .products deep s (p .bytes) (p .tree) (p .depth) (p .rest) (Product.factor (p .derived)) (p .here) (rw (p .gives) at h))
-
   -- one more operand of a chain stands after the operator b
   longer : (w v : List ℕ) (b : ℕ) (t : Tree) (d deep : ℕ) (s : State Part) (l m : List ℕ) → At text s (w ++ l) → next text (after w t d deep s) ≡ b → 0 < b →
       At text (stepped 1 (after w t d deep s)) (v ++ m) → At text s ((w ++ (b ∷ v)) ++ m)
@@ -63,31 +52,30 @@ module _ (text : List ℕ) where
       let z : l ≡ b ∷ (v ++ m) = same-left x (y .1) ∙ ap (λ (k : List ℕ). b ∷ k) (same-left (step-at (y .1)) c) in
       rw (append-assoc w (b ∷ v) m, ← z) a
 
-  sums-step : (n : ℕ) → Sound n → (deep : ℕ) (s : State Part) (w : List ℕ) (t : Tree) (d : ℕ) (l : List ℕ) → Sum w t d → At text s (w ++ l) →
-      Finds text Sum deep s (sumsAt (spelled text) text (suc n) deep (after w t d deep s))
-  unfolding sumsAt
-  sums-step n ih deep s w t d l x a =
-      by-cond (Finds text Sum deep s) (eqb (next text (after w t d deep s)) 43)
-      (λ e h.
-      let p = ih .product deep (stepped 1 (after w t d deep s)) (put-ok (plainPart 9) deep 0 (productAt (spelled text) text n deep (stepped 1 (after w t d deep s))) (sums-ok text n deep (put (plainPart 9) deep 0 (productAt (spelled text) text n deep (stepped 1 (after w t d deep s)))) h)) in
-      let j = joined or w (p .bytes) t (p .tree) d (p .depth) 43 9 deep s refl in
-      rw (p .gives, j)
-      (ih .sums deep s (w ++ (43 ∷ p .bytes)) (binary or t (p .tree)) (max d (p .depth)) (p .rest) (Sum.plus x (p .derived))
-      (longer w (p .bytes) 43 t d deep s l (p .rest) a (eqb-true (next text (after w t d deep s)) 43 e) (omega arith) (p .here)) (rw (p .gives, j) at h)))
-      (λ e h. record { bytes = w; tree = t; depth = d; rest = l; here = a; derived = x; gives = refl })
+  -- a chain W of operands O
+  module _ {deep byte kind level : ℕ} {operand rest whole : ℕ → State Part → State Part} (C : Chain (spelled text) text deep byte kind level operand rest whole)
+      (O W : List ℕ → Tree → ℕ → Type 0) (n : ℕ) (reads : (s : State Part) → Finds text O deep s (operand n s))
+      (goes-on : (s : State Part) (w : List ℕ) (t : Tree) (d : ℕ) (l : List ℕ) → W w t d → At text s (w ++ l) → Finds text W deep s (rest n (after w t d deep s))) where
+    whole-step : ((w : List ℕ) (t : Tree) (d : ℕ) → O w t d → W w t d) → (s : State Part) → Finds text W deep s (whole (suc n) s)
+    whole-step up s =
+        subst (Finds text W deep s) (sym (C .begins n s))
+        (λ h.
+        let p = reads s (rest-ok text C n (operand n s) h) in
+        rw (p .gives) (goes-on s (p .bytes) (p .tree) (p .depth) (p .rest) (up (p .bytes) (p .tree) (p .depth) (p .derived)) (p .here) (rw (p .gives) at h)))
 
-  products-step : (n : ℕ) → Sound n → (deep : ℕ) (s : State Part) (w : List ℕ) (t : Tree) (d : ℕ) (l : List ℕ) → Product w t d → At text s (w ++ l) →
-      Finds text Product deep s (productsAt (spelled text) text (suc n) deep (after w t d deep s))
-  unfolding productsAt
-  products-step n ih deep s w t d l x a =
-      by-cond (Finds text Product deep s) (eqb (next text (after w t d deep s)) 46)
-      (λ e h.
-      let p = ih .factor deep (stepped 1 (after w t d deep s)) (put-ok (plainPart 8) deep 0 (factorAt (spelled text) text n deep (stepped 1 (after w t d deep s))) (products-ok text n deep (put (plainPart 8) deep 0 (factorAt (spelled text) text n deep (stepped 1 (after w t d deep s)))) h)) in
-      let j = joined and w (p .bytes) t (p .tree) d (p .depth) 46 8 deep s refl in
-      rw (p .gives, j)
-      (ih .products deep s (w ++ (46 ∷ p .bytes)) (binary and t (p .tree)) (max d (p .depth)) (p .rest) (Product.dot x (p .derived))
-      (longer w (p .bytes) 46 t d deep s l (p .rest) a (eqb-true (next text (after w t d deep s)) 46 e) (omega arith) (p .here)) (rw (p .gives, j) at h)))
-      (λ e h. record { bytes = w; tree = t; depth = d; rest = l; here = a; derived = x; gives = refl })
+    rest-step : (o : Binary) → plainPart kind ≡ two o → ((w v : List ℕ) (t u : Tree) (d e : ℕ) → W w t d → O v u e → W (w ++ (byte ∷ v)) (binary o t u) (max d e)) →
+        (s : State Part) (w : List ℕ) (t : Tree) (d : ℕ) (l : List ℕ) → W w t d → At text s (w ++ l) → Finds text W deep s (rest (suc n) (after w t d deep s))
+    rest-step o q more s w t d l x a =
+        subst (Finds text W deep s) (sym (C .goes-on n (after w t d deep s)))
+        (by-cond (Finds text W deep s) (eqb (next text (after w t d deep s)) byte)
+        (λ e h.
+        let i = stepped 1 (after w t d deep s) in
+        let p = reads i (put-ok (plainPart kind) deep 0 (operand n i) (rest-ok text C n (put (plainPart kind) deep 0 (operand n i)) h)) in
+        let j = joined o w (p .bytes) t (p .tree) d (p .depth) byte kind deep s q in
+        rw (p .gives, j)
+        (goes-on s (w ++ (byte ∷ p .bytes)) (binary o t (p .tree)) (max d (p .depth)) (p .rest) (more w (p .bytes) t (p .tree) d (p .depth) x (p .derived))
+        (longer w (p .bytes) byte t d deep s l (p .rest) a (eqb-true (next text (after w t d deep s)) byte e) (C .some) (p .here)) (rw (p .gives, j) at h)))
+        (λ e h. record { bytes = w; tree = t; depth = d; rest = l; here = a; derived = x; gives = refl }))
 
   latch-step : (n : ℕ) → Sound n → (kind : ℕ) (o : Binary) → plainPart kind ≡ two o → (deep : ℕ) (s : State Part) → (latchAt (spelled text) text (suc n) kind deep s) .ok ≡ true →
       LatchFound text o deep s (latchAt (spelled text) text (suc n) kind deep s)
@@ -257,10 +245,10 @@ module _ (text : List ℕ) where
   sound zero = none
   sound (suc n) =
       record {
-        sum = sum-step n (sound n);
-        sums = sums-step n (sound n);
-        product = product-step n (sound n);
-        products = products-step n (sound n);
+        sum = λ deep. whole-step plus Product Sum n (sound n .product deep) (sound n .sums deep) (λ w t d. Sum.product);
+        sums = λ deep. rest-step plus Product Sum n (sound n .product deep) (sound n .sums deep) or refl (λ w v t u d e. Sum.plus);
+        product = λ deep. whole-step times Factor Product n (sound n .factor deep) (sound n .products deep) (λ w t d. Product.factor);
+        products = λ deep. rest-step times Factor Product n (sound n .factor deep) (sound n .products deep) and refl (λ w v t u d e. Product.dot);
         factor = factor-step n (sound n);
         latch = latch-step n (sound n);
         timer = timer-step n (sound n);

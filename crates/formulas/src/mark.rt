@@ -21,13 +21,13 @@ pub struct Mark {
     pub longest: usize,
 }
 
-pub fn larger(a: usize, b: usize) -> usize
+pub(crate) fn larger(a: usize, b: usize) -> usize
     ensures { λ r. ⌜ r ≡ max a b ⌝ }
 {
     if a < b { b } else { a }
 }
 
-pub fn is_lower(b: u8) -> bool
+pub(crate) fn is_lower(b: u8) -> bool
     ensures { λ r. ⌜ r ≡ isLower b ⌝ }
 {
     if b < b'a' {
@@ -36,7 +36,7 @@ pub fn is_lower(b: u8) -> bool
     b <= b'z'
 }
 
-pub fn is_digit(b: u8) -> bool
+pub(crate) fn is_digit(b: u8) -> bool
     ensures { λ r. ⌜ r ≡ isDigit b ⌝ }
 {
     if b < b'0' {
@@ -59,7 +59,7 @@ fn belongs(letters: bool, b: u8) -> bool
 }
 
 // The place after the run of such bytes from `at` on.
-pub fn run_end(text: &[u8], at: usize, letters: bool) -> usize
+pub(crate) fn run_end(text: &[u8], at: usize, letters: bool) -> usize
     requires { ⌜ at ≤ length (now text) ⌝ }
     ensures { λ r. ⌜ r ≡ at + run (classOf letters) (drop at (now (text .entry))) ⌝ }
 {
@@ -81,7 +81,7 @@ fn digit(b: u8) -> usize
 }
 
 // The number that the bytes from `from` up to `to` write, M + 1 for every one above M.
-pub fn ticks(text: &[u8], from: usize, to: usize) -> usize
+pub(crate) fn ticks(text: &[u8], from: usize, to: usize) -> usize
     requires { ⌜ (from ≤ to) × (to ≤ length (now text)) ⌝ }
     ensures { λ r. ⌜ r ≡ capped (valueBetween (now (text .entry)) from to) ⌝ }
 {
@@ -96,7 +96,7 @@ pub fn ticks(text: &[u8], from: usize, to: usize) -> usize
 }
 
 // The next byte; 0 at the end and for a bad mark.
-pub fn next(text: &[u8], m: Mark) -> u8
+pub(crate) fn next(text: &[u8], m: Mark) -> u8
     ensures { λ r. ⌜ r ≡ nextMark (now (text .entry)) m ⌝ }
 {
     let at = m.at;
@@ -108,7 +108,7 @@ pub fn next(text: &[u8], m: Mark) -> u8
     0
 }
 
-pub fn bad(m: Mark) -> Mark
+pub(crate) fn bad(m: Mark) -> Mark
     ensures { λ r. ⌜ r ≡ badMark m ⌝ }
 {
     Mark {
@@ -120,7 +120,7 @@ pub fn bad(m: Mark) -> Mark
     }
 }
 
-pub fn moved(m: Mark, to: usize) -> Mark
+pub(crate) fn moved(m: Mark, to: usize) -> Mark
     ensures { λ r. ⌜ r ≡ movedMark m to ⌝ }
 {
     Mark {
@@ -133,7 +133,7 @@ pub fn moved(m: Mark, to: usize) -> Mark
 }
 
 // Passes the byte `b`, which is not 0.
-pub fn expect(text: &[u8], m: Mark, b: u8) -> Mark
+pub(crate) fn expect(text: &[u8], m: Mark, b: u8) -> Mark
     requires { ⌜ 0 < b ⌝ }
     ensures { λ r. ⌜ r ≡ expectMark (now (text .entry)) b m ⌝ }
 {
@@ -145,7 +145,7 @@ pub fn expect(text: &[u8], m: Mark, b: u8) -> Mark
 }
 
 // Passes a length.
-pub fn pass_length(text: &[u8], m: Mark) -> Mark
+pub(crate) fn pass_length(text: &[u8], m: Mark) -> Mark
     requires { ⌜ m .at ≤ length (now text) ⌝ }
     ensures { λ r. ⌜ r ≡ lengthMark (now (text .entry)) m ⌝ }
 {
@@ -161,7 +161,7 @@ pub fn pass_length(text: &[u8], m: Mark) -> Mark
 }
 
 // Puts a part's code word out.
-pub fn put(code: &mut [u64; 1024], m: Mark, word: u64, deep: usize, ticks: usize) -> Mark
+pub(crate) fn put(code: &mut [u64; 1024], m: Mark, word: u64, deep: usize, ticks: usize) -> Mark
     requires { ⌜ (length (now code) ≡ 1024) × (m .ok ≡ true → m .parts < 1024) ⌝ }
     ensures { λ r. ⌜ (r ≡ putMark m deep ticks) × (now (code .exit) ≡ putCode m word (now (code .entry))) ⌝ }
 {
@@ -180,7 +180,7 @@ pub fn put(code: &mut [u64; 1024], m: Mark, word: u64, deep: usize, ticks: usize
 }
 
 // 3 for !, 4 for ^, 5 for ~, 0 for any other byte.
-pub fn prefix_kind(b: u8) -> u64
+pub(crate) fn prefix_kind(b: u8) -> u64
     ensures { λ r. ⌜ r ≡ prefixKind b ⌝ }
 {
     if b == b'!' {

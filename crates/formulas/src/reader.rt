@@ -41,7 +41,7 @@ fn leaf(text: &[u8], code: &mut [u64; 1024], m: Mark, deep: usize) -> Mark
 }
 
 // sum = product {"+" product}
-pub fn sum(text: &[u8], code: &mut [u64; 1024], m: Mark, deep: usize) -> Mark
+pub(crate) fn sum(text: &[u8], code: &mut [u64; 1024], m: Mark, deep: usize) -> Mark
     requires { ⌜ Ready (now text) (now code) m deep ⌝ }
     ensures { λ r. ⌜ SumRead (now (text .entry)) deep m (now (code .entry)) (now (code .exit)) r ⌝ }
 {

@@ -15,32 +15,36 @@ use Rattle.laws.specs.Scheme.{f, g}
 use Rattle.laws.specs.Soundness.{Holds}
 use Rattle.laws.proofs.Letters.{put-for}
 
--- AND and OR of two signals of which one is up wherever the other is
-and-second : (a b : Signal) (t : ℕ) → (Up (b t) → Up (a t)) → AND a b t ≡ b t
-and-second a b t h = bool-ext _ _ (λ e. AND-up a b t e .1) (λ u. AND-of a b t (h u, u))
+-- AND of a and b is x, OR of them is y
+abbrev AndOr : Signal → Signal → Signal → Signal → ℕ → Type 0
+AndOr a b x y t = (AND a b t ≡ x t) × (OR a b t ≡ y t)
 
-and-first : (a b : Signal) (t : ℕ) → (Up (a t) → Up (b t)) → AND a b t ≡ a t
-and-first a b t h = bool-ext _ _ (λ e. AND-up a b t e .0) (λ u. AND-of a b t (u, h u))
+-- two signals of which one is up wherever the other is
+first-less : (a b : Signal) (t : ℕ) → (Up (a t) → Up (b t)) → AndOr a b a b t
+first-less a b t h = (
+  bool-ext _ _ (λ e. AND-up a b t e .0) (λ u. AND-of a b t (u, h u)),
+  bool-ext _ _ (λ e. ⊎-elim h (λ u. u) (OR-up a b t e)) (λ u. OR-of a b t (inr u)),
+)
 
-or-second : (a b : Signal) (t : ℕ) → (Up (a t) → Up (b t)) → OR a b t ≡ b t
-or-second a b t h = bool-ext _ _ (λ e. ⊎-elim h (λ u. u) (OR-up a b t e)) (λ u. OR-of a b t (inr u))
-
-or-first : (a b : Signal) (t : ℕ) → (Up (b t) → Up (a t)) → OR a b t ≡ a t
-or-first a b t h = bool-ext _ _ (λ e. ⊎-elim (λ u. u) h (OR-up a b t e)) (λ u. OR-of a b t (inl u))
+second-less : (a b : Signal) (t : ℕ) → (Up (b t) → Up (a t)) → AndOr a b b a t
+second-less a b t h = (
+  bool-ext _ _ (λ e. AND-up a b t e .1) (λ u. AND-of a b t (h u, u)),
+  bool-ext _ _ (λ e. ⊎-elim (λ u. u) h (OR-up a b t e)) (λ u. OR-of a b t (inl u)),
+)
 
 ton-input : (d : ℕ) (a : Signal) (t : ℕ) → Up (TON d a t) → Up (a t)
 ton-input d a t e = TON-up d a t e .1 t (omega arith, omega arith)
 
 pub ton-and-input : Holds tonAndInput
 ton-and-input env x t =
-    and-first (TON (x .first) (put-for env x f)) (put-for env x f) t (ton-input (x .first) (put-for env x f) t)
+    first-less (TON (x .first) (put-for env x f)) (put-for env x f) t (ton-input (x .first) (put-for env x f) t) .0
 
 input-tof : (d : ℕ) (a : Signal) (t : ℕ) → Up (a t) → Up (TOF d a t)
 input-tof d a t u = TOF-of d a t (t, (omega arith, omega arith), u)
 
 pub input-and-tof : Holds inputAndTof
 input-and-tof env x t =
-    and-first (put-for env x f) (TOF (x .first) (put-for env x f)) t (input-tof (x .first) (put-for env x f) t)
+    first-less (put-for env x f) (TOF (x .first) (put-for env x f)) t (input-tof (x .first) (put-for env x f) t) .0
 
 ton-over-and : (d : ℕ) (a b : Signal) (t : ℕ) → TON d (AND a b) t ≡ AND (TON d a) (TON d b) t
 ton-over-and d a b t =
@@ -146,53 +150,36 @@ ton-longer d e a t l h =
 tof-longer : (d e : ℕ) (a : Signal) (t : ℕ) → d ≤ e → Up (TOF d a t) → Up (TOF e a t)
 tof-longer d e a t l h = let (n, i, u) = TOF-up d a t h in TOF-of e a t (n, (i .0, omega (arith, i .1)), u)
 
-ton-larger : (d e : ℕ) (a : Signal) (t : ℕ) → AND (TON d a) (TON e a) t ≡ TON (cond (leb d e) e d) a t
-ton-larger d e a t = go (leb d e) refl
+-- two lengths of a timer T, where AND is T of x if d is the smaller length, else of y, and OR the reverse
+of-lengths : (T : ℕ → Signal) (d e x y t : ℕ) → (d ≤ e → AndOr (T d) (T e) (T x) (T y) t) → (e ≤ d → AndOr (T d) (T e) (T y) (T x) t) →
+    AndOr (T d) (T e) (T (cond (leb d e) x y)) (T (cond (leb d e) y x)) t
+of-lengths T d e x y t h k = go (leb d e) refl
   where
-    go : (q : Bool) → leb d e ≡ q → AND (TON d a) (TON e a) t ≡ TON (cond q e d) a t
-    go true h = and-second (TON d a) (TON e a) t (ton-longer d e a t (leb-true d e h))
-    go false h =
-        let l : e < d = leb-false d e h in
-        and-first (TON d a) (TON e a) t (ton-longer e d a t (omega arith))
+    go : (q : Bool) → leb d e ≡ q → AndOr (T d) (T e) (T (cond q x y)) (T (cond q y x)) t
+    go true r = h (leb-true d e r)
+    go false r = let l : e < d = leb-false d e r in k (omega arith)
+
+ton-lengths : (d e : ℕ) (a : Signal) (t : ℕ) → AndOr (TON d a) (TON e a) (TON (cond (leb d e) e d) a) (TON (cond (leb d e) d e) a) t
+ton-lengths d e a t =
+    of-lengths (λ k. TON k a) d e e d t (λ l. second-less (TON d a) (TON e a) t (ton-longer d e a t l))
+    (λ l. first-less (TON d a) (TON e a) t (ton-longer e d a t l))
+
+tof-lengths : (d e : ℕ) (a : Signal) (t : ℕ) → AndOr (TOF d a) (TOF e a) (TOF (cond (leb d e) d e) a) (TOF (cond (leb d e) e d) a) t
+tof-lengths d e a t =
+    of-lengths (λ k. TOF k a) d e d e t (λ l. first-less (TOF d a) (TOF e a) t (tof-longer d e a t l))
+    (λ l. second-less (TOF d a) (TOF e a) t (tof-longer e d a t l))
 
 pub ton-and-ton : Holds tonAndTon
-ton-and-ton env x t = ton-larger (x .first) (x .second) (put-for env x f) t
-
-ton-smaller : (d e : ℕ) (a : Signal) (t : ℕ) → OR (TON d a) (TON e a) t ≡ TON (cond (leb d e) d e) a t
-ton-smaller d e a t = go (leb d e) refl
-  where
-    go : (q : Bool) → leb d e ≡ q → OR (TON d a) (TON e a) t ≡ TON (cond q d e) a t
-    go true h = or-first (TON d a) (TON e a) t (ton-longer d e a t (leb-true d e h))
-    go false h =
-        let l : e < d = leb-false d e h in
-        or-second (TON d a) (TON e a) t (ton-longer e d a t (omega arith))
+ton-and-ton env x t = ton-lengths (x .first) (x .second) (put-for env x f) t .0
 
 pub ton-or-ton : Holds tonOrTon
-ton-or-ton env x t = ton-smaller (x .first) (x .second) (put-for env x f) t
-
-tof-smaller : (d e : ℕ) (a : Signal) (t : ℕ) → AND (TOF d a) (TOF e a) t ≡ TOF (cond (leb d e) d e) a t
-tof-smaller d e a t = go (leb d e) refl
-  where
-    go : (q : Bool) → leb d e ≡ q → AND (TOF d a) (TOF e a) t ≡ TOF (cond q d e) a t
-    go true h = and-first (TOF d a) (TOF e a) t (tof-longer d e a t (leb-true d e h))
-    go false h =
-        let l : e < d = leb-false d e h in
-        and-second (TOF d a) (TOF e a) t (tof-longer e d a t (omega arith))
+ton-or-ton env x t = ton-lengths (x .first) (x .second) (put-for env x f) t .1
 
 pub tof-and-tof : Holds tofAndTof
-tof-and-tof env x t = tof-smaller (x .first) (x .second) (put-for env x f) t
-
-tof-larger : (d e : ℕ) (a : Signal) (t : ℕ) → OR (TOF d a) (TOF e a) t ≡ TOF (cond (leb d e) e d) a t
-tof-larger d e a t = go (leb d e) refl
-  where
-    go : (q : Bool) → leb d e ≡ q → OR (TOF d a) (TOF e a) t ≡ TOF (cond q e d) a t
-    go true h = or-second (TOF d a) (TOF e a) t (tof-longer d e a t (leb-true d e h))
-    go false h =
-        let l : e < d = leb-false d e h in
-        or-first (TOF d a) (TOF e a) t (tof-longer e d a t (omega arith))
+tof-and-tof env x t = tof-lengths (x .first) (x .second) (put-for env x f) t .0
 
 pub tof-or-tof : Holds tofOrTof
-tof-or-tof env x t = tof-larger (x .first) (x .second) (put-for env x f) t
+tof-or-tof env x t = tof-lengths (x .first) (x .second) (put-for env x f) t .1
 
 -- TON(d,1) is up from d on
 started-up : (d t : ℕ) → Up (TON d (constant true) t) → Started d t

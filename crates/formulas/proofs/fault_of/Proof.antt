@@ -20,24 +20,14 @@ returns-3 c =
 returns-4 : tie.Need-returns-4
 unfolding markFault
 returns-4 c =
-    simp (
-      c .before .before .before .before .if1 .taken,
-      le-ltb _ _ (c .before .before .before .if2 .left),
-      le-ltb _ _ (c .before .before .if3 .left),
-      le-ltb _ _ (c .before .if4 .left),
-      lt-ltb _ _ (c .if5 .taken),
-    )
+    let b = c .before in
+    simp (b .before .before .before .if1 .taken, le-ltb _ _ (b .before .before .if2 .left), le-ltb _ _ (b .before .if3 .left), le-ltb _ _ (b .if4 .left), lt-ltb _ _ (c .if5 .taken))
 
 returns-5 : tie.Need-returns-5
 unfolding markFault
 returns-5 c =
-    simp (
-      c .before .before .before .before .if1 .taken,
-      le-ltb _ _ (c .before .before .before .if2 .left),
-      le-ltb _ _ (c .before .before .if3 .left),
-      le-ltb _ _ (c .before .if4 .left),
-      le-ltb _ _ (c .if5 .left),
-    )
+    let b = c .before in
+    simp (b .before .before .before .if1 .taken, le-ltb _ _ (b .before .before .if2 .left), le-ltb _ _ (b .before .if3 .left), le-ltb _ _ (b .if4 .left), le-ltb _ _ (c .if5 .left))
 
 returns-6 : tie.Need-returns-6
 unfolding markFault

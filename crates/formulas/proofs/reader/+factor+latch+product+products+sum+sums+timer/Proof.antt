@@ -6,12 +6,12 @@ use borrow.Author.Tests.{ne-eqb}
 use mathlib.Core.Path.{sym, ap, _∙_}
 use lib.ListN.{length}
 use borrow.Author.Needs.{needs}
-use Rattle.formulas.specs.Marks.{nextMark}
-use Rattle.formulas.specs.Reader.{valueBetween}
 use Rattle.formulas.specs.declared.mark.Mark.{Mark}
 use Rattle.formulas.proofs.Marking.{capped-most}
-use Rattle.formulas.proofs.Doing.{expected, put-is, passed, ready-on, ready-deeper, roomy, putting, turned}
+use Rattle.formulas.proofs.Doing.{passed, inner-needs}
 use Rattle.formulas.proofs.ReaderPaths as paths
+use Rattle.formulas.proofs.Chaining as chaining
+use Rattle.formulas.proofs.Branches.{plus, times, sr-latch, rs-latch}
 use borrow.Fn.Kinds.{In}
 use borrow.Fn.PlainCycle.{Measures, is, falls, and}
 use Rattle.formulas.proofs.reader.factor.Reads as factor
@@ -131,302 +131,275 @@ sums-calls t = (next-reads.Asked, next-reads.Learnt, moved-reads.Asked, moved-re
 abbrev timer-calls : ℕ → timer-lts.Claims
 timer-calls t = (expect-reads.Asked, expect-reads.Learnt, pass-length-reads.Asked, pass-length-reads.Learnt, ticks-reads.Asked, ticks-reads.Learnt, sum-below t, sum.Post, put-reads.Asked, put-reads.Learnt)
 
-factor-next-requires : (t : ℕ) → factor-lts.Need-next-requires (factor-calls t) (factor-at t) factor.Post
-factor-next-requires t c κs = search needs
-
-factor-prefix-kind-requires : (t : ℕ) → factor-lts.Need-prefix-kind-requires (factor-calls t) (factor-at t) factor.Post
-factor-prefix-kind-requires t c κs = search needs
-
 factor-add-moved : (t : ℕ) → factor-lts.Need-add-moved (factor-calls t) (factor-at t) factor.Post
-factor-add-moved t c = omega (arith, c .before .before .before .before .before .pre .1 .within, c .before .before .before .before .before .pre .1 .short)
-
-factor-moved-requires : (t : ℕ) → factor-lts.Need-moved-requires (factor-calls t) (factor-at t) factor.Post
-factor-moved-requires t c κs = search needs
+factor-add-moved t c = let g = c .before .before .before .before .before .pre .1 in omega (arith, g .within, g .short)
 
 factor-add-factor : (t : ℕ) → factor-lts.Need-add-factor (factor-calls t) (factor-at t) factor.Post
-factor-add-factor t c = omega (arith, c .before .before .before .before .before .before .pre .1 .opened, c .before .before .before .before .before .before .pre .1 .within, c .before .before .before .before .before .before .pre .1 .short)
+factor-add-factor t c = let g = c .before .before .before .before .before .before .pre .1 in omega (arith, g .opened, g .within, g .short)
+
+-- past the byte b at the front of a factor, at x
+abbrev Factor-step : (t : ℕ) → factor-lts.Start (factor-calls t) (factor-at t) factor.Post → ℕ → Mark → Type 0
+Factor-step t s b x = paths.Step (s .args .text .now) (s .args .code .now) (s .args .m) (s .args .deep) 2 t b x
+
+prefix-step : (t : ℕ) (c : factor-lts.After-moved (factor-calls t) (factor-at t) factor.Post) → Factor-step t (c .before .before .before .before .before .before) (c .before .before .before .before .next .result) (c .moved .result)
+prefix-step t c = paths.step (c .before .before .before .before .before .before .pre) (sym (c .before .before .before .before .next .ensures)) (paths.prefix-above _ _ (c .before .before .before .prefix-kind .ensures) (c .before .before .if1 .taken)) (c .moved .ensures)
 
 factor-factor-requires : (t : ℕ) → factor-lts.Need-factor-requires (factor-calls t) (factor-at t) factor.Post
-factor-factor-requires t c κs = let k = paths.step (c .before .before .before .before .before .before .pre .1) (sym (c .before .before .before .before .next .ensures)) (paths.prefix-above (c .before .before .before .before .next .result) (c .before .before .before .prefix-kind .result) (c .before .before .before .prefix-kind .ensures) (c .before .before .if1 .taken)) (c .moved .ensures) in
-    (omega (arith, k .at, k .before, c .before .before .before .before .before .before .pre .0), paths.ready-step-deeper (c .before .before .before .before .before .before .pre .1) k)
+factor-factor-requires t c κs = paths.deeper-needs (prefix-step t c) (omega arith)
 
 factor-put-requires : (t : ℕ) → factor-lts.Need-put-requires (factor-calls t) (factor-at t) factor.Post
-factor-put-requires t c κs = let k = paths.step (c .before .before .before .before .before .before .before .before .pre .1) (sym (c .before .before .before .before .before .before .next .ensures)) (paths.prefix-above (c .before .before .before .before .before .before .next .result) (c .before .before .before .before .before .prefix-kind .result) (c .before .before .before .before .before .prefix-kind .ensures) (c .before .before .before .before .if1 .taken)) (c .before .before .moved .ensures) in
-    let d = paths.factor-deeper (c .before .before .before .before .before .before .before .before .pre .1) k (c .before .factor .ensures) in
-    (d .room, roomy (c .before .before .before .before .before .before .before .before .pre .1) d (paths.own-byte (c .before .before .before .before .before .before .before .before .pre .1) k (c .before .factor .ensures)))
+factor-put-requires t c κs = paths.prefix-needs (prefix-step t (c .before .before)) (c .before .factor .ensures)
 
 factor-returns : (t : ℕ) → factor-lts.Need-returns (factor-calls t) (factor-at t) factor.Post
-factor-returns t c = let k = paths.step (c .before .before .before .before .before .before .before .before .before .pre .1) (sym (c .before .before .before .before .before .before .before .next .ensures)) (paths.prefix-above (c .before .before .before .before .before .before .before .next .result) (c .before .before .before .before .before .before .prefix-kind .result) (c .before .before .before .before .before .before .prefix-kind .ensures) (c .before .before .before .before .before .if1 .taken)) (c .before .before .before .moved .ensures) in
-    paths.prefix-path (c .before .before .before .before .before .before .before .before .before .pre .1) k (c .before .before .before .before .before .before .before .next .result) (c .before .before .before .before .before .before .prefix-kind .result) (sym (c .before .before .before .before .before .before .before .next .ensures)) (c .before .before .before .before .before .before .prefix-kind .ensures) (c .before .before .before .before .before .if1 .taken) (c .before .before .factor .ensures) (c .put .ensures .1) (c .put .ensures .0)
+factor-returns t c =
+    paths.prefix-path (prefix-step t (c .before .before .before)) _ (c .before .before .before .before .before .before .prefix-kind .ensures) (c .before .before .before .before .before .if1 .taken) (c .before .before .factor .ensures) (c .put .ensures)
 
 factor-add-moved-2 : (t : ℕ) → factor-lts.Need-add-moved-2 (factor-calls t) (factor-at t) factor.Post
-factor-add-moved-2 t c = omega (arith, c .before .before .before .before .before .before .pre .1 .within, c .before .before .before .before .before .before .pre .1 .short)
-
-factor-moved-requires-2 : (t : ℕ) → factor-lts.Need-moved-requires-2 (factor-calls t) (factor-at t) factor.Post
-factor-moved-requires-2 t c κs = search needs
+factor-add-moved-2 t c = let g = c .before .before .before .before .before .before .pre .1 in omega (arith, g .within, g .short)
 
 factor-add-sum : (t : ℕ) → factor-lts.Need-add-sum (factor-calls t) (factor-at t) factor.Post
-factor-add-sum t c = omega (arith, c .before .before .before .before .before .before .before .pre .1 .opened, c .before .before .before .before .before .before .before .pre .1 .within, c .before .before .before .before .before .before .before .pre .1 .short)
+factor-add-sum t c = let g = c .before .before .before .before .before .before .before .pre .1 in omega (arith, g .opened, g .within, g .short)
+
+bracket-step : (t : ℕ) (c : factor-lts.After-moved2 (factor-calls t) (factor-at t) factor.Post) → Factor-step t (c .before .before .before .before .before .before .before) 40 (c .moved2 .result)
+bracket-step t c = paths.step (c .before .before .before .before .before .before .before .pre) (sym (c .before .before .before .before .before .next .ensures) ∙ c .before .before .if2 .taken) (omega arith) (c .moved2 .ensures)
 
 factor-sum-requires : (t : ℕ) → factor-lts.Need-sum-requires (factor-calls t) (factor-at t) factor.Post
-factor-sum-requires t c κs = let k = paths.step (c .before .before .before .before .before .before .before .pre .1) (sym (c .before .before .before .before .before .next .ensures) ∙ c .before .before .if2 .taken) (omega arith) (c .moved2 .ensures) in
-    (omega (arith, k .at, k .before, c .before .before .before .before .before .before .before .pre .0), paths.ready-step-deeper (c .before .before .before .before .before .before .before .pre .1) k)
-
-factor-expect-requires : (t : ℕ) → factor-lts.Need-expect-requires (factor-calls t) (factor-at t) factor.Post
-factor-expect-requires t c κs = omega arith
+factor-sum-requires t c κs = paths.deeper-needs (bracket-step t c) (omega arith)
 
 factor-returns-2 : (t : ℕ) → factor-lts.Need-returns-2 (factor-calls t) (factor-at t) factor.Post
-factor-returns-2 t c = let k = paths.step (c .before .before .before .before .before .before .before .before .before .pre .1) (sym (c .before .before .before .before .before .before .before .next .ensures) ∙ c .before .before .before .before .if2 .taken) (omega arith) (c .before .before .moved2 .ensures) in
-    paths.brackets-path (c .before .before .before .before .before .before .before .before .before .pre .1) k (sym (c .before .before .before .before .before .before .before .next .ensures) ∙ c .before .before .before .before .if2 .taken) (c .before .sum .ensures) (c .expect .ensures)
+factor-returns-2 t c = paths.brackets-path (bracket-step t (c .before .before)) (c .before .sum .ensures) (c .expect .ensures)
 
 factor-add-moved-3 : (t : ℕ) → factor-lts.Need-add-moved-3 (factor-calls t) (factor-at t) factor.Post
-factor-add-moved-3 t c = omega (arith, c .before .before .before .before .before .before .pre .1 .within, c .before .before .before .before .before .before .pre .1 .short)
+factor-add-moved-3 t c = let g = c .before .before .before .before .before .before .pre .1 in omega (arith, g .within, g .short)
 
-factor-moved-requires-3 : (t : ℕ) → factor-lts.Need-moved-requires-3 (factor-calls t) (factor-at t) factor.Post
-factor-moved-requires-3 t c κs = search needs
-
-factor-expect-requires-2 : (t : ℕ) → factor-lts.Need-expect-requires-2 (factor-calls t) (factor-at t) factor.Post
-factor-expect-requires-2 t c κs = omega arith
+sr-step : (t : ℕ) (c : factor-lts.After-moved3 (factor-calls t) (factor-at t) factor.Post) → Factor-step t (c .before .before .before .before .before .before .before) 83 (c .moved3 .result)
+sr-step t c = paths.step (c .before .before .before .before .before .before .before .pre) (sym (c .before .before .before .before .before .next .ensures) ∙ c .before .if3 .taken) (omega arith) (c .moved3 .ensures)
 
 factor-latch-requires : (t : ℕ) → factor-lts.Need-latch-requires (factor-calls t) (factor-at t) factor.Post
-factor-latch-requires t c κs = let k = paths.step (c .before .before .before .before .before .before .before .before .before .pre .1) (sym (c .before .before .before .before .before .before .before .next .ensures) ∙ c .before .before .before .if3 .taken) (omega arith) (c .before .before .moved3 .ensures) in
-    let a = ap (λ (j : Mark). j .at) (c .before .expect2 .ensures) in
-    (omega (arith, a, expected (c .before .before .before .before .before .before .before .before .before .args .text .now) 82 (omega arith) (c .before .before .moved3 .result) .on, k .at, k .before, c .before .before .before .before .before .before .before .before .before .pre .0), paths.ready-letter (c .before .before .before .before .before .before .before .before .before .pre .1) k 82 (omega arith) (c .before .expect2 .ensures))
+factor-latch-requires t c κs =
+    let k = sr-step t (c .before .before) in
+    paths.block-needs k (paths.letter k 82 (omega arith) (c .before .expect2 .ensures))
 
 factor-returns-3 : (t : ℕ) → factor-lts.Need-returns-3 (factor-calls t) (factor-at t) factor.Post
-factor-returns-3 t c = let k = paths.step (c .before .before .before .before .before .before .before .before .before .before .pre .1) (sym (c .before .before .before .before .before .before .before .before .next .ensures) ∙ c .before .before .before .before .if3 .taken) (omega arith) (c .before .before .before .moved3 .ensures) in
-    paths.sr-path (c .before .before .before .before .before .before .before .before .before .before .pre .1) k (sym (c .before .before .before .before .before .before .before .before .next .ensures) ∙ c .before .before .before .before .if3 .taken) (c .before .before .expect2 .ensures) (c .latch .ensures)
+factor-returns-3 t c =
+    let k = sr-step t (c .before .before .before) in
+    paths.block-path k (paths.letter k 82 (omega arith) (c .before .before .expect2 .ensures)) (c .latch .ensures) (paths.latch-is k sr-latch)
 
 factor-add-moved-4 : (t : ℕ) → factor-lts.Need-add-moved-4 (factor-calls t) (factor-at t) factor.Post
-factor-add-moved-4 t c = omega (arith, c .before .before .before .before .before .before .before .pre .1 .within, c .before .before .before .before .before .before .before .pre .1 .short)
+factor-add-moved-4 t c = let g = c .before .before .before .before .before .before .before .pre .1 in omega (arith, g .within, g .short)
 
-factor-moved-requires-4 : (t : ℕ) → factor-lts.Need-moved-requires-4 (factor-calls t) (factor-at t) factor.Post
-factor-moved-requires-4 t c κs = search needs
-
-factor-expect-requires-3 : (t : ℕ) → factor-lts.Need-expect-requires-3 (factor-calls t) (factor-at t) factor.Post
-factor-expect-requires-3 t c κs = omega arith
+rs-step : (t : ℕ) (c : factor-lts.After-moved4 (factor-calls t) (factor-at t) factor.Post) → Factor-step t (c .before .before .before .before .before .before .before .before) 82 (c .moved4 .result)
+rs-step t c = paths.step (c .before .before .before .before .before .before .before .before .pre) (sym (c .before .before .before .before .before .before .next .ensures) ∙ c .before .if4 .taken) (omega arith) (c .moved4 .ensures)
 
 factor-latch-requires-2 : (t : ℕ) → factor-lts.Need-latch-requires-2 (factor-calls t) (factor-at t) factor.Post
-factor-latch-requires-2 t c κs = let k = paths.step (c .before .before .before .before .before .before .before .before .before .before .pre .1) (sym (c .before .before .before .before .before .before .before .before .next .ensures) ∙ c .before .before .before .if4 .taken) (omega arith) (c .before .before .moved4 .ensures) in
-    let a = ap (λ (j : Mark). j .at) (c .before .expect3 .ensures) in
-    (omega (arith, a, expected (c .before .before .before .before .before .before .before .before .before .before .args .text .now) 83 (omega arith) (c .before .before .moved4 .result) .on, k .at, k .before, c .before .before .before .before .before .before .before .before .before .before .pre .0), paths.ready-letter (c .before .before .before .before .before .before .before .before .before .before .pre .1) k 83 (omega arith) (c .before .expect3 .ensures))
+factor-latch-requires-2 t c κs =
+    let k = rs-step t (c .before .before) in
+    paths.block-needs k (paths.letter k 83 (omega arith) (c .before .expect3 .ensures))
 
 factor-returns-4 : (t : ℕ) → factor-lts.Need-returns-4 (factor-calls t) (factor-at t) factor.Post
-factor-returns-4 t c = let k = paths.step (c .before .before .before .before .before .before .before .before .before .before .before .pre .1) (sym (c .before .before .before .before .before .before .before .before .before .next .ensures) ∙ c .before .before .before .before .if4 .taken) (omega arith) (c .before .before .before .moved4 .ensures) in
-    paths.rs-path (c .before .before .before .before .before .before .before .before .before .before .before .pre .1) k (sym (c .before .before .before .before .before .before .before .before .before .next .ensures) ∙ c .before .before .before .before .if4 .taken) (c .before .before .expect3 .ensures) (c .latch2 .ensures)
+factor-returns-4 t c =
+    let k = rs-step t (c .before .before .before) in
+    paths.block-path k (paths.letter k 83 (omega arith) (c .before .before .expect3 .ensures)) (c .latch2 .ensures) (paths.latch-is k rs-latch)
 
 factor-add-moved-5 : (t : ℕ) → factor-lts.Need-add-moved-5 (factor-calls t) (factor-at t) factor.Post
-factor-add-moved-5 t c = omega (arith, c .before .before .before .before .before .before .before .before .pre .1 .within, c .before .before .before .before .before .before .before .before .pre .1 .short)
+factor-add-moved-5 t c = let g = c .before .before .before .before .before .before .before .before .pre .1 in omega (arith, g .within, g .short)
 
-factor-moved-requires-5 : (t : ℕ) → factor-lts.Need-moved-requires-5 (factor-calls t) (factor-at t) factor.Post
-factor-moved-requires-5 t c κs = search needs
-
-factor-expect-requires-4 : (t : ℕ) → factor-lts.Need-expect-requires-4 (factor-calls t) (factor-at t) factor.Post
-factor-expect-requires-4 t c κs = omega arith
-
-factor-next-requires-2 : (t : ℕ) → factor-lts.Need-next-requires-2 (factor-calls t) (factor-at t) factor.Post
-factor-next-requires-2 t c κs = search needs
+t-step : (t : ℕ) (c : factor-lts.After-moved5 (factor-calls t) (factor-at t) factor.Post) → Factor-step t (c .before .before .before .before .before .before .before .before .before) 84 (c .moved5 .result)
+t-step t c = paths.step (c .before .before .before .before .before .before .before .before .before .pre) (sym (c .before .before .before .before .before .before .before .next .ensures) ∙ c .before .if5 .taken) (omega arith) (c .moved5 .ensures)
 
 factor-add-moved-6 : (t : ℕ) → factor-lts.Need-add-moved-6 (factor-calls t) (factor-at t) factor.Post
-factor-add-moved-6 t c = let k = paths.step (c .before .before .before .before .before .before .before .before .before .before .before .before .before .pre .1) (sym (c .before .before .before .before .before .before .before .before .before .before .before .next .ensures) ∙ c .before .before .before .before .before .if5 .taken) (omega arith) (c .before .before .before .before .moved5 .ensures) in
-    omega (arith, paths.letter (c .before .before .before .before .before .before .before .before .before .before .before .before .before .pre .1) k 79 (omega arith) (c .before .before .before .expect4 .ensures) .within, c .before .before .before .before .before .before .before .before .before .before .before .before .before .pre .1 .short)
-
-factor-moved-requires-6 : (t : ℕ) → factor-lts.Need-moved-requires-6 (factor-calls t) (factor-at t) factor.Post
-factor-moved-requires-6 t c κs = search needs
+factor-add-moved-6 t c =
+    let k = t-step t (c .before .before .before .before) in
+    omega (arith, paths.letter k 79 (omega arith) (c .before .before .before .expect4 .ensures) .done .within, k .ready .short)
 
 factor-timer-requires : (t : ℕ) → factor-lts.Need-timer-requires (factor-calls t) (factor-at t) factor.Post
-factor-timer-requires t c κs = let k = paths.step (c .before .before .before .before .before .before .before .before .before .before .before .before .before .before .pre .1) (sym (c .before .before .before .before .before .before .before .before .before .before .before .before .next .ensures) ∙ c .before .before .before .before .before .before .if5 .taken) (omega arith) (c .before .before .before .before .before .moved5 .ensures) in
-    let f = sym (c .before .before .before .next2 .ensures) ∙ c .before .before .if6 .taken in
-    let d = paths.ton-letters (c .before .before .before .before .before .before .before .before .before .before .before .before .before .before .pre .1) k (c .before .before .before .before .expect4 .ensures) f (c .moved6 .ensures) in
-    let o = paths.ton-on (c .before .before .before .before .before .before .before .before .before .before .before .before .before .before .pre .1) k (c .before .before .before .before .expect4 .ensures) (c .moved6 .ensures) in
-    (omega (arith, o, d .within, k .before, c .before .before .before .before .before .before .before .before .before .before .before .before .before .before .pre .0), (ready-deeper (c .before .before .before .before .before .before .before .before .before .before .before .before .before .before .pre .1) d o, omega arith))
+factor-timer-requires t c κs =
+    let k = t-step t (c .before .before .before .before .before) in
+    let w = sym (c .before .before .before .next2 .ensures) ∙ c .before .before .if6 .taken in
+    let b = paths.block-needs k (paths.ton-letters k (c .before .before .before .before .expect4 .ensures) w (c .moved6 .ensures)) in
+    (b .0, (b .1, omega arith))
 
 factor-returns-5 : (t : ℕ) → factor-lts.Need-returns-5 (factor-calls t) (factor-at t) factor.Post
-factor-returns-5 t c = let k = paths.step (c .before .before .before .before .before .before .before .before .before .before .before .before .before .before .before .pre .1) (sym (c .before .before .before .before .before .before .before .before .before .before .before .before .before .next .ensures) ∙ c .before .before .before .before .before .before .before .if5 .taken) (omega arith) (c .before .before .before .before .before .before .moved5 .ensures) in
-    paths.ton-path (c .before .before .before .before .before .before .before .before .before .before .before .before .before .before .before .pre .1) k (sym (c .before .before .before .before .before .before .before .before .before .before .before .before .before .next .ensures) ∙ c .before .before .before .before .before .before .before .if5 .taken) (c .before .before .before .before .before .expect4 .ensures) (sym (c .before .before .before .before .next2 .ensures) ∙ c .before .before .before .if6 .taken) (c .before .moved6 .ensures) (c .timer .ensures)
-
-factor-expect-requires-5 : (t : ℕ) → factor-lts.Need-expect-requires-5 (factor-calls t) (factor-at t) factor.Post
-factor-expect-requires-5 t c κs = omega arith
+factor-returns-5 t c =
+    let k = t-step t (c .before .before .before .before .before .before) in
+    let w = sym (c .before .before .before .before .next2 .ensures) ∙ c .before .before .before .if6 .taken in
+    let o = c .before .before .before .before .before .expect4 .ensures in
+    paths.block-path k (paths.ton-letters k o w (c .before .moved6 .ensures)) (c .timer .ensures) (paths.ton-is k o w)
 
 factor-timer-requires-2 : (t : ℕ) → factor-lts.Need-timer-requires-2 (factor-calls t) (factor-at t) factor.Post
-factor-timer-requires-2 t c κs = let k = paths.step (c .before .before .before .before .before .before .before .before .before .before .before .before .before .before .pre .1) (sym (c .before .before .before .before .before .before .before .before .before .before .before .before .next .ensures) ∙ c .before .before .before .before .before .before .if5 .taken) (omega arith) (c .before .before .before .before .before .moved5 .ensures) in
-    let d = paths.tof-letters (c .before .before .before .before .before .before .before .before .before .before .before .before .before .before .pre .1) k (c .before .before .before .before .expect4 .ensures) (c .before .expect5 .ensures) in
-    let o = paths.tof-on (c .before .before .before .before .before .before .before .before .before .before .before .before .before .before .pre .1) k (c .before .before .before .before .expect4 .ensures) (c .before .expect5 .ensures) in
-    (omega (arith, o, d .within, k .before, c .before .before .before .before .before .before .before .before .before .before .before .before .before .before .pre .0), (ready-deeper (c .before .before .before .before .before .before .before .before .before .before .before .before .before .before .pre .1) d o, omega arith))
+factor-timer-requires-2 t c κs =
+    let k = t-step t (c .before .before .before .before .before) in
+    let b = paths.block-needs k (paths.tof-letters k (c .before .before .before .before .expect4 .ensures) (c .before .expect5 .ensures)) in
+    (b .0, (b .1, omega arith))
 
 factor-returns-6 : (t : ℕ) → factor-lts.Need-returns-6 (factor-calls t) (factor-at t) factor.Post
-factor-returns-6 t c = let k = paths.step (c .before .before .before .before .before .before .before .before .before .before .before .before .before .before .before .pre .1) (sym (c .before .before .before .before .before .before .before .before .before .before .before .before .before .next .ensures) ∙ c .before .before .before .before .before .before .before .if5 .taken) (omega arith) (c .before .before .before .before .before .before .moved5 .ensures) in
-    paths.tof-path (c .before .before .before .before .before .before .before .before .before .before .before .before .before .before .before .pre .1) k (sym (c .before .before .before .before .before .before .before .before .before .before .before .before .before .next .ensures) ∙ c .before .before .before .before .before .before .before .if5 .taken) (c .before .before .before .before .before .expect4 .ensures) (ne-eqb (nextMark (c .before .before .before .before .before .before .before .before .before .before .before .before .before .before .before .args .text .now) (c .before .before .before .before .before .expect4 .result)) 78 (λ h. c .before .before .before .if6 .left (c .before .before .before .before .next2 .ensures ∙ h))) (c .before .before .expect5 .ensures) (c .timer2 .ensures)
+factor-returns-6 t c =
+    let k = t-step t (c .before .before .before .before .before .before) in
+    let w = ne-eqb _ _ (λ h. c .before .before .before .if6 .left (c .before .before .before .before .next2 .ensures ∙ h)) in
+    let o = c .before .before .before .before .before .expect4 .ensures in
+    paths.block-path k (paths.tof-letters k o (c .before .before .expect5 .ensures)) (c .timer2 .ensures) (paths.tof-is k o w)
 
 factor-leaf-requires : (t : ℕ) → factor-lts.Need-leaf-requires (factor-calls t) (factor-at t) factor.Post
 factor-leaf-requires t c κs = c .before .before .before .before .before .before .before .before .before .pre .1
 
 factor-returns-7 : (t : ℕ) → factor-lts.Need-returns-7 (factor-calls t) (factor-at t) factor.Post
-factor-returns-7 t c = let b = c .before .before .before .before .before .before .before .before .next .result in
-    paths.leaf-path (c .before .before .before .before .before .before .before .before .before .before .pre .1) b (c .before .before .before .before .before .before .before .prefix-kind .result) (sym (c .before .before .before .before .before .before .before .before .next .ensures)) (c .before .before .before .before .before .before .before .prefix-kind .ensures) (c .before .before .before .before .before .before .if1 .left) (ne-eqb b 40 (c .before .before .before .before .before .if2 .left)) (ne-eqb b 83 (c .before .before .before .before .if3 .left)) (ne-eqb b 82 (c .before .before .before .if4 .left)) (ne-eqb b 84 (c .before .before .if5 .left)) (c .leaf .ensures)
-
-latch-expect-requires : (t : ℕ) → latch-lts.Need-expect-requires (latch-calls t) (latch-at t) latch.Post
-latch-expect-requires t c κs = omega arith
+factor-returns-7 t c =
+    let n = c .before .before .before .before .before .before .before .before in
+    let b = n .next .result in
+    paths.leaf-path (n .before .before .pre .1) b _ (sym (n .next .ensures)) (c .before .before .before .before .before .before .before .prefix-kind .ensures) (c .before .before .before .before .before .before .if1 .left)
+    (ne-eqb b 40 (c .before .before .before .before .before .if2 .left)) (ne-eqb b 83 (c .before .before .before .before .if3 .left)) (ne-eqb b 82 (c .before .before .before .if4 .left)) (ne-eqb b 84 (c .before .before .if5 .left)) (c .leaf .ensures)
 
 latch-add-sum : (t : ℕ) → latch-lts.Need-add-sum (latch-calls t) (latch-at t) latch.Post
-latch-add-sum t c = omega (arith, (c .before .before .before .pre .1) .opened, (c .before .before .before .pre .1) .within, (c .before .before .before .pre .1) .short)
+latch-add-sum t c = let g = c .before .before .before .pre .1 in omega (arith, g .opened, g .within, g .short)
 
 latch-sum-requires : (t : ℕ) → latch-lts.Need-sum-requires (latch-calls t) (latch-at t) latch.Post
-latch-sum-requires t c κs = let d = paths.opened (c .before .before .before .args .deep) (c .before .before .before .pre .1) (c .expect .ensures) in
-    (omega (arith, d .on, d .within, c .before .before .before .pre .0), paths.ready-opened (c .before .before .before .args .deep) (c .before .before .before .pre .1) (c .expect .ensures))
-
-latch-expect-requires-2 : (t : ℕ) → latch-lts.Need-expect-requires-2 (latch-calls t) (latch-at t) latch.Post
-latch-expect-requires-2 t c κs = omega arith
+latch-sum-requires t c κs =
+    let s = c .before .before .before in
+    inner-needs (s .args .deep) (s .pre .1) (paths.opened (s .args .deep) (s .pre .1) (c .expect .ensures)) (s .pre .0)
 
 latch-add-sum-2 : (t : ℕ) → latch-lts.Need-add-sum-2 (latch-calls t) (latch-at t) latch.Post
-latch-add-sum-2 t c = omega (arith, (c .before .before .before .before .before .before .pre .1) .opened, (c .before .before .before .before .before .before .pre .1) .within, (c .before .before .before .before .before .before .pre .1) .short)
+latch-add-sum-2 t c = let g = c .before .before .before .before .before .before .pre .1 in omega (arith, g .opened, g .within, g .short)
 
 latch-sum-requires-2 : (t : ℕ) → latch-lts.Need-sum-requires-2 (latch-calls t) (latch-at t) latch.Post
-latch-sum-requires-2 t c κs = let d = paths.parted (c .before .before .before .before .before .before .args .deep) (c .before .before .before .before .before .before .pre .1) (c .before .before .before .expect .ensures) (c .before .before .sum .ensures) (c .expect2 .ensures) in
-    (omega (arith, d .on, d .within, c .before .before .before .before .before .before .pre .0), paths.ready-parted (c .before .before .before .before .before .before .args .deep) (c .before .before .before .before .before .before .pre .1) (c .before .before .before .expect .ensures) (c .before .before .sum .ensures) (c .expect2 .ensures))
-
-latch-expect-requires-3 : (t : ℕ) → latch-lts.Need-expect-requires-3 (latch-calls t) (latch-at t) latch.Post
-latch-expect-requires-3 t c κs = omega arith
+latch-sum-requires-2 t c κs =
+    let s = c .before .before .before .before .before .before in
+    inner-needs (s .args .deep) (s .pre .1) (paths.parted (s .args .deep) (s .pre .1) (c .before .before .before .expect .ensures) (c .before .before .sum .ensures) (c .expect2 .ensures)) (s .pre .0)
 
 latch-put-requires : (t : ℕ) → latch-lts.Need-put-requires (latch-calls t) (latch-at t) latch.Post
-latch-put-requires t c κs = (
-  paths.closed (c .before .before .before .before .before .before .before .before .before .args .deep) (c .before .before .before .before .before .before .before .before .before .pre .1) (c .before .before .before .before .before .before .expect .ensures) (c .before .before .before .before .before .sum .ensures) (c .before .before .before .expect2 .ensures) (c .before .before .sum2 .ensures) (c .expect3 .ensures) .room,
-  paths.latch-room (c .before .before .before .before .before .before .before .before .before .args .deep) (c .before .before .before .before .before .before .before .before .before .pre .1) (c .before .before .before .before .before .before .expect .ensures) (c .before .before .before .before .before .sum .ensures) (c .before .before .before .expect2 .ensures) (c .before .before .sum2 .ensures) (c .expect3 .ensures),
-)
+latch-put-requires t c κs =
+    let s = c .before .before .before .before .before .before .before .before .before in
+    paths.latch-needs (s .args .deep) (s .pre .1) (c .before .before .before .before .before .before .expect .ensures) (c .before .before .before .before .before .sum .ensures) (c .before .before .before .expect2 .ensures) (c .before .before .sum2 .ensures) (c .expect3 .ensures)
 
 latch-returns : (t : ℕ) → latch-lts.Need-returns (latch-calls t) (latch-at t) latch.Post
-latch-returns t c = paths.latch-path (c .before .before .before .before .before .before .before .before .before .before .args .deep) (c .before .before .before .before .before .before .before .before .before .before .pre .1) (c .before .before .before .before .before .before .before .expect .ensures) (c .before .before .before .before .before .before .sum .ensures) (c .before .before .before .before .expect2 .ensures) (c .before .before .before .sum2 .ensures) (c .before .expect3 .ensures) (c .before .before .before .before .before .before .before .before .before .before .args .part) (c .put .ensures .1) (c .put .ensures .0)
+latch-returns t c =
+    let s = c .before .before .before .before .before .before .before .before .before .before in
+    paths.latch-path (s .args .deep) (s .pre .1) (c .before .before .before .before .before .before .before .expect .ensures) (c .before .before .before .before .before .before .sum .ensures) (c .before .before .before .before .expect2 .ensures) (c .before .before .before .sum2 .ensures)
+    (c .before .expect3 .ensures) (s .args .part) (c .put .ensures .1) (c .put .ensures .0)
 
 product-factor-requires : (t : ℕ) → product-lts.Need-factor-requires (product-calls t) (product-at t) product.Post
-product-factor-requires t c κs = (omega (arith, c .before .before .pre .0), c .before .before .pre .1)
+product-factor-requires t c κs = chaining.first-needs times (c .before .before .pre .1) (c .before .before .pre .0)
 
 product-products-requires : (t : ℕ) → product-lts.Need-products-requires (product-calls t) (product-at t) product.Post
-product-products-requires t c κs = let p = c .before .factor .ensures in
-    (omega (arith, p .on, p .within, c .before .before .before .before .pre .0), ready-on (c .before .before .before .before .pre .1) p)
+product-products-requires t c κs = chaining.after-first times (c .before .before .before .before .pre .1) (c .before .before .before .before .pre .0) (c .before .factor .ensures)
 
 product-returns : (t : ℕ) → product-lts.Need-returns (product-calls t) (product-at t) product.Post
-product-returns t c = paths.product-path (c .before .before .before .before .before .pre .1) (c .before .before .factor .ensures) (c .products .ensures)
-
-products-next-requires : (t : ℕ) → products-lts.Need-next-requires (products-calls t) (products-at t) products.Post
-products-next-requires t c κs = search needs
+product-returns t c = chaining.whole-path times (c .before .before .before .before .before .pre .1) (c .before .before .factor .ensures) (c .products .ensures)
 
 products-add-moved : (t : ℕ) → products-lts.Need-add-moved (products-calls t) (products-at t) products.Post
-products-add-moved t c = omega (arith, c .before .before .before .before .pre .1 .within, c .before .before .before .before .pre .1 .short)
+products-add-moved t c = let g = c .before .before .before .before .pre .1 in omega (arith, g .within, g .short)
 
-products-moved-requires : (t : ℕ) → products-lts.Need-moved-requires (products-calls t) (products-at t) products.Post
-products-moved-requires t c κs = search needs
+-- past the byte b at the front of the rest of a chain, at x
+abbrev Products-step : (t : ℕ) → products-lts.Start (products-calls t) (products-at t) products.Post → ℕ → Mark → Type 0
+Products-step t s b x = paths.Step (s .args .text .now) (s .args .code .now) (s .args .m) (s .args .deep) 1 t b x
+
+times-step : (t : ℕ) (c : products-lts.After-moved (products-calls t) (products-at t) products.Post) → Products-step t (c .before .before .before .before .before) 46 (c .moved .result)
+times-step t c = paths.step (c .before .before .before .before .before .pre) (sym (c .before .before .before .next .ensures) ∙ c .before .before .if1 .taken) (omega arith) (c .moved .ensures)
 
 products-factor-requires : (t : ℕ) → products-lts.Need-factor-requires (products-calls t) (products-at t) products.Post
-products-factor-requires t c κs = let k = paths.step (c .before .before .before .before .before .pre .1) (sym (c .before .before .before .next .ensures) ∙ c .before .before .if1 .taken) (omega arith) (c .moved .ensures) in
-    (omega (arith, k .at, k .before, c .before .before .before .before .before .pre .0), paths.ready-step (c .before .before .before .before .before .pre .1) k)
+products-factor-requires t c κs = chaining.operand-needs times (times-step t c)
 
 products-put-requires : (t : ℕ) → products-lts.Need-put-requires (products-calls t) (products-at t) products.Post
-products-put-requires t c κs = let k = paths.step (c .before .before .before .before .before .before .before .pre .1) (sym (c .before .before .before .before .before .next .ensures) ∙ c .before .before .before .before .if1 .taken) (omega arith) (c .before .before .moved .ensures) in
-    let d = paths.factor-then (c .before .before .before .before .before .before .before .pre .1) k (c .before .factor .ensures) in
-    (d .room, roomy (c .before .before .before .before .before .before .before .pre .1) d (paths.own-byte (c .before .before .before .before .before .before .before .pre .1) k (c .before .factor .ensures)))
+products-put-requires t c κs = chaining.operator-needs times (times-step t (c .before .before)) (c .before .factor .ensures)
 
 products-products-requires : (t : ℕ) → products-lts.Need-products-requires (products-calls t) (products-at t) products.Post
-products-products-requires t c κs = let k = paths.step (c .before .before .before .before .before .before .before .before .before .pre .1) (sym (c .before .before .before .before .before .before .before .next .ensures) ∙ c .before .before .before .before .before .before .if1 .taken) (omega arith) (c .before .before .before .before .moved .ensures) in
-    let p = c .before .before .before .factor .ensures in
-    let d = turned (c .before .put .ensures .1) (c .before .put .ensures .0) (putting 8 (c .before .before .before .before .before .before .before .before .before .args .deep) 0 (c .before .before .before .before .before .before .before .before .before .pre .1) (paths.factor-then (c .before .before .before .before .before .before .before .before .before .pre .1) k p) (paths.own-byte (c .before .before .before .before .before .before .before .before .before .pre .1) k p)) in
-    let a = ap (λ (j : Mark). j .at) (c .before .put .ensures .0) ∙ put-is (c .before .before .before .factor .result) (c .before .before .before .before .before .before .before .before .before .args .deep) 0 .at in
-    (omega (arith, a, p .on, p .within, k .at, k .before, c .before .before .before .before .before .before .before .before .before .pre .0), ready-on (c .before .before .before .before .before .before .before .before .before .pre .1) d)
+products-products-requires t c κs = chaining.rest-needs times (times-step t (c .before .before .before .before)) (c .before .before .before .factor .ensures) (c .before .put .ensures)
 
 products-returns : (t : ℕ) → products-lts.Need-returns (products-calls t) (products-at t) products.Post
-products-returns t c = let e = (sym (c .before .before .before .before .before .before .before .before .next .ensures) ∙ c .before .before .before .before .before .before .before .if1 .taken) in
-    let k = paths.step (c .before .before .before .before .before .before .before .before .before .before .pre .1) (sym (c .before .before .before .before .before .before .before .before .next .ensures) ∙ c .before .before .before .before .before .before .before .if1 .taken) (omega arith) (c .before .before .before .before .before .moved .ensures) in
-    paths.products-path (c .before .before .before .before .before .before .before .before .before .before .pre .1) k e (c .before .before .before .before .factor .ensures) (c .before .before .put .ensures .1) (c .before .before .put .ensures .0) (c .products .ensures)
+products-returns t c = chaining.rest-path times (times-step t (c .before .before .before .before .before)) (c .before .before .before .before .factor .ensures) (c .before .before .put .ensures) (c .products .ensures)
 
 products-returns-2 : (t : ℕ) → products-lts.Need-returns-2 (products-calls t) (products-at t) products.Post
-products-returns-2 t c = paths.products-end (c .before .before .before .pre .1) (ne-eqb (nextMark (c .before .before .before .args .text .now) (c .before .before .before .args .m)) 46 (λ h. c .if1 .left (c .before .next .ensures ∙ h)))
+products-returns-2 t c = chaining.rest-end times (c .before .before .before .pre .1) (ne-eqb _ _ (λ h. c .if1 .left (c .before .next .ensures ∙ h)))
 
 sum-product-requires : (t : ℕ) → sum-lts.Need-product-requires (sum-calls t) (sum-at t) sum.Post
-sum-product-requires t c κs = (omega (arith, c .before .before .pre .0), c .before .before .pre .1)
+sum-product-requires t c κs = chaining.first-needs plus (c .before .before .pre .1) (c .before .before .pre .0)
 
 sum-sums-requires : (t : ℕ) → sum-lts.Need-sums-requires (sum-calls t) (sum-at t) sum.Post
-sum-sums-requires t c κs = let p = c .before .product .ensures in
-    (omega (arith, p .on, p .within, c .before .before .before .before .pre .0), ready-on (c .before .before .before .before .pre .1) p)
+sum-sums-requires t c κs = chaining.after-first plus (c .before .before .before .before .pre .1) (c .before .before .before .before .pre .0) (c .before .product .ensures)
 
 sum-returns : (t : ℕ) → sum-lts.Need-returns (sum-calls t) (sum-at t) sum.Post
-sum-returns t c = paths.sum-path (c .before .before .before .before .before .pre .1) (c .before .before .product .ensures) (c .sums .ensures)
-
-sums-next-requires : (t : ℕ) → sums-lts.Need-next-requires (sums-calls t) (sums-at t) sums.Post
-sums-next-requires t c κs = search needs
+sum-returns t c = chaining.whole-path plus (c .before .before .before .before .before .pre .1) (c .before .before .product .ensures) (c .sums .ensures)
 
 sums-add-moved : (t : ℕ) → sums-lts.Need-add-moved (sums-calls t) (sums-at t) sums.Post
-sums-add-moved t c = omega (arith, c .before .before .before .before .pre .1 .within, c .before .before .before .before .pre .1 .short)
+sums-add-moved t c = let g = c .before .before .before .before .pre .1 in omega (arith, g .within, g .short)
 
-sums-moved-requires : (t : ℕ) → sums-lts.Need-moved-requires (sums-calls t) (sums-at t) sums.Post
-sums-moved-requires t c κs = search needs
+-- past the byte b at the front of the rest of a chain, at x
+abbrev Sums-step : (t : ℕ) → sums-lts.Start (sums-calls t) (sums-at t) sums.Post → ℕ → Mark → Type 0
+Sums-step t s b x = paths.Step (s .args .text .now) (s .args .code .now) (s .args .m) (s .args .deep) 1 t b x
+
+plus-step : (t : ℕ) (c : sums-lts.After-moved (sums-calls t) (sums-at t) sums.Post) → Sums-step t (c .before .before .before .before .before) 43 (c .moved .result)
+plus-step t c = paths.step (c .before .before .before .before .before .pre) (sym (c .before .before .before .next .ensures) ∙ c .before .before .if1 .taken) (omega arith) (c .moved .ensures)
 
 sums-product-requires : (t : ℕ) → sums-lts.Need-product-requires (sums-calls t) (sums-at t) sums.Post
-sums-product-requires t c κs = let k = paths.step (c .before .before .before .before .before .pre .1) (sym (c .before .before .before .next .ensures) ∙ c .before .before .if1 .taken) (omega arith) (c .moved .ensures) in
-    (omega (arith, k .at, k .before, c .before .before .before .before .before .pre .0), paths.ready-step (c .before .before .before .before .before .pre .1) k)
+sums-product-requires t c κs = chaining.operand-needs plus (plus-step t c)
 
 sums-put-requires : (t : ℕ) → sums-lts.Need-put-requires (sums-calls t) (sums-at t) sums.Post
-sums-put-requires t c κs = let k = paths.step (c .before .before .before .before .before .before .before .pre .1) (sym (c .before .before .before .before .before .next .ensures) ∙ c .before .before .before .before .if1 .taken) (omega arith) (c .before .before .moved .ensures) in
-    let d = paths.product-then (c .before .before .before .before .before .before .before .pre .1) k (c .before .product .ensures) in
-    (d .room, roomy (c .before .before .before .before .before .before .before .pre .1) d (paths.own-byte (c .before .before .before .before .before .before .before .pre .1) k (c .before .product .ensures)))
+sums-put-requires t c κs = chaining.operator-needs plus (plus-step t (c .before .before)) (c .before .product .ensures)
 
 sums-sums-requires : (t : ℕ) → sums-lts.Need-sums-requires (sums-calls t) (sums-at t) sums.Post
-sums-sums-requires t c κs = let k = paths.step (c .before .before .before .before .before .before .before .before .before .pre .1) (sym (c .before .before .before .before .before .before .before .next .ensures) ∙ c .before .before .before .before .before .before .if1 .taken) (omega arith) (c .before .before .before .before .moved .ensures) in
-    let p = c .before .before .before .product .ensures in
-    let d = turned (c .before .put .ensures .1) (c .before .put .ensures .0) (putting 9 (c .before .before .before .before .before .before .before .before .before .args .deep) 0 (c .before .before .before .before .before .before .before .before .before .pre .1) (paths.product-then (c .before .before .before .before .before .before .before .before .before .pre .1) k p) (paths.own-byte (c .before .before .before .before .before .before .before .before .before .pre .1) k p)) in
-    let a = ap (λ (j : Mark). j .at) (c .before .put .ensures .0) ∙ put-is (c .before .before .before .product .result) (c .before .before .before .before .before .before .before .before .before .args .deep) 0 .at in
-    (omega (arith, a, p .on, p .within, k .at, k .before, c .before .before .before .before .before .before .before .before .before .pre .0), ready-on (c .before .before .before .before .before .before .before .before .before .pre .1) d)
+sums-sums-requires t c κs = chaining.rest-needs plus (plus-step t (c .before .before .before .before)) (c .before .before .before .product .ensures) (c .before .put .ensures)
 
 sums-returns : (t : ℕ) → sums-lts.Need-returns (sums-calls t) (sums-at t) sums.Post
-sums-returns t c = let e = (sym (c .before .before .before .before .before .before .before .before .next .ensures) ∙ c .before .before .before .before .before .before .before .if1 .taken) in
-    let k = paths.step (c .before .before .before .before .before .before .before .before .before .before .pre .1) (sym (c .before .before .before .before .before .before .before .before .next .ensures) ∙ c .before .before .before .before .before .before .before .if1 .taken) (omega arith) (c .before .before .before .before .before .moved .ensures) in
-    paths.sums-path (c .before .before .before .before .before .before .before .before .before .before .pre .1) k e (c .before .before .before .before .product .ensures) (c .before .before .put .ensures .1) (c .before .before .put .ensures .0) (c .sums .ensures)
+sums-returns t c = chaining.rest-path plus (plus-step t (c .before .before .before .before .before)) (c .before .before .before .before .product .ensures) (c .before .before .put .ensures) (c .sums .ensures)
 
 sums-returns-2 : (t : ℕ) → sums-lts.Need-returns-2 (sums-calls t) (sums-at t) sums.Post
-sums-returns-2 t c = paths.sums-end (c .before .before .before .pre .1) (ne-eqb (nextMark (c .before .before .before .args .text .now) (c .before .before .before .args .m)) 43 (λ h. c .if1 .left (c .before .next .ensures ∙ h)))
-
-timer-expect-requires : (t : ℕ) → timer-lts.Need-expect-requires (timer-calls t) (timer-at t) timer.Post
-timer-expect-requires t c κs = omega arith
+sums-returns-2 t c = chaining.rest-end plus (c .before .before .before .pre .1) (ne-eqb _ _ (λ h. c .if1 .left (c .before .next .ensures ∙ h)))
 
 timer-pass-length-requires : (t : ℕ) → timer-lts.Need-pass-length-requires (timer-calls t) (timer-at t) timer.Post
-timer-pass-length-requires t c κs = paths.opened (c .before .before .args .deep) (c .before .before .pre .1 .0) (c .expect .ensures) .within
+timer-pass-length-requires t c κs =
+    let s = c .before .before in
+    paths.opened (s .args .deep) (s .pre .1 .0) (c .expect .ensures) .within
 
 timer-ticks-requires : (t : ℕ) → timer-lts.Need-ticks-requires (timer-calls t) (timer-at t) timer.Post
-timer-ticks-requires t c κs = let d = paths.opened (c .before .before .before .args .deep) (c .before .before .before .pre .1 .0) (c .before .expect .ensures) in
-    let p = passed (c .before .before .before .args .text .now) (c .before .expect .result) (d .within) in
+timer-ticks-requires t c κs =
+    let s = c .before .before .before in
+    let p = passed (s .args .text .now) (c .before .expect .result) (paths.opened (s .args .deep) (s .pre .1 .0) (c .before .expect .ensures) .within) in
     let a = ap (λ (j : Mark). j .at) (c .pass-length .ensures) in
     (omega (arith, p .on, a), omega (arith, p .within, a))
 
-timer-expect-requires-2 : (t : ℕ) → timer-lts.Need-expect-requires-2 (timer-calls t) (timer-at t) timer.Post
-timer-expect-requires-2 t c κs = omega arith
-
 timer-add-sum : (t : ℕ) → timer-lts.Need-add-sum (timer-calls t) (timer-at t) timer.Post
-timer-add-sum t c = omega (arith, (c .before .before .before .before .before .before .pre .1 .0) .opened, (c .before .before .before .before .before .before .pre .1 .0) .within, (c .before .before .before .before .before .before .pre .1 .0) .short)
+timer-add-sum t c = let g = c .before .before .before .before .before .before .pre .1 .0 in omega (arith, g .opened, g .within, g .short)
 
 timer-sum-requires : (t : ℕ) → timer-lts.Need-sum-requires (timer-calls t) (timer-at t) timer.Post
-timer-sum-requires t c κs = let d = paths.timer-parted (c .before .before .before .before .before .before .args .deep) (c .before .before .before .before .before .before .pre .1 .0) (c .before .before .before .before .expect .ensures) (c .before .before .before .pass-length .ensures) (c .expect2 .ensures) in
-    (omega (arith, d .on, d .within, c .before .before .before .before .before .before .pre .0), paths.ready-timer (c .before .before .before .before .before .before .args .deep) (c .before .before .before .before .before .before .pre .1 .0) (c .before .before .before .before .expect .ensures) (c .before .before .before .pass-length .ensures) (c .expect2 .ensures))
-
-timer-expect-requires-3 : (t : ℕ) → timer-lts.Need-expect-requires-3 (timer-calls t) (timer-at t) timer.Post
-timer-expect-requires-3 t c κs = omega arith
+timer-sum-requires t c κs =
+    let s = c .before .before .before .before .before .before in
+    inner-needs (s .args .deep) (s .pre .1 .0) (paths.timer-parted (s .args .deep) (s .pre .1 .0) (c .before .before .before .before .expect .ensures) (c .before .before .before .pass-length .ensures) (c .expect2 .ensures)) (s .pre .0)
 
 timer-mul-put : (t : ℕ) → timer-lts.Need-mul-put (timer-calls t) (timer-at t) timer.Post
-timer-mul-put t c = omega (arith, capped-most (c .before .before .before .before .before .ticks .result) (valueBetween (c .before .before .before .before .before .before .before .before .before .args .text .now) (c .before .before .before .before .before .before .before .expect .result .at) (c .before .before .before .before .before .before .pass-length .result .at)) (c .before .before .before .before .before .ticks .ensures))
+timer-mul-put t c = omega (arith, capped-most _ _ (c .before .before .before .before .before .ticks .ensures))
 
 timer-add-put : (t : ℕ) → timer-lts.Need-add-put (timer-calls t) (timer-at t) timer.Post
-timer-add-put t c = omega (arith, capped-most (c .before .before .before .before .before .ticks .result) (valueBetween (c .before .before .before .before .before .before .before .before .before .args .text .now) (c .before .before .before .before .before .before .before .expect .result .at) (c .before .before .before .before .before .before .pass-length .result .at)) (c .before .before .before .before .before .ticks .ensures), c .before .before .before .before .before .before .before .before .before .pre .1 .1)
+timer-add-put t c = omega (arith, capped-most _ _ (c .before .before .before .before .before .ticks .ensures), c .before .before .before .before .before .before .before .before .before .pre .1 .1)
 
 timer-put-requires : (t : ℕ) → timer-lts.Need-put-requires (timer-calls t) (timer-at t) timer.Post
-timer-put-requires t c κs = (paths.timer-closed (c .before .before .before .before .before .before .before .before .before .args .deep) (c .before .before .before .before .before .before .before .before .before .pre .1 .0) (c .before .before .before .before .before .before .before .expect .ensures) (c .before .before .before .before .before .before .pass-length .ensures) (c .before .before .before .expect2 .ensures) (c .before .before .sum .ensures) (c .expect3 .ensures) .room, paths.timer-room (c .before .before .before .before .before .before .before .before .before .args .deep) (c .before .before .before .before .before .before .before .before .before .pre .1 .0) (c .before .before .before .before .before .before .before .expect .ensures) (c .before .before .before .before .before .before .pass-length .ensures) (c .before .before .before .expect2 .ensures) (c .before .before .sum .ensures) (c .expect3 .ensures))
+timer-put-requires t c κs =
+    let s = c .before .before .before .before .before .before .before .before .before in
+    paths.timer-needs (s .args .deep) (s .pre .1 .0) (c .before .before .before .before .before .before .before .expect .ensures) (c .before .before .before .before .before .before .pass-length .ensures) (c .before .before .before .expect2 .ensures) (c .before .before .sum .ensures) (c .expect3 .ensures)
 
 timer-returns : (t : ℕ) → timer-lts.Need-returns (timer-calls t) (timer-at t) timer.Post
-timer-returns t c = paths.timer-path (c .before .before .before .before .before .before .before .before .before .before .args .deep) (c .before .before .before .before .before .before .before .before .before .before .pre .1 .0) (c .before .before .before .before .before .before .before .before .expect .ensures) (c .before .before .before .before .before .before .before .pass-length .ensures) (c .before .before .before .before .expect2 .ensures) (c .before .before .before .sum .ensures) (c .before .expect3 .ensures) (c .before .before .before .before .before .before .before .before .before .before .args .part) (c .before .before .before .before .before .before .ticks .result) (c .before .before .before .before .before .before .ticks .ensures) (c .put .ensures .1) (c .put .ensures .0)
+timer-returns t c =
+    let s = c .before .before .before .before .before .before .before .before .before .before in
+    paths.timer-path (s .args .deep) (s .pre .1 .0) (c .before .before .before .before .before .before .before .before .expect .ensures) (c .before .before .before .before .before .before .before .pass-length .ensures) (c .before .before .before .before .expect2 .ensures) (c .before .before .before .sum .ensures)
+    (c .before .expect3 .ensures) (s .args .part) _ (c .before .before .before .before .before .before .ticks .ensures) (c .put .ensures .1) (c .put .ensures .0)
 
 pub +factor+latch+product+products+sum+sums+timer-spec : {M : Type 1} → statement M
 +factor+latch+product+products+sum+sums+timer-spec =
     close μ-factor μ-latch μ-product μ-products μ-sum μ-sums μ-timer
-    (λ t. factor-lts.spec (factor-calls t) (factor-at t) factor.Post (factor-next-requires t) (factor-prefix-kind-requires t) (factor-add-moved t) (factor-moved-requires t) (factor-add-factor t) (factor-factor-requires t) (factor-put-requires t) (factor-returns t) (factor-add-moved-2 t) (factor-moved-requires-2 t) (factor-add-sum t) (factor-sum-requires t) (factor-expect-requires t) (factor-returns-2 t) (factor-add-moved-3 t) (factor-moved-requires-3 t) (factor-expect-requires-2 t) (factor-latch-requires t) (factor-returns-3 t) (factor-add-moved-4 t) (factor-moved-requires-4 t) (factor-expect-requires-3 t) (factor-latch-requires-2 t) (factor-returns-4 t) (factor-add-moved-5 t) (factor-moved-requires-5 t) (factor-expect-requires-4 t) (factor-next-requires-2 t) (factor-add-moved-6 t) (factor-moved-requires-6 t) (factor-timer-requires t) (factor-returns-5 t) (factor-expect-requires-5 t) (factor-timer-requires-2 t) (factor-returns-6 t) (factor-leaf-requires t) (factor-returns-7 t))
-    (λ t. latch-lts.spec (latch-calls t) (latch-at t) latch.Post (latch-expect-requires t) (latch-add-sum t) (latch-sum-requires t) (latch-expect-requires-2 t) (latch-add-sum-2 t) (latch-sum-requires-2 t) (latch-expect-requires-3 t) (latch-put-requires t) (latch-returns t))
-    (λ t. product-lts.spec (product-calls t) (product-at t) product.Post (product-factor-requires t) (product-products-requires t) (product-returns t))
-    (λ t. products-lts.spec (products-calls t) (products-at t) products.Post (products-next-requires t) (products-add-moved t) (products-moved-requires t) (products-factor-requires t) (products-put-requires t) (products-products-requires t) (products-returns t) (products-returns-2 t))
+    (λ t. factor-lts.spec (factor-calls t) (factor-at t) factor.Post (λ c κs. search needs) (λ c κs. search needs) (factor-add-moved t)
+    (λ c κs. search needs) (factor-add-factor t) (factor-factor-requires t) (factor-put-requires t) (factor-returns t) (factor-add-moved-2 t)
+    (λ c κs. search needs) (factor-add-sum t) (factor-sum-requires t) (λ c κs. omega arith) (factor-returns-2 t) (factor-add-moved-3 t)
+    (λ c κs. search needs) (λ c κs. omega arith) (factor-latch-requires t) (factor-returns-3 t) (factor-add-moved-4 t) (λ c κs. search needs)
+    (λ c κs. omega arith) (factor-latch-requires-2 t) (factor-returns-4 t) (factor-add-moved-5 t) (λ c κs. search needs) (λ c κs. omega arith)
+    (λ c κs. search needs) (factor-add-moved-6 t) (λ c κs. search needs) (factor-timer-requires t) (factor-returns-5 t) (λ c κs. omega arith)
+    (factor-timer-requires-2 t) (factor-returns-6 t) (factor-leaf-requires t) (factor-returns-7 t))
+    (λ t. latch-lts.spec (latch-calls t) (latch-at t) latch.Post (λ c κs. omega arith) (latch-add-sum t) (latch-sum-requires t) (λ c κs. omega arith)
+    (latch-add-sum-2 t) (latch-sum-requires-2 t) (λ c κs. omega arith) (latch-put-requires t) (latch-returns t))
+    (λ t. product-lts.spec (product-calls t) (product-at t) product.Post (product-factor-requires t) (product-products-requires t)
+    (product-returns t))
+    (λ t. products-lts.spec (products-calls t) (products-at t) products.Post (λ c κs. search needs) (products-add-moved t) (λ c κs. search needs)
+    (products-factor-requires t) (products-put-requires t) (products-products-requires t) (products-returns t) (products-returns-2 t))
     (λ t. sum-lts.spec (sum-calls t) (sum-at t) sum.Post (sum-product-requires t) (sum-sums-requires t) (sum-returns t))
-    (λ t. sums-lts.spec (sums-calls t) (sums-at t) sums.Post (sums-next-requires t) (sums-add-moved t) (sums-moved-requires t) (sums-product-requires t) (sums-put-requires t) (sums-sums-requires t) (sums-returns t) (sums-returns-2 t))
-    (λ t. timer-lts.spec (timer-calls t) (timer-at t) timer.Post (timer-expect-requires t) (timer-pass-length-requires t) (timer-ticks-requires t) (timer-expect-requires-2 t) (timer-add-sum t) (timer-sum-requires t) (timer-expect-requires-3 t) (timer-mul-put t) (timer-add-put t) (timer-put-requires t) (timer-returns t))
+    (λ t. sums-lts.spec (sums-calls t) (sums-at t) sums.Post (λ c κs. search needs) (sums-add-moved t) (λ c κs. search needs)
+    (sums-product-requires t) (sums-put-requires t) (sums-sums-requires t) (sums-returns t) (sums-returns-2 t))
+    (λ t. timer-lts.spec (timer-calls t) (timer-at t) timer.Post (λ c κs. omega arith) (timer-pass-length-requires t) (timer-ticks-requires t)
+    (λ c κs. omega arith) (timer-add-sum t) (timer-sum-requires t) (λ c κs. omega arith) (timer-mul-put t) (timer-add-put t) (timer-put-requires t)
+    (timer-returns t))
