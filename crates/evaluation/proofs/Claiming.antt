@@ -56,7 +56,7 @@ by-one f g v e n = let m : g ≡ 0 → ⊥ = λ z. n (sym e ∙ z) in rw (ne-eqb
 -- two lists compared
 pub compared : (sheet : List ℕ) → sheetFault sheet ≡ 0 → (t u : Tree) → listFault (exactOn sheet t) ≡ 0 → listFault (exactOn sheet u) ≡ 0
     → impliesOf (exactOn sheet t) (exactOn sheet u) ≡ claimVerdict sheet t u
-unfolding impliesOf claimVerdict laterLast questions.firstOf
+unfolding impliesOf claimVerdict laterLast firstOf
 compared sheet ok t u a b =
     let n = max (lastDate (exactOn sheet t)) (lastDate (exactOn sheet u)) in
     let m = max (settlingDate sheet t) (settlingDate sheet u) in
