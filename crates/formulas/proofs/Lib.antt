@@ -18,6 +18,6 @@ pub mod Marking
 pub mod Doing
 pub mod LeafPaths
 pub mod ReaderPaths
-pub mod Chaining
+pub mod ReaderChains
 pub mod Storing
 pub mod WholeRead

@@ -3,12 +3,12 @@ use Prim.Native.Nat.{ℕ, _+_, _-_, _*_, _≤_, _<_}
 use native.Mathlib.Nat.{zero-add}
 use native.Mathlib.Omega.{arith}
 use mathlib.Core.Path.{_≡_, refl, sym, ap, _∙_}
-use mathlib.Core.Bool.{Bool, true, false, not, _||_}
+use mathlib.Core.Bool.{Bool, true, false, not, _||_, cond}
 use mathlib.Core.List.{List, [], _∷_, _++_, append-assoc, append-nil}
 use lib.Dec.{leb, ltb}
 use lib.ListN.{length, take, drop, length-append, length-drop}
 use lib.Seq.{length-take-le}
-use borrow.Author.Tests.{ltb-false, le-ltb, lt-ltb, le-leb, lt-leb, leb-false, ne-eqb, eq-eqb}
+use borrow.Author.Tests.{ltb-false, le-leb, lt-leb, leb-false, ne-eqb, eq-eqb}
 use Rattle.signals.specs.Words.{listFault}
 use Rattle.signals.specs.Answers.{writtenOf, outputOf}
 use Rattle.signals.specs.declared.Written.the-variants.{Count, Refused}
@@ -80,6 +80,12 @@ module _ (sheet : List ℕ) (b : Bytes sheet) (z : sheetFault sheet ≡ 0) where
       ap length (appended-as name list)
       ∙ simp (length-append, f, two, length-drop, length-entry name list h) (omega arith)
 
+-- a new name for a sheet without a fault
+pub record Fresh (sheet name : List ℕ) : Type 0 where
+  pub fine : sheetFault sheet ≡ 0
+  pub named : wellNamed name ≡ true
+  pub new : among name (names (signalsOn sheet)) ≡ false
+
 -- the cases of its faults
 module _ (sheet name list : List ℕ) (room : ℕ) where
   pub append-sheet : (sheetFault sheet ≡ 0 → ⊥) → sheetFault sheet ≡ appendFault sheet name list room
@@ -91,34 +97,25 @@ module _ (sheet name list : List ℕ) (room : ℕ) where
     unfolding appendFault firstOf
     append-malformed f = rw (eq-eqb _ _ z, f)
 
-    module _ (t : wellNamed name ≡ true) (k : Bool) (ke : k ≡ among name (names (signalsOn sheet))) where
-      pub append-repeated : k ≡ true → appendFault sheet name list room ≡ 16
+    pub append-repeated : wellNamed name ≡ true → among name (names (signalsOn sheet)) ≡ true → appendFault sheet name list room ≡ 16
+    unfolding appendFault firstOf
+    append-repeated t k = rw (eq-eqb _ _ z, t, k)
+
+  module _ (f : Fresh sheet name) where
+    pub append-list : (l : ℕ) → l ≡ listFault list → (l ≡ 0 → ⊥) → l ≡ appendFault sheet name list room
+    unfolding appendFault firstOf
+    append-list l le n = sym (rw (eq-eqb _ _ (f .fine), f .named, f .new, ← le, ne-eqb _ _ n))
+
+    module _ (m : listFault list ≡ 0) (n : ℕ) (ne : n ≡ countOn sheet) where
+      pub append-full : 32 ≤ n → appendFault sheet name list room ≡ 15
       unfolding appendFault firstOf
-      append-repeated u = rw (eq-eqb _ _ z, t, ← ke, u)
+      append-full p = rw (eq-eqb _ _ (f .fine), f .named, f .new, eq-eqb _ _ m, length-on sheet, ← ne, le-leb _ _ p)
 
-      module _ (u : k ≡ false) (l : ℕ) (le : l ≡ listFault list) where
-        pub append-list : (l ≡ 0 → ⊥) → l ≡ appendFault sheet name list room
-        unfolding appendFault firstOf
-        append-list n = sym (rw (eq-eqb _ _ z, t, ← ke, u, ← le, ne-eqb _ _ n))
-
-        module _ (m : l ≡ 0) (n : ℕ) (ne : n ≡ countOn sheet) where
-          pub append-full : 32 ≤ n → appendFault sheet name list room ≡ 15
-          unfolding appendFault firstOf
-          append-full p = rw (eq-eqb _ _ z, t, ← ke, u, ← le, eq-eqb _ _ m, length-on sheet, ← ne, le-leb _ _ p)
-
-          module _ (q : n < 32) (b : Bytes sheet) where
-            size : length (appended sheet name list) ≡ length sheet + (10 + 4 * length list)
-            size = length-appended sheet b z name list (named-short name t)
-
-            pub append-short : room < length sheet + (10 + 4 * length list) → appendFault sheet name list room ≡ 7
-            unfolding appendFault firstOf
-            append-short p =
-                rw (eq-eqb _ _ z, t, ← ke, u, ← le, eq-eqb _ _ m, length-on sheet, ← ne, lt-leb _ _ q, size, lt-ltb _ _ p)
-
-            pub append-fine : length sheet + (10 + 4 * length list) ≤ room → appendFault sheet name list room ≡ 0
-            unfolding appendFault firstOf
-            append-fine p =
-                rw (eq-eqb _ _ z, t, ← ke, u, ← le, eq-eqb _ _ m, length-on sheet, ← ne, lt-leb _ _ q, size, le-ltb _ _ p)
+      pub append-sized : n < 32 → Bytes sheet → appendFault sheet name list room ≡ cond (ltb room (length sheet + (10 + 4 * length list))) 7 0
+      unfolding appendFault firstOf
+      append-sized q b =
+          rw (eq-eqb _ _ (f .fine), f .named, f .new, eq-eqb _ _ m, length-on sheet, ← ne, lt-leb _ _ q, length-appended sheet b (f .fine) name list (named-short name (f .named)))
+          refl
 
 -- an appending that has no fault
 pub record Appends (sheet name list : List ℕ) (room : ℕ) : Type 0 where

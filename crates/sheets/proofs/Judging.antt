@@ -49,13 +49,15 @@ module _ (s : List ℕ) where
           front-no-count p = rw (le-ltb _ _ p3, ← me, t, le-ltb _ _ p5, ← ve, eq-eqb _ _ o, lt-ltb _ _ p)
 
           module _ (p7 : 7 ≤ length s) (n : ℕ) (ne : n ≡ low16 (drop 5 s)) where
-            pub front-many : 32 < n → frontFault s ≡ 15
+            pub front-counted : frontFault s ≡ cond (ltb 32 n) 15 0
             unfolding frontFault
-            front-many p = rw (le-ltb _ _ p3, ← me, t, le-ltb _ _ p5, ← ve, eq-eqb _ _ o, le-ltb _ _ p7, ← ne, lt-ltb _ _ p)
+            front-counted = rw (le-ltb _ _ p3, ← me, t, le-ltb _ _ p5, ← ve, eq-eqb _ _ o, le-ltb _ _ p7, ← ne) refl
+
+            pub front-many : 32 < n → frontFault s ≡ 15
+            front-many p = front-counted ∙ rw (lt-ltb _ _ p) refl
 
             pub front-fine : n ≤ 32 → frontFault s ≡ 0
-            unfolding frontFault
-            front-fine p = rw (le-ltb _ _ p3, ← me, t, le-ltb _ _ p5, ← ve, eq-eqb _ _ o, le-ltb _ _ p7, ← ne, le-ltb _ _ p)
+            front-fine p = front-counted ∙ rw (le-ltb _ _ p) refl
 
 -- one signal at a place, test after test
 module _ (earlier : List (List ℕ)) (s : List ℕ) (at : ℕ) where

@@ -22,10 +22,12 @@ pub low16-at : (s : List ℕ) (at : ℕ) → low16 (drop at s) ≡ getD s at 0 +
 unfolding low16
 low16-at s at = simp (getD-drop, add-zero)
 
-pub low32-at : (s : List ℕ) (at : ℕ)
-    → low32 (drop at s) ≡ getD s at 0 + 256 * getD s (at + 1) 0 + 65536 * getD s (at + 2) 0 + 16777216 * getD s (at + 3) 0
-unfolding low32
-low32-at s at = simp (getD-drop, add-zero)
+-- a word is its low and its high half
+pub low32-halves : (s : List ℕ) (at : ℕ) → low32 (drop at s) ≡ low16 (drop at s) + 65536 * low16 (drop (at + 2) s)
+unfolding low16 low32
+low32-halves s at =
+    let e : at + 2 + 1 ≡ at + 3 = omega arith in
+    simp (getD-drop, add-zero, e) (omega arith)
 
 -- a word changes nothing, by its two values
 pub unchanged : (before at after : Bool) (w : ℕ) → at ≡ valueAt w → after ≡ valueAfter w

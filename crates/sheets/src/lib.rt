@@ -143,10 +143,7 @@ fn read32(s: &[u8], at: usize) -> u32
     requires { ⌜ at + 4 ≤ length (now s) ⌝ }
     ensures { λ r. ⌜ r ≡ low32 (drop at (now (s .entry))) ⌝ }
 {
-    (s[at] as u32)
-        + 256 * (s[at + 1] as u32)
-        + 65536 * (s[at + 2] as u32)
-        + 16777216 * (s[at + 3] as u32)
+    read16(s, at) as u32 + 65536 * (read16(s, at + 2) as u32)
 }
 
 // The name field of the signal at a place.

@@ -2,10 +2,19 @@
 use Rattle.sheets.proofs.Accepting.{listed-some}
 use borrow.Author.Needs.{needs}
 use native.Mathlib.Omega.{arith}
-use mathlib.Core.Path.{sym, _∙_}
+use Prim.Native.Nat.{_+_, _*_}
+use mathlib.Core.Path.{_≡_, refl, sym, _∙_}
+use mathlib.Core.Bool.{true, cond}
+use lib.Dec.{ltb}
+use lib.ListN.{length}
+use borrow.Author.Tests.{lt-ltb, le-ltb}
+use Rattle.signals.specs.Words.{listFault}
+use Rattle.sheets.specs.Names.{among, wellNamed}
+use Rattle.sheets.specs.Reading.{sheetFault, countOn, signalsOn, names}
+use Rattle.sheets.specs.Calls.{appendFault}
 use denote.Ref.{now}
 use Rattle.sheets.proofs.Locating.{count-is, front-none, sheet-whole}
-use Rattle.sheets.proofs.Appending.{known-on, append-sheet, append-malformed, append-repeated, append-list, append-full, append-short, append-fine}
+use Rattle.sheets.proofs.Appending.{Fresh, known-on, append-sheet, append-malformed, append-repeated, append-list, append-full, append-sized}
 use Rattle.sheets.proofs.append_fault.Statement.{statement}
 use Rattle.sheets.proofs.append_fault.Tie as tie
 
@@ -18,60 +27,53 @@ returns c =
     let sheet-fault = c .before .sheet-fault in
     sheet-fault .ensures ∙ append-sheet (now (args .sheet)) (now (args .name)) (now (args .list)) (args .room) (λ e. c .if1 .taken (sheet-fault .ensures ∙ e))
 
+-- what is known at a place
+whole : (c : tie.Else1) → sheetFault (c .before .before .before .before .before .args .sheet .now) ≡ 0
+whole c = sym (c .before .sheet-fault .ensures) ∙ c .if1 .left
+
 read16-requires : tie.Need-read16-requires
-read16-requires c κs = front-none (now (c .before .before .before .before .before .args .sheet)) (sym (c .before .sheet-fault .ensures) ∙ c .if1 .left) .room
+read16-requires c κs = front-none (now (c .before .before .before .before .before .args .sheet)) (whole c) .room
 
 well-named-requires : tie.Need-well-named-requires
 well-named-requires c κs = search needs
 
+counted : (c : tie.After-read16) → c .read16 .result ≡ countOn (c .before .before .before .before .before .before .args .sheet .now)
+counted c = count-is (c .before .before .before .before .before .before .args .sheet .now) (c .read16 .result) (c .read16 .ensures .0)
+
+named : (c : tie.Then2) → wellNamed (c .before .before .before .before .before .before .before .before .args .name .now) ≡ true
+named c = sym (c .before .well-named .ensures) ∙ c .if2 .taken
+
+known : (c : tie.After-known) → c .known .result ≡ among (c .before .before .before .before .before .before .before .before .before .args .name .now) (names (signalsOn (c .before .before .before .before .before .before .before .before .before .args .sheet .now)))
+known c = known-on (c .before .before .before .before .before .before .before .before .before .args .sheet .now) (c .before .before .before .before .before .before .before .before .before .args .name .now) _ (counted (c .before .before .before)) (c .known .ensures)
+
+fresh : (c : tie.Else3) → Fresh (c .before .before .before .before .before .before .before .before .before .before .args .sheet .now) (c .before .before .before .before .before .before .before .before .before .before .args .name .now)
+fresh c = record { fine = whole (c .before .before .before .before .before); named = named (c .before .before); new = sym (known (c .before)) ∙ c .if3 .left }
+
+listed : (c : tie.Else4) → listFault (c .before .before .before .before .before .before .before .before .before .before .before .before .args .list .now) ≡ 0
+listed c = sym (c .before .list-fault .ensures) ∙ c .if4 .left
+
 known-requires : tie.Need-known-requires
 known-requires c κs =
-    let args = c .before .before .before .before .before .before .before .before .args in
-    let sheet-fault = c .before .before .before .before .sheet-fault in
-    let if1 = c .before .before .before .if1 in
-    let read16 = c .before .before .read16 in
-    (front-none (now (args .sheet)) (sym (sheet-fault .ensures) ∙ if1 .left) .room, rw (count-is (now (args .sheet)) (read16 .result) (read16 .ensures .0)) (sheet-whole (now (args .sheet)) (sym (sheet-fault .ensures) ∙ if1 .left)))
+    let sheet = c .before .before .before .before .before .before .before .before .args .sheet .now in
+    (front-none sheet (whole (c .before .before .before)) .room, rw (counted (c .before .before)) (sheet-whole sheet (whole (c .before .before .before))))
 
 returns-2 : tie.Need-returns-2
 returns-2 c =
-    let args = c .before .before .before .before .before .before .before .before .before .before .args in
-    let sheet-fault = c .before .before .before .before .before .before .sheet-fault in
-    let if1 = c .before .before .before .before .before .if1 in
-    let read16 = c .before .before .before .before .read16 in
-    let well-named = c .before .before .before .well-named in
-    let if2 = c .before .before .if2 in
-    let known = c .before .known in
-    sym (append-repeated (now (args .sheet)) (now (args .name)) (now (args .list)) (args .room) (sym (sheet-fault .ensures) ∙ if1 .left) (sym (well-named .ensures) ∙ if2 .taken) (known .result) (known-on (now (args .sheet)) (now (args .name)) (read16 .result) (count-is (now (args .sheet)) (read16 .result) (read16 .ensures .0)) (known .ensures)) (c .if3 .taken))
+    let a = c .before .before .before .before .before .before .before .before .before .before .args in
+    sym (append-repeated (now (a .sheet)) (now (a .name)) (now (a .list)) (a .room) (whole (c .before .before .before .before .before)) (named (c .before .before)) (sym (known (c .before)) ∙ c .if3 .taken))
 
 list-fault-requires : tie.Need-list-fault-requires
 list-fault-requires c κs = search needs
 
 returns-3 : tie.Need-returns-3
 returns-3 c =
-    let args = c .before .before .before .before .before .before .before .before .before .before .before .before .args in
-    let sheet-fault = c .before .before .before .before .before .before .before .before .sheet-fault in
-    let if1 = c .before .before .before .before .before .before .before .if1 in
-    let read16 = c .before .before .before .before .before .before .read16 in
-    let well-named = c .before .before .before .before .before .well-named in
-    let if2 = c .before .before .before .before .if2 in
-    let known = c .before .before .before .known in
-    let if3 = c .before .before .if3 in
-    let list-fault = c .before .list-fault in
-    append-list (now (args .sheet)) (now (args .name)) (now (args .list)) (args .room) (sym (sheet-fault .ensures) ∙ if1 .left) (sym (well-named .ensures) ∙ if2 .taken) (known .result) (known-on (now (args .sheet)) (now (args .name)) (read16 .result) (count-is (now (args .sheet)) (read16 .result) (read16 .ensures .0)) (known .ensures)) (if3 .left) (list-fault .result) (list-fault .ensures) (c .if4 .taken)
+    let a = c .before .before .before .before .before .before .before .before .before .before .before .before .args in
+    append-list (now (a .sheet)) (now (a .name)) (now (a .list)) (a .room) (fresh (c .before .before)) (c .before .list-fault .result) (c .before .list-fault .ensures) (c .if4 .taken)
 
 returns-4 : tie.Need-returns-4
 returns-4 c =
-    let args = c .before .before .before .before .before .before .before .before .before .before .before .before .before .args in
-    let sheet-fault = c .before .before .before .before .before .before .before .before .before .sheet-fault in
-    let if1 = c .before .before .before .before .before .before .before .before .if1 in
-    let read16 = c .before .before .before .before .before .before .before .read16 in
-    let well-named = c .before .before .before .before .before .before .well-named in
-    let if2 = c .before .before .before .before .before .if2 in
-    let known = c .before .before .before .before .known in
-    let if3 = c .before .before .before .if3 in
-    let list-fault = c .before .before .list-fault in
-    let if4 = c .before .if4 in
-    sym (append-full (now (args .sheet)) (now (args .name)) (now (args .list)) (args .room) (sym (sheet-fault .ensures) ∙ if1 .left) (sym (well-named .ensures) ∙ if2 .taken) (known .result) (known-on (now (args .sheet)) (now (args .name)) (read16 .result) (count-is (now (args .sheet)) (read16 .result) (read16 .ensures .0)) (known .ensures)) (if3 .left) (list-fault .result) (list-fault .ensures) (if4 .left) (read16 .result) (count-is (now (args .sheet)) (read16 .result) (read16 .ensures .0)) (c .if5 .taken))
+    let a = c .before .before .before .before .before .before .before .before .before .before .before .before .before .args in
+    sym (append-full (now (a .sheet)) (now (a .name)) (now (a .list)) (a .room) (fresh (c .before .before .before)) (listed (c .before)) _ (counted (c .before .before .before .before .before .before .before)) (c .if5 .taken))
 
 mul-if6 : tie.Need-mul-if6
 mul-if6 c = search needs
@@ -80,47 +82,29 @@ add-if6 : tie.Need-add-if6
 add-if6 c = search needs
 
 add-if6-2 : tie.Need-add-if6-2
-add-if6-2 c = omega (arith, listed-some (now (c .before .before .before .before .before .before .before .before .before .before .before .before .before .args .list)) (sym (c .before .before .list-fault .ensures) ∙ c .before .if4 .left) .1)
+add-if6-2 c = omega (arith, listed-some (now (c .before .before .before .before .before .before .before .before .before .before .before .before .before .args .list)) (listed (c .before)) .1)
+
+abbrev start : tie.Else5 → tie.Start
+start c = c .before .before .before .before .before .before .before .before .before .before .before .before .before
+
+-- a list without a fault, and fewer than 32 signals: the room alone decides
+sized : (c : tie.Else5) → appendFault (start c .args .sheet .now) (start c .args .name .now) (start c .args .list .now) (start c .args .room)
+    ≡ cond (ltb (start c .args .room) (length (start c .args .sheet .now) + (10 + 4 * length (start c .args .list .now)))) 7 0
+sized c =
+    let a = start c .args in
+    append-sized (now (a .sheet)) (now (a .name)) (now (a .list)) (a .room) (fresh (c .before .before .before)) (listed (c .before)) _ (counted (c .before .before .before .before .before .before .before)) (c .if5 .left)
+    (λ i. omega (arith, c .before .before .before .before .before .before .before .before .before .before .before .before .shared-slice-known .given i))
 
 returns-5 : tie.Need-returns-5
-returns-5 c =
-    let args = c .before .before .before .before .before .before .before .before .before .before .before .before .before .before .args in
-    let shared-slice-known = c .before .before .before .before .before .before .before .before .before .before .before .before .before .shared-slice-known in
-    let sheet-fault = c .before .before .before .before .before .before .before .before .before .before .sheet-fault in
-    let if1 = c .before .before .before .before .before .before .before .before .before .if1 in
-    let read16 = c .before .before .before .before .before .before .before .before .read16 in
-    let well-named = c .before .before .before .before .before .before .before .well-named in
-    let if2 = c .before .before .before .before .before .before .if2 in
-    let known = c .before .before .before .before .before .known in
-    let if3 = c .before .before .before .before .if3 in
-    let list-fault = c .before .before .before .list-fault in
-    let if4 = c .before .before .if4 in
-    let if5 = c .before .if5 in
-    sym (append-short (now (args .sheet)) (now (args .name)) (now (args .list)) (args .room) (sym (sheet-fault .ensures) ∙ if1 .left) (sym (well-named .ensures) ∙ if2 .taken) (known .result) (known-on (now (args .sheet)) (now (args .name)) (read16 .result) (count-is (now (args .sheet)) (read16 .result) (read16 .ensures .0)) (known .ensures)) (if3 .left) (list-fault .result) (list-fault .ensures) (if4 .left) (read16 .result) (count-is (now (args .sheet)) (read16 .result) (read16 .ensures .0)) (if5 .left) (λ i. omega (arith, shared-slice-known .given i)) (c .if6 .taken))
+returns-5 c = sym (sized (c .before) ∙ rw (lt-ltb _ _ (c .if6 .taken)) refl)
 
 returns-6 : tie.Need-returns-6
-returns-6 c =
-    let args = c .before .before .before .before .before .before .before .before .before .before .before .before .before .before .args in
-    let shared-slice-known = c .before .before .before .before .before .before .before .before .before .before .before .before .before .shared-slice-known in
-    let sheet-fault = c .before .before .before .before .before .before .before .before .before .before .sheet-fault in
-    let if1 = c .before .before .before .before .before .before .before .before .before .if1 in
-    let read16 = c .before .before .before .before .before .before .before .before .read16 in
-    let well-named = c .before .before .before .before .before .before .before .well-named in
-    let if2 = c .before .before .before .before .before .before .if2 in
-    let known = c .before .before .before .before .before .known in
-    let if3 = c .before .before .before .before .if3 in
-    let list-fault = c .before .before .before .list-fault in
-    let if4 = c .before .before .if4 in
-    let if5 = c .before .if5 in
-    sym (append-fine (now (args .sheet)) (now (args .name)) (now (args .list)) (args .room) (sym (sheet-fault .ensures) ∙ if1 .left) (sym (well-named .ensures) ∙ if2 .taken) (known .result) (known-on (now (args .sheet)) (now (args .name)) (read16 .result) (count-is (now (args .sheet)) (read16 .result) (read16 .ensures .0)) (known .ensures)) (if3 .left) (list-fault .result) (list-fault .ensures) (if4 .left) (read16 .result) (count-is (now (args .sheet)) (read16 .result) (read16 .ensures .0)) (if5 .left) (λ i. omega (arith, shared-slice-known .given i)) (c .if6 .left))
+returns-6 c = sym (sized (c .before) ∙ rw (le-ltb _ _ (c .if6 .left)) refl)
 
 returns-7 : tie.Need-returns-7
 returns-7 c =
-    let args = c .before .before .before .before .before .before .before .before .args in
-    let sheet-fault = c .before .before .before .before .sheet-fault in
-    let if1 = c .before .before .before .if1 in
-    let well-named = c .before .well-named in
-    sym (append-malformed (now (args .sheet)) (now (args .name)) (now (args .list)) (args .room) (sym (sheet-fault .ensures) ∙ if1 .left) (sym (well-named .ensures) ∙ c .if2 .left))
+    let a = c .before .before .before .before .before .before .before .before .args in
+    sym (append-malformed (now (a .sheet)) (now (a .name)) (now (a .list)) (a .room) (whole (c .before .before .before)) (sym (c .before .well-named .ensures) ∙ c .if2 .left))
 
 pub append-fault-spec : {M : Type 1} → statement M
 append-fault-spec =

@@ -1,9 +1,13 @@
 -- `sheets::front_fault` meets its contract: the tests that led to each return say which case of the definition holds.
 use borrow.Author.Needs.{needs}
-use mathlib.Core.Path.{sym}
+use mathlib.Core.Path.{_≡_, refl, sym, _∙_}
+use mathlib.Core.Bool.{cond}
+use lib.Dec.{ltb}
+use borrow.Author.Tests.{lt-ltb, le-ltb}
+use Rattle.sheets.specs.Reading.{frontFault}
 use denote.Ref.{now}
 use lib.Seq.{length-take-le}
-use Rattle.sheets.proofs.Judging.{front-short, front-mark, front-cut, front-version, front-no-count, front-many, front-fine}
+use Rattle.sheets.proofs.Judging.{front-short, front-mark, front-cut, front-version, front-no-count, front-counted}
 use Rattle.sheets.proofs.front_fault.Statement.{statement}
 use Rattle.sheets.proofs.front_fault.Tie as tie
 
@@ -54,31 +58,19 @@ returns-4 c =
 read16-requires-2 : tie.Need-read16-requires-2
 read16-requires-2 c κs = search needs
 
+-- the count was read: it alone decides
+counted : (c : tie.After-read162) → frontFault (c .before .before .before .before .before .before .before .before .before .before .before .args .sheet .now) ≡ cond (ltb 32 (c .read162 .result)) 15 0
+counted c =
+    let alike = c .before .before .before .before .before .before .alike in
+    let read16 = c .before .before .before .read16 in
+    front-counted (now (c .before .before .before .before .before .before .before .before .before .before .before .args .sheet)) (c .before .before .before .before .before .before .before .before .before .if1 .left) (alike .result) (alike .ensures) (c .before .before .before .before .before .if2 .taken) (c .before .before .before .before .if3 .left)
+    (read16 .result) (read16 .ensures .0) (c .before .before .if4 .left) (c .before .if5 .left) (c .read162 .result) (c .read162 .ensures .0)
+
 returns-5 : tie.Need-returns-5
-returns-5 c =
-    let args = c .before .before .before .before .before .before .before .before .before .before .before .before .args in
-    let if1 = c .before .before .before .before .before .before .before .before .before .before .if1 in
-    let alike = c .before .before .before .before .before .before .before .alike in
-    let if2 = c .before .before .before .before .before .before .if2 in
-    let if3 = c .before .before .before .before .before .if3 in
-    let read16 = c .before .before .before .before .read16 in
-    let if4 = c .before .before .before .if4 in
-    let if5 = c .before .before .if5 in
-    let read162 = c .before .read162 in
-    sym (front-many (now (args .sheet)) (if1 .left) (alike .result) (alike .ensures) (if2 .taken) (if3 .left) (read16 .result) (read16 .ensures .0) (if4 .left) (if5 .left) (read162 .result) (read162 .ensures .0) (c .if6 .taken))
+returns-5 c = sym (counted (c .before) ∙ rw (lt-ltb _ _ (c .if6 .taken)) refl)
 
 returns-6 : tie.Need-returns-6
-returns-6 c =
-    let args = c .before .before .before .before .before .before .before .before .before .before .before .before .args in
-    let if1 = c .before .before .before .before .before .before .before .before .before .before .if1 in
-    let alike = c .before .before .before .before .before .before .before .alike in
-    let if2 = c .before .before .before .before .before .before .if2 in
-    let if3 = c .before .before .before .before .before .if3 in
-    let read16 = c .before .before .before .before .read16 in
-    let if4 = c .before .before .before .if4 in
-    let if5 = c .before .before .if5 in
-    let read162 = c .before .read162 in
-    sym (front-fine (now (args .sheet)) (if1 .left) (alike .result) (alike .ensures) (if2 .taken) (if3 .left) (read16 .result) (read16 .ensures .0) (if4 .left) (if5 .left) (read162 .result) (read162 .ensures .0) (c .if6 .left))
+returns-6 c = sym (counted (c .before) ∙ rw (le-ltb _ _ (c .if6 .left)) refl)
 
 returns-7 : tie.Need-returns-7
 returns-7 c =

@@ -1,86 +1,36 @@
 -- `sheets::read32` meets its contract.
 use borrow.Author.Needs.{needs}
 use native.Mathlib.Omega.{arith}
-use Prim.Native.Nat.{_+_}
-use mathlib.Core.Path.{sym}
 use denote.Ref.{now}
-use Rattle.sheets.proofs.Walking.{low32-at}
+use Rattle.sheets.proofs.Walking.{low32-halves}
 use Rattle.sheets.proofs.read32.Statement.{statement}
 use Rattle.sheets.proofs.read32.Tie as tie
 
-shared-slice-read-result : tie.Need-shared-slice-read-result
-shared-slice-read-result c = search needs
+read16-requires : tie.Need-read16-requires
+read16-requires c κs = search needs
 
 cast-result : tie.Need-cast-result
-cast-result c = omega (arith, c .shared-slice-known .given (c .before .args .at), c .shared-slice-known .given (c .before .args .at + 1), c .shared-slice-known .given (c .before .args .at + 2), c .shared-slice-known .given (c .before .args .at + 3))
+cast-result c = search needs
+
+add-read16 : tie.Need-add-read16
+add-read16 c = search needs
+
+read16-requires-2 : tie.Need-read16-requires-2
+read16-requires-2 c κs = search needs
+
+cast-result-2 : tie.Need-cast-result-2
+cast-result-2 c = search needs
+
+mul-result : tie.Need-mul-result
+mul-result c = search needs
 
 add-result : tie.Need-add-result
 add-result c = search needs
 
-shared-slice-read-result-2 : tie.Need-shared-slice-read-result-2
-shared-slice-read-result-2 c = search needs
-
-cast-result-2 : tie.Need-cast-result-2
-cast-result-2 c = omega (arith, c .shared-slice-known2 .given (c .before .before .args .at), c .shared-slice-known2 .given (c .before .before .args .at + 1), c .shared-slice-known2 .given (c .before .before .args .at + 2), c .shared-slice-known2 .given (c .before .before .args .at + 3))
-
-mul-result : tie.Need-mul-result
-mul-result c = omega (arith, c .shared-slice-known2 .given (c .before .before .args .at), c .shared-slice-known2 .given (c .before .before .args .at + 1), c .shared-slice-known2 .given (c .before .before .args .at + 2), c .shared-slice-known2 .given (c .before .before .args .at + 3))
-
-add-result-2 : tie.Need-add-result-2
-add-result-2 c = omega (arith, c .shared-slice-known2 .given (c .before .before .args .at), c .shared-slice-known2 .given (c .before .before .args .at + 1), c .shared-slice-known2 .given (c .before .before .args .at + 2), c .shared-slice-known2 .given (c .before .before .args .at + 3))
-
-add-result-3 : tie.Need-add-result-3
-add-result-3 c = search needs
-
-shared-slice-read-result-3 : tie.Need-shared-slice-read-result-3
-shared-slice-read-result-3 c = search needs
-
-cast-result-3 : tie.Need-cast-result-3
-cast-result-3 c = omega (arith, c .shared-slice-known3 .given (c .before .before .before .args .at), c .shared-slice-known3 .given (c .before .before .before .args .at + 1), c .shared-slice-known3 .given (c .before .before .before .args .at + 2), c .shared-slice-known3 .given (c .before .before .before .args .at + 3))
-
-mul-result-2 : tie.Need-mul-result-2
-mul-result-2 c = omega (arith, c .shared-slice-known3 .given (c .before .before .before .args .at), c .shared-slice-known3 .given (c .before .before .before .args .at + 1), c .shared-slice-known3 .given (c .before .before .before .args .at + 2), c .shared-slice-known3 .given (c .before .before .before .args .at + 3))
-
-add-result-4 : tie.Need-add-result-4
-add-result-4 c = omega (arith, c .shared-slice-known3 .given (c .before .before .before .args .at), c .shared-slice-known3 .given (c .before .before .before .args .at + 1), c .shared-slice-known3 .given (c .before .before .before .args .at + 2), c .shared-slice-known3 .given (c .before .before .before .args .at + 3))
-
-add-result-5 : tie.Need-add-result-5
-add-result-5 c = search needs
-
-shared-slice-read-result-4 : tie.Need-shared-slice-read-result-4
-shared-slice-read-result-4 c = search needs
-
-cast-result-4 : tie.Need-cast-result-4
-cast-result-4 c = omega (arith, c .shared-slice-known4 .given (c .before .before .before .before .args .at), c .shared-slice-known4 .given (c .before .before .before .before .args .at + 1), c .shared-slice-known4 .given (c .before .before .before .before .args .at + 2), c .shared-slice-known4 .given (c .before .before .before .before .args .at + 3))
-
-mul-result-3 : tie.Need-mul-result-3
-mul-result-3 c = omega (arith, c .shared-slice-known4 .given (c .before .before .before .before .args .at), c .shared-slice-known4 .given (c .before .before .before .before .args .at + 1), c .shared-slice-known4 .given (c .before .before .before .before .args .at + 2), c .shared-slice-known4 .given (c .before .before .before .before .args .at + 3))
-
-add-result-6 : tie.Need-add-result-6
-add-result-6 c = omega (arith, c .shared-slice-known4 .given (c .before .before .before .before .args .at), c .shared-slice-known4 .given (c .before .before .before .before .args .at + 1), c .shared-slice-known4 .given (c .before .before .before .before .args .at + 2), c .shared-slice-known4 .given (c .before .before .before .before .args .at + 3))
-
 returns : tie.Need-returns
-returns c = sym (low32-at (now (c .before .before .before .before .args .s)) (c .before .before .before .before .args .at))
+returns c =
+    let a = c .before .before .before .args in
+    omega (arith, low32-halves (now (a .s)) (a .at), c .before .read16 .ensures .0, c .read162 .ensures .0)
 
 pub read32-spec : {M : Type 1} → statement M
-read32-spec =
-    tie.close
-    (tie.spec
-    shared-slice-read-result
-    cast-result
-    add-result
-    shared-slice-read-result-2
-    cast-result-2
-    mul-result
-    add-result-2
-    add-result-3
-    shared-slice-read-result-3
-    cast-result-3
-    mul-result-2
-    add-result-4
-    add-result-5
-    shared-slice-read-result-4
-    cast-result-4
-    mul-result-3
-    add-result-6
-    returns)
+read32-spec = tie.close (tie.spec read16-requires cast-result add-read16 read16-requires-2 cast-result-2 mul-result add-result returns)

@@ -10,7 +10,7 @@ use Rattle.formulas.specs.declared.mark.Mark.{Mark}
 use Rattle.formulas.proofs.Marking.{capped-most}
 use Rattle.formulas.proofs.Doing.{passed, inner-needs}
 use Rattle.formulas.proofs.ReaderPaths as paths
-use Rattle.formulas.proofs.Chaining as chaining
+use Rattle.formulas.proofs.ReaderChains as chains
 use Rattle.formulas.proofs.Branches.{plus, times, sr-latch, rs-latch}
 use borrow.Fn.Kinds.{In}
 use borrow.Fn.PlainCycle.{Measures, is, falls, and}
@@ -277,13 +277,13 @@ latch-returns t c =
     (c .before .expect3 .ensures) (s .args .part) (c .put .ensures .1) (c .put .ensures .0)
 
 product-factor-requires : (t : ℕ) → product-lts.Need-factor-requires (product-calls t) (product-at t) product.Post
-product-factor-requires t c κs = chaining.first-needs times (c .before .before .pre .1) (c .before .before .pre .0)
+product-factor-requires t c κs = chains.first-needs times (c .before .before .pre .1) (c .before .before .pre .0)
 
 product-products-requires : (t : ℕ) → product-lts.Need-products-requires (product-calls t) (product-at t) product.Post
-product-products-requires t c κs = chaining.after-first times (c .before .before .before .before .pre .1) (c .before .before .before .before .pre .0) (c .before .factor .ensures)
+product-products-requires t c κs = chains.after-first times (c .before .before .before .before .pre .1) (c .before .before .before .before .pre .0) (c .before .factor .ensures)
 
 product-returns : (t : ℕ) → product-lts.Need-returns (product-calls t) (product-at t) product.Post
-product-returns t c = chaining.whole-path times (c .before .before .before .before .before .pre .1) (c .before .before .factor .ensures) (c .products .ensures)
+product-returns t c = chains.whole-path times (c .before .before .before .before .before .pre .1) (c .before .before .factor .ensures) (c .products .ensures)
 
 products-add-moved : (t : ℕ) → products-lts.Need-add-moved (products-calls t) (products-at t) products.Post
 products-add-moved t c = let g = c .before .before .before .before .pre .1 in omega (arith, g .within, g .short)
@@ -296,28 +296,28 @@ times-step : (t : ℕ) (c : products-lts.After-moved (products-calls t) (product
 times-step t c = paths.step (c .before .before .before .before .before .pre) (sym (c .before .before .before .next .ensures) ∙ c .before .before .if1 .taken) (omega arith) (c .moved .ensures)
 
 products-factor-requires : (t : ℕ) → products-lts.Need-factor-requires (products-calls t) (products-at t) products.Post
-products-factor-requires t c κs = chaining.operand-needs times (times-step t c)
+products-factor-requires t c κs = chains.operand-needs times (times-step t c)
 
 products-put-requires : (t : ℕ) → products-lts.Need-put-requires (products-calls t) (products-at t) products.Post
-products-put-requires t c κs = chaining.operator-needs times (times-step t (c .before .before)) (c .before .factor .ensures)
+products-put-requires t c κs = chains.operator-needs times (times-step t (c .before .before)) (c .before .factor .ensures)
 
 products-products-requires : (t : ℕ) → products-lts.Need-products-requires (products-calls t) (products-at t) products.Post
-products-products-requires t c κs = chaining.rest-needs times (times-step t (c .before .before .before .before)) (c .before .before .before .factor .ensures) (c .before .put .ensures)
+products-products-requires t c κs = chains.rest-needs times (times-step t (c .before .before .before .before)) (c .before .before .before .factor .ensures) (c .before .put .ensures)
 
 products-returns : (t : ℕ) → products-lts.Need-returns (products-calls t) (products-at t) products.Post
-products-returns t c = chaining.rest-path times (times-step t (c .before .before .before .before .before)) (c .before .before .before .before .factor .ensures) (c .before .before .put .ensures) (c .products .ensures)
+products-returns t c = chains.rest-path times (times-step t (c .before .before .before .before .before)) (c .before .before .before .before .factor .ensures) (c .before .before .put .ensures) (c .products .ensures)
 
 products-returns-2 : (t : ℕ) → products-lts.Need-returns-2 (products-calls t) (products-at t) products.Post
-products-returns-2 t c = chaining.rest-end times (c .before .before .before .pre .1) (ne-eqb _ _ (λ h. c .if1 .left (c .before .next .ensures ∙ h)))
+products-returns-2 t c = chains.rest-end times (c .before .before .before .pre .1) (ne-eqb _ _ (λ h. c .if1 .left (c .before .next .ensures ∙ h)))
 
 sum-product-requires : (t : ℕ) → sum-lts.Need-product-requires (sum-calls t) (sum-at t) sum.Post
-sum-product-requires t c κs = chaining.first-needs plus (c .before .before .pre .1) (c .before .before .pre .0)
+sum-product-requires t c κs = chains.first-needs plus (c .before .before .pre .1) (c .before .before .pre .0)
 
 sum-sums-requires : (t : ℕ) → sum-lts.Need-sums-requires (sum-calls t) (sum-at t) sum.Post
-sum-sums-requires t c κs = chaining.after-first plus (c .before .before .before .before .pre .1) (c .before .before .before .before .pre .0) (c .before .product .ensures)
+sum-sums-requires t c κs = chains.after-first plus (c .before .before .before .before .pre .1) (c .before .before .before .before .pre .0) (c .before .product .ensures)
 
 sum-returns : (t : ℕ) → sum-lts.Need-returns (sum-calls t) (sum-at t) sum.Post
-sum-returns t c = chaining.whole-path plus (c .before .before .before .before .before .pre .1) (c .before .before .product .ensures) (c .sums .ensures)
+sum-returns t c = chains.whole-path plus (c .before .before .before .before .before .pre .1) (c .before .before .product .ensures) (c .sums .ensures)
 
 sums-add-moved : (t : ℕ) → sums-lts.Need-add-moved (sums-calls t) (sums-at t) sums.Post
 sums-add-moved t c = let g = c .before .before .before .before .pre .1 in omega (arith, g .within, g .short)
@@ -330,19 +330,19 @@ plus-step : (t : ℕ) (c : sums-lts.After-moved (sums-calls t) (sums-at t) sums.
 plus-step t c = paths.step (c .before .before .before .before .before .pre) (sym (c .before .before .before .next .ensures) ∙ c .before .before .if1 .taken) (omega arith) (c .moved .ensures)
 
 sums-product-requires : (t : ℕ) → sums-lts.Need-product-requires (sums-calls t) (sums-at t) sums.Post
-sums-product-requires t c κs = chaining.operand-needs plus (plus-step t c)
+sums-product-requires t c κs = chains.operand-needs plus (plus-step t c)
 
 sums-put-requires : (t : ℕ) → sums-lts.Need-put-requires (sums-calls t) (sums-at t) sums.Post
-sums-put-requires t c κs = chaining.operator-needs plus (plus-step t (c .before .before)) (c .before .product .ensures)
+sums-put-requires t c κs = chains.operator-needs plus (plus-step t (c .before .before)) (c .before .product .ensures)
 
 sums-sums-requires : (t : ℕ) → sums-lts.Need-sums-requires (sums-calls t) (sums-at t) sums.Post
-sums-sums-requires t c κs = chaining.rest-needs plus (plus-step t (c .before .before .before .before)) (c .before .before .before .product .ensures) (c .before .put .ensures)
+sums-sums-requires t c κs = chains.rest-needs plus (plus-step t (c .before .before .before .before)) (c .before .before .before .product .ensures) (c .before .put .ensures)
 
 sums-returns : (t : ℕ) → sums-lts.Need-returns (sums-calls t) (sums-at t) sums.Post
-sums-returns t c = chaining.rest-path plus (plus-step t (c .before .before .before .before .before)) (c .before .before .before .before .product .ensures) (c .before .before .put .ensures) (c .sums .ensures)
+sums-returns t c = chains.rest-path plus (plus-step t (c .before .before .before .before .before)) (c .before .before .before .before .product .ensures) (c .before .before .put .ensures) (c .sums .ensures)
 
 sums-returns-2 : (t : ℕ) → sums-lts.Need-returns-2 (sums-calls t) (sums-at t) sums.Post
-sums-returns-2 t c = chaining.rest-end plus (c .before .before .before .pre .1) (ne-eqb _ _ (λ h. c .if1 .left (c .before .next .ensures ∙ h)))
+sums-returns-2 t c = chains.rest-end plus (c .before .before .before .pre .1) (ne-eqb _ _ (λ h. c .if1 .left (c .before .next .ensures ∙ h)))
 
 timer-pass-length-requires : (t : ℕ) → timer-lts.Need-pass-length-requires (timer-calls t) (timer-at t) timer.Post
 timer-pass-length-requires t c κs =
