@@ -17,7 +17,6 @@ use Rattle.signals.specs.declared.Verdict.{Verdict}
 use Rattle.signals.specs.declared.Verdict.the-variants.{Refused}
 use Rattle.signals.proofs.Settling.{settled-later}
 use Rattle.lists.specs.Questions.{impliesOf, laterLast}
-use Rattle.lists.specs.Questions as questions
 use Rattle.formulas.specs.Tree.{Tree}
 use Rattle.formulas.specs.Formula.{formulaTree}
 use Rattle.laws.specs.Rewriting.{parts}
