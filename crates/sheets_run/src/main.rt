@@ -4,6 +4,7 @@
 use signals::Written;
 
 mod faults;
+mod lines;
 mod many;
 
 fn mix(sum: u64, b: u8) -> u64 {
@@ -46,13 +47,6 @@ fn looked(label: &[u8], sheet: &[u8], name: &[u8]) {
     line_end();
 }
 
-// Looks a name up on the first n bytes.
-fn looked_to(label: &[u8], out: &[u8], n: usize, name: &[u8]) {
-    if n <= out.len() {
-        looked(label, &out[..n], name);
-    }
-}
-
 fn answered(label: &[u8], answer: Written, out: &[u8]) {
     io::write_all(1, label);
     match answer {
@@ -83,7 +77,7 @@ fn added(label: &[u8], sheet: &[u8], name: &[u8], list: &[u32], out: &mut [u8]) 
 fn cuts(sheet: &[u8]) {
     let mut n: usize = 0;
     while n <= sheet.len() {
-        checked(b"cut", &sheet[..n]);
+        checked(b"cut", &sheet[0..n]);
         n += 1;
     }
 }
@@ -99,7 +93,7 @@ fn begins() {
     begun(b"begin 9", &mut nine);
 }
 
-// Appends to an output of 80 bytes, and looks up there.
+// Appends to an output of 80 bytes.
 fn tried(label: &[u8], sheet: &[u8], name: &[u8], list: &[u32]) {
     let mut out = [7u8; 80];
     added(label, sheet, name, list, &mut out);
@@ -108,10 +102,8 @@ fn tried(label: &[u8], sheet: &[u8], name: &[u8], list: &[u32]) {
 fn there(pair: &[u8], list: &[u32]) {
     let mut out = [7u8; 80];
     added(b"append c", pair, b"c", list, &mut out);
-    looked_to(b"c there", &out, 65, b"c");
-    looked_to(b"a there", &out, 65, b"a");
-    looked_to(b"b2 there", &out, 65, b"b2");
-    looked_to(b"d there", &out, 65, b"d");
+    let sheet = &out[0..65];
+    lines::lookups(b"c there:c\na there:a\nb2 there:b2\nd there:d\n", sheet);
 }
 
 fn no_room(pair: &[u8], list: &[u32]) {
@@ -122,7 +114,7 @@ fn no_room(pair: &[u8], list: &[u32]) {
 fn just_room(pair: &[u8], list: &[u32]) {
     let mut out = [7u8; 65];
     added(b"append to 65", pair, b"abcdefgh", list, &mut out);
-    looked_to(b"eight letters", &out, 65, b"abcdefgh");
+    looked(b"eight letters", &out, b"abcdefgh");
 }
 
 fn appends(pair: &[u8]) {
@@ -135,10 +127,11 @@ fn appends(pair: &[u8]) {
 
 fn refused_names(pair: &[u8]) {
     tried(b"append to cut", b"SGL\x01\x00\x01\x00", b"A", &[2u32]);
-    tried(b"append again", pair, b"a", &[2u32]);
-    tried(b"append A", pair, b"A", &[2u32]);
-    tried(b"append nameless", pair, b"", &[2u32]);
-    tried(b"append nine", pair, b"abcdefghi", &[2u32]);
+    lines::appends(
+        b"append again:a\nappend A:A\nappend nameless:\nappend nine:abcdefghi\n",
+        pair,
+        &[2u32],
+    );
 }
 
 fn refused_lists(pair: &[u8]) {
@@ -157,7 +150,7 @@ fn main() {
     faults::fronts();
     faults::names();
     faults::words();
-    faults::lookups(pair);
+    faults::names_looked_up(pair);
     appends(pair);
     refused_names(pair);
     refused_lists(pair);
