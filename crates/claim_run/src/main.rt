@@ -1,7 +1,4 @@
 // Reports of inputs that the program `claim` may read, a line each: a label, then the line that it would print for it.
-ghost use mathlib.Core.Path.{_≡_};
-ghost use Prim.Native.Nat.{_+_, _≤_};
-ghost use lib.ListN.{length};
 use libc::STDOUT_FILENO;
 use signals::Written;
 
@@ -12,7 +9,7 @@ fn show(label: &[u8], answer: Written, out: &[u8]) {
     match answer {
         Written::Count(count) => {
             if count <= out.len() {
-                io::write_all(STDOUT_FILENO, &out[..count]);
+                io::write_all(STDOUT_FILENO, &out[0..count]);
             }
         }
         Written::Refused(fault) => {
@@ -110,29 +107,19 @@ fn refusals() {
     );
 }
 
-fn letters() -> [u8; 65600]
-    ensures { λ r. ⌜ 65600 ≡ length r ⌝ }
-{
-    [97; 65600]
-}
-
 // Puts two line feeds and the sheet of no signals at a place.
-fn put_sheet(input: &mut [u8], at: usize)
-    requires { ⌜ at + 9 ≤ length (now input) ⌝ }
-{
-    let bytes = [10u8, 10, 83, 71, 76, 1, 0, 0, 0];
-    let mut i: usize = 0;
-    while i < 9 {
-        input[at + i] = bytes[i];
-        i += 1;
+fn put_sheet(input: &mut [u8], at: usize) {
+    if at <= input.len() {
+        if 9 <= input.len() - at {
+            let end = at + 9;
+            bytes::copy(b"\n\nSGL\x01\x00\x00\x00", &mut input[at..end]);
+        }
     }
 }
 
 // Letters but for two line feeds at a place and the sheet of no signals after them.
-fn long_input(label: &[u8], at: usize)
-    requires { ⌜ at + 9 ≤ 65600 ⌝ }
-{
-    let mut input = letters();
+fn long_input(label: &[u8], at: usize) {
+    let mut input = [97u8; 65600];
     put_sheet(&mut input, at);
     reported(label, &input);
 }
