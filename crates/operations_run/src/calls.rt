@@ -39,6 +39,9 @@ pub const TON_IN: u32 = 14;
 
 pub const TOF_IN: u32 = 15;
 
+// A length above M.
+pub const OVER_M: u32 = 1073741824;
+
 const OR_TABLE: [[bool; 2]; 2] = [[false, true], [true, true]];
 
 fn name(operation: u32) {
@@ -70,6 +73,19 @@ fn show_call(operation: u32, d: u32, a: &[u32], b: &[u32]) {
     }
 }
 
+fn answer_in(operation: u32, d: u32, a: &[u32], b: &[u32], out: &mut [u32]) -> Written {
+    match operation {
+        NOT_IN => operations::not_in(a, out),
+        RISING_IN => operations::rising_in(a, out),
+        FALLING_IN => operations::falling_in(a, out),
+        OR_IN => operations::connective_in(OR_TABLE, a, b, out),
+        SR_IN => operations::sr_in(a, b, out),
+        RS_IN => operations::rs_in(a, b, out),
+        TON_IN => operations::delay::ton_in(Length(d), a, out),
+        _ => operations::delay::tof_in(Length(d), a, out),
+    }
+}
+
 fn answer(operation: u32, d: u32, a: &[u32], b: &[u32], out: &mut [u32]) -> Written {
     match operation {
         NOT => operations::not(a, out),
@@ -80,14 +96,7 @@ fn answer(operation: u32, d: u32, a: &[u32], b: &[u32], out: &mut [u32]) -> Writ
         RS => operations::rs(a, b, out),
         TON => operations::delay::ton(Length(d), a, out),
         TOF => operations::delay::tof(Length(d), a, out),
-        NOT_IN => operations::not_in(a, out),
-        RISING_IN => operations::rising_in(a, out),
-        FALLING_IN => operations::falling_in(a, out),
-        OR_IN => operations::connective_in(OR_TABLE, a, b, out),
-        SR_IN => operations::sr_in(a, b, out),
-        RS_IN => operations::rs_in(a, b, out),
-        TON_IN => operations::delay::ton_in(Length(d), a, out),
-        _ => operations::delay::tof_in(Length(d), a, out),
+        _ => answer_in(operation, d, a, b, out),
     }
 }
 

@@ -2,6 +2,7 @@
 use super::calls::FALLING;
 use super::calls::NOT;
 use super::calls::OR;
+use super::calls::OVER_M;
 use super::calls::RISING;
 use super::calls::RS;
 use super::calls::SR;
@@ -61,21 +62,7 @@ const DELAYS: [[u32; 13]; 14] = [
     [TOF, 1, 256, 128, 0, 42, 40, 0, 4294967294, 0, 0, 0, 0],
     [TOF, 1, 257, 129, 0, 42, 40, 0, 4294967294, 0, 0, 0, 0],
     [TOF, 1, 0, 129, 0, 42, 40, 0, 4294967294, 0, 0, 0, 0],
-    [
-        TOF,
-        1073741824,
-        0,
-        129,
-        0,
-        42,
-        40,
-        0,
-        4294967294,
-        0,
-        0,
-        0,
-        0,
-    ],
+    [TOF, OVER_M, 0, 129, 0, 42, 40, 0, 4294967294, 0, 0, 0, 0],
 ];
 
 fn two_operands() {
