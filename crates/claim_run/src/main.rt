@@ -20,12 +20,17 @@ fn show(label: &[u8], answer: Written, out: &[u8]) {
     }
 }
 
+// The report of an input, by a work area and an output.
+fn reported_in(label: &[u8], input: &[u8], work: &mut [u32], out: &mut [u8]) {
+    let answer = report::report(input, work, out);
+    show(label, answer, out);
+}
+
 // The report of an input.
 fn reported(label: &[u8], input: &[u8]) {
     let mut work = [0u32; 8192];
     let mut out = [0u8; 32];
-    let answer = report::report(input, &mut work, &mut out);
-    show(label, answer, &out);
+    reported_in(label, input, &mut work, &mut out);
 }
 
 // The claim of f and g on the sheet of one signal, a = [0,23,36].
@@ -124,19 +129,17 @@ fn long_input(label: &[u8], at: usize) {
     reported(label, &input);
 }
 
-// Work areas and outputs that are too short, and just long enough.
+// Work areas and outputs that are too short, and just long enough, for a claim on the sheet of no signals.
 fn shorter() {
-    let mut work = [0u32; 8191];
+    let claim = b"1\n1\nSGL\x01\x00\x00\x00";
+    let mut scarce = [0u32; 8191];
     let mut line = [0u8; 32];
-    let answer = report::report(b"1\n1\nSGL\x01\x00\x00\x00", &mut work, &mut line);
-    show(b"8191 work words", answer, &line);
-    let mut enough = [0u32; 8192];
+    reported_in(b"8191 work words", claim, &mut scarce, &mut line);
+    let mut work = [0u32; 8192];
     let mut five = [0u8; 5];
-    let short = report::report(b"1\n1\nSGL\x01\x00\x00\x00", &mut enough, &mut five);
-    show(b"output of 5 bytes", short, &five);
+    reported_in(b"output of 5 bytes", claim, &mut work, &mut five);
     let mut six = [0u8; 6];
-    let fits = report::report(b"1\n1\nSGL\x01\x00\x00\x00", &mut enough, &mut six);
-    show(b"output of 6 bytes", fits, &six);
+    reported_in(b"output of 6 bytes", claim, &mut work, &mut six);
 }
 
 fn main() {
