@@ -2,9 +2,8 @@
 // the fault, the word count, then every word of the output at exit. Outputs start as sevens, so that what a call leaves is
 // seen. Over eight words are shown as how many they are and one number, each word added to 31 times what that number leaves
 // by 65521.
-// The stored output is that of a second program, which goes by document 01's sentences on operations moment by moment and
-// reads the list off the moments (for TON and TOF near M, off those at which an operand or its copy a length later can
-// change); the starred cases and the named ones are besides as the document gives them.
+// tests/models makes the stored output a second time, by document 01's sentences on operations; the starred cases and the named
+// ones are besides as the document gives them.
 use signals::Written;
 
 mod calls;

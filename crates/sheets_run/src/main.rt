@@ -1,6 +1,6 @@
 // Vectors of sheets, one line each: a label, then the fault and what the call gives. Bytes are folded into one number, each
 // added to 31 times the rest of the number by 65521. Outputs start as sevens, so that what a call leaves is seen.
-// The stored output is that of a second program, which reads and writes sheets by document 01's sentences.
+// tests/models makes the stored output a second time, by document 01's sentences on sheets.
 use signals::Written;
 
 mod faults;
@@ -63,9 +63,14 @@ fn answered(label: &[u8], answer: Written, out: &[u8]) {
     line_end();
 }
 
-fn begun(label: &[u8], out: &mut [u8]) {
-    let answer = sheets::begin(out);
-    answered(label, answer, out);
+// Begins a sheet in an output of n bytes.
+fn begun(label: &[u8], n: usize) {
+    let mut space = [7u8; 9];
+    if n <= 9 {
+        let out = &mut space[0..n];
+        let answer = sheets::begin(out);
+        answered(label, answer, out);
+    }
 }
 
 fn added(label: &[u8], sheet: &[u8], name: &[u8], list: &[u32], out: &mut [u8]) {
@@ -83,14 +88,10 @@ fn cuts(sheet: &[u8]) {
 }
 
 fn begins() {
-    let mut none = [7u8; 1];
-    begun(b"begin 1", &mut none);
-    let mut six = [7u8; 6];
-    begun(b"begin 6", &mut six);
-    let mut seven = [7u8; 7];
-    begun(b"begin 7", &mut seven);
-    let mut nine = [7u8; 9];
-    begun(b"begin 9", &mut nine);
+    begun(b"begin 1", 1);
+    begun(b"begin 6", 6);
+    begun(b"begin 7", 7);
+    begun(b"begin 9", 9);
 }
 
 // Appends to an output of 80 bytes.
