@@ -1,7 +1,4 @@
 // Reports of inputs that the program `claim` may read, a line each: a label, then the line that it would print for it.
-ghost use mathlib.Core.Path.{_≡_};
-ghost use Prim.Native.Nat.{_+_, _≤_};
-ghost use lib.ListN.{length};
 use libc::STDOUT_FILENO;
 use signals::Written;
 
@@ -12,7 +9,7 @@ fn show(label: &[u8], answer: Written, out: &[u8]) {
     match answer {
         Written::Count(count) => {
             if count <= out.len() {
-                io::write_all(STDOUT_FILENO, &out[..count]);
+                io::write_all(STDOUT_FILENO, &out[0..count]);
             }
         }
         Written::Refused(fault) => {
@@ -23,12 +20,17 @@ fn show(label: &[u8], answer: Written, out: &[u8]) {
     }
 }
 
+// The report of an input, by a work area and an output.
+fn reported_in(label: &[u8], input: &[u8], work: &mut [u32], out: &mut [u8]) {
+    let answer = report::report(input, work, out);
+    show(label, answer, out);
+}
+
 // The report of an input.
 fn reported(label: &[u8], input: &[u8]) {
     let mut work = [0u32; 8192];
     let mut out = [0u8; 32];
-    let answer = report::report(input, &mut work, &mut out);
-    show(label, answer, &out);
+    reported_in(label, input, &mut work, &mut out);
 }
 
 // The claim of f and g on the sheet of one signal, a = [0,23,36].
@@ -110,46 +112,34 @@ fn refusals() {
     );
 }
 
-fn letters() -> [u8; 65600]
-    ensures { λ r. ⌜ 65600 ≡ length r ⌝ }
-{
-    [97; 65600]
-}
-
 // Puts two line feeds and the sheet of no signals at a place.
-fn put_sheet(input: &mut [u8], at: usize)
-    requires { ⌜ at + 9 ≤ length (now input) ⌝ }
-{
-    let bytes = [10u8, 10, 83, 71, 76, 1, 0, 0, 0];
-    let mut i: usize = 0;
-    while i < 9 {
-        input[at + i] = bytes[i];
-        i += 1;
+fn put_sheet(input: &mut [u8], at: usize) {
+    if at <= input.len() {
+        if 9 <= input.len() - at {
+            let end = at + 9;
+            bytes::copy(b"\n\nSGL\x01\x00\x00\x00", &mut input[at..end]);
+        }
     }
 }
 
 // Letters but for two line feeds at a place and the sheet of no signals after them.
-fn long_input(label: &[u8], at: usize)
-    requires { ⌜ at + 9 ≤ 65600 ⌝ }
-{
-    let mut input = letters();
+fn long_input(label: &[u8], at: usize) {
+    let mut input = [97u8; 65600];
     put_sheet(&mut input, at);
     reported(label, &input);
 }
 
-// Work areas and outputs that are too short, and just long enough.
+// Work areas and outputs that are too short, and just long enough, for a claim on the sheet of no signals.
 fn shorter() {
-    let mut work = [0u32; 8191];
+    let claim = b"1\n1\nSGL\x01\x00\x00\x00";
+    let mut scarce = [0u32; 8191];
     let mut line = [0u8; 32];
-    let answer = report::report(b"1\n1\nSGL\x01\x00\x00\x00", &mut work, &mut line);
-    show(b"8191 work words", answer, &line);
-    let mut enough = [0u32; 8192];
+    reported_in(b"8191 work words", claim, &mut scarce, &mut line);
+    let mut work = [0u32; 8192];
     let mut five = [0u8; 5];
-    let short = report::report(b"1\n1\nSGL\x01\x00\x00\x00", &mut enough, &mut five);
-    show(b"output of 5 bytes", short, &five);
+    reported_in(b"output of 5 bytes", claim, &mut work, &mut five);
     let mut six = [0u8; 6];
-    let fits = report::report(b"1\n1\nSGL\x01\x00\x00\x00", &mut enough, &mut six);
-    show(b"output of 6 bytes", fits, &six);
+    reported_in(b"output of 6 bytes", claim, &mut work, &mut six);
 }
 
 fn main() {

@@ -1,6 +1,4 @@
 // Reads formulas, one to a line, and prints of each its fault or its parts in working-out order.
-ghost use Prim.Native.Nat.{_≤_};
-ghost use lib.ListN.{length};
 use libc::STDOUT_FILENO;
 use signals::Written;
 
@@ -19,28 +17,18 @@ fn print_name(text: &[u8], place: usize, count: usize) {
 }
 
 fn print_operator(kind: u64) {
-    if kind == 0 {
-        print(b"0");
-    } else if kind == 1 {
-        print(b"1");
-    } else if kind == 3 {
-        print(b"!");
-    } else if kind == 4 {
-        print(b"^");
-    } else if kind == 5 {
-        print(b"~");
-    } else if kind == 6 {
-        print(b"TON ");
-    } else if kind == 7 {
-        print(b"TOF ");
-    } else if kind == 8 {
-        print(b".");
-    } else if kind == 9 {
-        print(b"+");
-    } else if kind == 10 {
-        print(b"SR");
-    } else {
-        print(b"RS");
+    match kind {
+        0 => print(b"0"),
+        1 => print(b"1"),
+        3 => print(b"!"),
+        4 => print(b"^"),
+        5 => print(b"~"),
+        6 => print(b"TON "),
+        7 => print(b"TOF "),
+        8 => print(b"."),
+        9 => print(b"+"),
+        10 => print(b"SR"),
+        _ => print(b"RS"),
     }
 }
 
@@ -65,14 +53,17 @@ fn print_next(text: &[u8], word: u64, i: usize) {
     print_part(text, word);
 }
 
-fn print_parts(text: &[u8], code: &[u64], count: usize) {
+fn print_parts(text: &[u8], code: &[u64]) {
     let mut i = 0;
     while i < code.len() {
-        if count <= i {
-            return;
-        }
         print_next(text, code[i], i);
         i += 1;
+    }
+}
+
+fn print_first(text: &[u8], code: &[u64], count: usize) {
+    if count <= code.len() {
+        print_parts(text, &code[0..count]);
     }
 }
 
@@ -84,31 +75,16 @@ fn print_refused(fault: u32) {
 fn print_formula(text: &[u8]) {
     let mut code = [0u64; 32];
     match formulas::read(text, &mut code) {
-        Written::Count(count) => print_parts(text, &code, count),
+        Written::Count(count) => print_first(text, &code, count),
         Written::Refused(fault) => print_refused(fault),
     }
     print(b"\n");
 }
 
-// The place of the next line feed, or the end.
-fn line_end(text: &[u8], from: usize) -> usize
-    requires { ⌜ from ≤ length (now text) ⌝ }
-    ensures { λ r. ⌜ (from ≤ r) × (r ≤ length (now (text .entry))) ⌝ }
-{
-    let mut i = from;
-    while i < text.len() {
-        if text[i] == 10 {
-            return i;
-        }
-        i += 1;
-    }
-    i
-}
-
 fn print_all(text: &[u8]) {
     let mut from = 0;
     while from < text.len() {
-        let end = line_end(text, from);
+        let end = bytes::scan::find(text, from, text.len(), b'\n');
         print_formula(&text[from..end]);
         from = end + 1;
     }
@@ -117,5 +93,5 @@ fn print_all(text: &[u8]) {
 fn main() {
     let mut buffer = io::large_buffer();
     let n = io::read_full(0, &mut buffer);
-    print_all(&buffer[..n]);
+    print_all(&buffer[0..n]);
 }

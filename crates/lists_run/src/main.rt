@@ -85,7 +85,7 @@ fn list_vector(name: &[u8], list: &[u32], fault: u32) {
 
 fn list_vectors() {
     let long = [0u32; 257];
-    list_vector(b"1: no words", &long[..0], 1);
+    list_vector(b"1: no words", &long[0..0], 1);
     list_vector(b"1: 257 words", &long, 1);
     list_vector(b"2: [2]", &[2], 2);
     list_vector(b"3: [0,23,21]", &[0, 23, 21], 3);
@@ -110,7 +110,7 @@ fn accepted_vectors() {
 fn tidy_vector(name: &[u8], list: &[u32], n: usize, want: u64, after: &[u32]) {
     let mut space = [7u32; 8];
     if n <= 8 {
-        let out = &mut space[..n];
+        let out = &mut space[0..n];
         line(name, written_code(tidy(list, out)), want);
         if !same_words(out, after) {
             io::write_all(1, b"  THE OUTPUT WORDS ARE OTHERS\n");
@@ -139,10 +139,10 @@ fn tidy_refused_vectors() {
         &[0],
         0,
         1000007,
-        &none[..0],
+        &none[0..0],
     );
     tidy_vector(b"7: tidy f into 2 words", &[0, 23, 36], 2, 1000007, &[7, 7]);
-    tidy_vector(b"1: tidy no words", &none[..0], 2, 1000001, &[7, 7]);
+    tidy_vector(b"1: tidy no words", &none[0..0], 2, 1000001, &[7, 7]);
 }
 
 fn tidy_faulty_vectors() {
@@ -160,7 +160,7 @@ fn tidy_faulty_vectors() {
         &[0, 23, 21],
         0,
         1000003,
-        &none[..0],
+        &none[0..0],
     );
 }
 
@@ -275,10 +275,10 @@ fn equal_refused_vectors() {
     equal_vector(
         b"2 of the first before 1 of the second",
         &[2],
-        &none[..0],
+        &none[0..0],
         1000002,
     );
-    equal_vector(b"1 of the second", &[0, 23, 36], &none[..0], 1000001);
+    equal_vector(b"1 of the second", &[0, 23, 36], &none[0..0], 1000001);
 }
 
 fn claim_vector(name: &[u8], f: &[u32], g: &[u32], want: u64) {

@@ -2,54 +2,54 @@
 // the fault, the word count, then every word of the output at exit. Outputs start as sevens, so that what a call leaves is
 // seen. Over eight words are shown as how many they are and one number, each word added to 31 times what that number leaves
 // by 65521.
-// The stored output is that of a second program, which goes by document 01's sentences on operations moment by moment and
-// reads the list off the moments (for TON and TOF near M, off those at which an operand or its copy a length later can
-// change); the starred cases and the named ones are besides as the document gives them.
+// tests/models makes the stored output a second time, by document 01's sentences on operations; the starred cases and the named
+// ones are besides as the document gives them.
 use signals::Written;
 
 mod calls;
 mod long;
+mod rows;
 mod short;
 mod tables;
 
+fn print(bytes: &[u8]) {
+    io::write_all(1, bytes);
+}
+
 fn word(w: u32) {
-    io::write_all(1, b" ");
+    print(b" ");
     io::print_decimal(1, w as u64);
 }
 
-fn words(list: &[u32]) {
-    let mut i: usize = 0;
-    while i < list.len() {
-        word(list[i]);
-        i += 1;
+// The number that the words up to w are folded into, w shown where the list is.
+fn took(sum: u64, w: u32, shown: bool) -> u64 {
+    if shown {
+        word(w);
     }
-}
-
-fn mix(sum: u64, w: u32) -> u64 {
     (sum % 65521) * 31 + (w as u64)
 }
 
-fn fold(list: &[u32]) -> u64 {
+fn fold(list: &[u32], shown: bool) -> u64 {
     let mut sum: u64 = 0;
     let mut i: usize = 0;
     while i < list.len() {
-        sum = mix(sum, list[i]);
+        sum = took(sum, list[i], shown);
         i += 1;
     }
     sum
 }
 
 fn many(list: &[u32]) {
-    io::write_all(1, b" ");
+    print(b" ");
     io::print_decimal(1, list.len() as u64);
-    io::write_all(1, b" words: ");
-    io::print_decimal(1, fold(list));
+    print(b" words: ");
+    io::print_decimal(1, fold(list, false));
 }
 
 fn list(list: &[u32]) {
-    io::write_all(1, b" |");
+    print(b" |");
     if list.len() <= 8 {
-        words(list);
+        fold(list, true);
     } else {
         many(list);
     }
@@ -58,34 +58,17 @@ fn list(list: &[u32]) {
 fn show(answer: Written, out: &[u32]) {
     match answer {
         Written::Count(count) => {
-            io::write_all(1, b" = 0 ");
+            print(b" = 0 ");
             io::print_decimal(1, count as u64);
         }
         Written::Refused(fault) => {
-            io::write_all(1, b" = ");
+            print(b" = ");
             io::print_decimal(1, fault as u64);
-            io::write_all(1, b" 0");
+            print(b" 0");
         }
     }
     list(out);
-    io::write_all(1, b"\n");
-}
-
-// An operation's name and operands.
-fn unary(name: &[u8], a: &[u32]) {
-    io::write_all(1, name);
-    list(a);
-}
-
-fn binary(name: &[u8], a: &[u32], b: &[u32]) {
-    unary(name, a);
-    list(b);
-}
-
-fn timed(name: &[u8], d: u32, f: &[u32]) {
-    io::write_all(1, name);
-    word(d);
-    list(f);
+    print(b"\n");
 }
 
 fn main() {

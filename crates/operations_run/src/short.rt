@@ -1,16 +1,23 @@
 // Vectors of short lists.
-use super::calls;
-use calls::FALLING;
-use calls::NOT;
-use calls::OR;
-use calls::RISING;
-use calls::RS;
-use calls::SR;
-use calls::TOF;
-use calls::TON;
+use super::calls::FALLING;
+use super::calls::FALLING_IN;
+use super::calls::NOT;
+use super::calls::NOT_IN;
+use super::calls::OR;
+use super::calls::OR_IN;
+use super::calls::OVER_M;
+use super::calls::RISING;
+use super::calls::RISING_IN;
+use super::calls::RS;
+use super::calls::RS_IN;
+use super::calls::SR;
+use super::calls::SR_IN;
+use super::calls::TOF;
+use super::calls::TOF_IN;
+use super::calls::TON;
+use super::calls::TON_IN;
+use super::rows::rows;
 
-// Each vector is its operation, its length, the words of its output, then of each operand how many words and which, on five
-// places and on three.
 const STARRED: [[u32; 13]; 12] = [
     // The starred cases, f = [0,23,36], e = [0,22], l = [0,21]: ^f, ^l, ~e, SR(e,e), RS(e,e), SR(f,f)
     [RISING, 0, 5, 3, 0, 23, 36, 0, 0, 0, 0, 0, 0],
@@ -139,18 +146,18 @@ const FAULTY: [[u32; 13]; 17] = [
     [SR, 0, 5, 3, 0, 23, 21, 0, 0, 0, 0, 0, 0],
     [RS, 0, 5, 1, 0, 0, 0, 0, 0, 1, 3, 0, 0],
     // 8; the list before 8
-    [TON, 1073741824, 5, 3, 0, 23, 36, 0, 0, 0, 0, 0, 0],
-    [TOF, 1073741824, 5, 3, 0, 23, 36, 0, 0, 0, 0, 0, 0],
+    [TON, OVER_M, 5, 3, 0, 23, 36, 0, 0, 0, 0, 0, 0],
+    [TOF, OVER_M, 5, 3, 0, 23, 36, 0, 0, 0, 0, 0, 0],
     [TON, 4294967295, 5, 3, 0, 23, 36, 0, 0, 0, 0, 0, 0],
-    [TON, 1073741824, 5, 1, 2, 0, 0, 0, 0, 0, 0, 0, 0],
-    [TOF, 1073741824, 5, 0, 0, 0, 0, 0, 0, 0, 0, 0, 0],
+    [TON, OVER_M, 5, 1, 2, 0, 0, 0, 0, 0, 0, 0, 0],
+    [TOF, OVER_M, 5, 0, 0, 0, 0, 0, 0, 0, 0, 0, 0],
     [TOF, 1, 5, 2, 0, 20, 0, 0, 0, 0, 0, 0, 0],
     [TON, 1, 5, 3, 0, 23, 21, 0, 0, 0, 0, 0, 0],
 ];
 
 const OUTPUTS: [[u32; 13]; 20] = [
     // no output words: 8, 6, 7
-    [TON, 1073741824, 0, 3, 0, 23, 36, 0, 0, 0, 0, 0, 0],
+    [TON, OVER_M, 0, 3, 0, 23, 36, 0, 0, 0, 0, 0, 0],
     [TON, 1, 0, 2, 0, 4294967295, 0, 0, 0, 0, 0, 0, 0],
     [TON, 4, 0, 3, 0, 23, 36, 0, 0, 0, 0, 0, 0],
     [NOT, 0, 0, 1, 1, 0, 0, 0, 0, 0, 0, 0, 0],
@@ -174,60 +181,23 @@ const OUTPUTS: [[u32; 13]; 20] = [
 ];
 
 const SLOTS: [[u32; 13]; 14] = [
-    // in slots of 256 words, by IN_SLOT and the number: NOT, rising, falling, OR, SR, RS, TON, TOF
-    [8, 0, 256, 3, 0, 23, 36, 0, 0, 0, 0, 0, 0],
-    [9, 0, 256, 3, 0, 23, 36, 0, 0, 0, 0, 0, 0],
-    [10, 0, 256, 3, 0, 23, 36, 0, 0, 0, 0, 0, 0],
-    [11, 0, 256, 3, 0, 23, 36, 0, 0, 2, 0, 21, 0],
-    [12, 0, 256, 2, 0, 22, 0, 0, 0, 2, 0, 22, 0],
-    [13, 0, 256, 3, 0, 23, 36, 0, 0, 2, 0, 22, 0],
-    [14, 3, 256, 3, 0, 23, 36, 0, 0, 0, 0, 0, 0],
-    [15, 2, 256, 3, 0, 23, 36, 0, 0, 0, 0, 0, 0],
+    // in slots of 256 words
+    [NOT_IN, 0, 256, 3, 0, 23, 36, 0, 0, 0, 0, 0, 0],
+    [RISING_IN, 0, 256, 3, 0, 23, 36, 0, 0, 0, 0, 0, 0],
+    [FALLING_IN, 0, 256, 3, 0, 23, 36, 0, 0, 0, 0, 0, 0],
+    [OR_IN, 0, 256, 3, 0, 23, 36, 0, 0, 2, 0, 21, 0],
+    [SR_IN, 0, 256, 2, 0, 22, 0, 0, 0, 2, 0, 22, 0],
+    [RS_IN, 0, 256, 3, 0, 23, 36, 0, 0, 2, 0, 22, 0],
+    [TON_IN, 3, 256, 3, 0, 23, 36, 0, 0, 0, 0, 0, 0],
+    [TOF_IN, 2, 256, 3, 0, 23, 36, 0, 0, 0, 0, 0, 0],
     // refused there: a list, 8; 6 leaves the words up to M; a slot of 255 words is 7
-    [8, 0, 256, 1, 2, 0, 0, 0, 0, 0, 0, 0, 0],
-    [11, 0, 256, 2, 0, 20, 0, 0, 0, 1, 2, 0, 0],
-    [14, 1073741824, 256, 3, 0, 23, 36, 0, 0, 0, 0, 0, 0],
-    [14, 1, 256, 4, 0, 39, 60, 4294967295, 0, 0, 0, 0, 0],
-    [8, 0, 255, 3, 0, 23, 36, 0, 0, 0, 0, 0, 0],
-    [15, 2, 255, 3, 0, 23, 36, 0, 0, 0, 0, 0, 0],
+    [NOT_IN, 0, 256, 1, 2, 0, 0, 0, 0, 0, 0, 0, 0],
+    [OR_IN, 0, 256, 2, 0, 20, 0, 0, 0, 1, 2, 0, 0],
+    [TON_IN, OVER_M, 256, 3, 0, 23, 36, 0, 0, 0, 0, 0, 0],
+    [TON_IN, 1, 256, 4, 0, 39, 60, 4294967295, 0, 0, 0, 0, 0],
+    [NOT_IN, 0, 255, 3, 0, 23, 36, 0, 0, 0, 0, 0, 0],
+    [TOF_IN, 2, 255, 3, 0, 23, 36, 0, 0, 0, 0, 0, 0],
 ];
-
-fn at(v: &[u32], i: usize) -> u32 {
-    if i < v.len() { v[i] } else { 0 }
-}
-
-fn from(v: &[u32], i: usize) -> &[u32] {
-    if i <= v.len() { &v[i..] } else { v }
-}
-
-fn vector(v: &[u32]) {
-    let n = at(v, 3) as usize;
-    let m = at(v, 9) as usize;
-    let words = at(v, 2) as usize;
-    let mut out = [7u32; 256];
-    calls::apply(
-        at(v, 0),
-        at(v, 1),
-        from(v, 4),
-        n,
-        from(v, 10),
-        m,
-        &mut out,
-        words,
-    );
-}
-
-fn row(v: [u32; 13]) {
-    vector(&v);
-}
-
-fn rows(data: &[[u32; 13]]) {
-    let mut i: usize = 0;
-    while i < data.len() {
-        row(data[i]);
-        i += 1;
-    }
-}
 
 fn starred() {
     rows(&STARRED);

@@ -1,5 +1,6 @@
 // The sixteen connectives on two pairs of lists.
-use super::binary;
+use super::list;
+use super::print;
 use super::show;
 use super::word;
 
@@ -10,9 +11,10 @@ fn table(n: u32, a: &[u32], b: &[u32]) {
         [n / 4 % 2 == 1, n / 8 % 2 == 1],
     ];
     let mut out = [7u32; 6];
-    io::write_all(1, b"table");
+    print(b"table");
     word(n);
-    binary(b"", a, b);
+    list(a);
+    list(b);
     let answer = operations::connective(table, a, b, &mut out);
     show(answer, &out);
 }

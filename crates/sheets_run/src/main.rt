@@ -1,9 +1,10 @@
 // Vectors of sheets, one line each: a label, then the fault and what the call gives. Bytes are folded into one number, each
 // added to 31 times the rest of the number by 65521. Outputs start as sevens, so that what a call leaves is seen.
-// The stored output is that of a second program, which reads and writes sheets by document 01's sentences.
+// tests/models makes the stored output a second time, by document 01's sentences on sheets.
 use signals::Written;
 
 mod faults;
+mod lines;
 mod many;
 
 fn mix(sum: u64, b: u8) -> u64 {
@@ -46,13 +47,6 @@ fn looked(label: &[u8], sheet: &[u8], name: &[u8]) {
     line_end();
 }
 
-// Looks a name up on the first n bytes.
-fn looked_to(label: &[u8], out: &[u8], n: usize, name: &[u8]) {
-    if n <= out.len() {
-        looked(label, &out[..n], name);
-    }
-}
-
 fn answered(label: &[u8], answer: Written, out: &[u8]) {
     io::write_all(1, label);
     match answer {
@@ -69,9 +63,14 @@ fn answered(label: &[u8], answer: Written, out: &[u8]) {
     line_end();
 }
 
-fn begun(label: &[u8], out: &mut [u8]) {
-    let answer = sheets::begin(out);
-    answered(label, answer, out);
+// Begins a sheet in an output of n bytes.
+fn begun(label: &[u8], n: usize) {
+    let mut space = [7u8; 9];
+    if n <= 9 {
+        let out = &mut space[0..n];
+        let answer = sheets::begin(out);
+        answered(label, answer, out);
+    }
 }
 
 fn added(label: &[u8], sheet: &[u8], name: &[u8], list: &[u32], out: &mut [u8]) {
@@ -83,23 +82,19 @@ fn added(label: &[u8], sheet: &[u8], name: &[u8], list: &[u32], out: &mut [u8]) 
 fn cuts(sheet: &[u8]) {
     let mut n: usize = 0;
     while n <= sheet.len() {
-        checked(b"cut", &sheet[..n]);
+        checked(b"cut", &sheet[0..n]);
         n += 1;
     }
 }
 
 fn begins() {
-    let mut none = [7u8; 1];
-    begun(b"begin 1", &mut none);
-    let mut six = [7u8; 6];
-    begun(b"begin 6", &mut six);
-    let mut seven = [7u8; 7];
-    begun(b"begin 7", &mut seven);
-    let mut nine = [7u8; 9];
-    begun(b"begin 9", &mut nine);
+    begun(b"begin 1", 1);
+    begun(b"begin 6", 6);
+    begun(b"begin 7", 7);
+    begun(b"begin 9", 9);
 }
 
-// Appends to an output of 80 bytes, and looks up there.
+// Appends to an output of 80 bytes.
 fn tried(label: &[u8], sheet: &[u8], name: &[u8], list: &[u32]) {
     let mut out = [7u8; 80];
     added(label, sheet, name, list, &mut out);
@@ -108,10 +103,8 @@ fn tried(label: &[u8], sheet: &[u8], name: &[u8], list: &[u32]) {
 fn there(pair: &[u8], list: &[u32]) {
     let mut out = [7u8; 80];
     added(b"append c", pair, b"c", list, &mut out);
-    looked_to(b"c there", &out, 65, b"c");
-    looked_to(b"a there", &out, 65, b"a");
-    looked_to(b"b2 there", &out, 65, b"b2");
-    looked_to(b"d there", &out, 65, b"d");
+    let sheet = &out[0..65];
+    lines::lookups(b"c there:c\na there:a\nb2 there:b2\nd there:d\n", sheet);
 }
 
 fn no_room(pair: &[u8], list: &[u32]) {
@@ -122,7 +115,7 @@ fn no_room(pair: &[u8], list: &[u32]) {
 fn just_room(pair: &[u8], list: &[u32]) {
     let mut out = [7u8; 65];
     added(b"append to 65", pair, b"abcdefgh", list, &mut out);
-    looked_to(b"eight letters", &out, 65, b"abcdefgh");
+    looked(b"eight letters", &out, b"abcdefgh");
 }
 
 fn appends(pair: &[u8]) {
@@ -135,10 +128,11 @@ fn appends(pair: &[u8]) {
 
 fn refused_names(pair: &[u8]) {
     tried(b"append to cut", b"SGL\x01\x00\x01\x00", b"A", &[2u32]);
-    tried(b"append again", pair, b"a", &[2u32]);
-    tried(b"append A", pair, b"A", &[2u32]);
-    tried(b"append nameless", pair, b"", &[2u32]);
-    tried(b"append nine", pair, b"abcdefghi", &[2u32]);
+    lines::appends(
+        b"append again:a\nappend A:A\nappend nameless:\nappend nine:abcdefghi\n",
+        pair,
+        &[2u32],
+    );
 }
 
 fn refused_lists(pair: &[u8]) {
@@ -157,7 +151,7 @@ fn main() {
     faults::fronts();
     faults::names();
     faults::words();
-    faults::lookups(pair);
+    faults::names_looked_up(pair);
     appends(pair);
     refused_names(pair);
     refused_lists(pair);

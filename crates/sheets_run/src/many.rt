@@ -1,11 +1,9 @@
 // Sheets of 32 signals, lists of 256 words, and the largest sheet.
-ghost use mathlib.Core.Path.{_≡_};
-ghost use lib.ListN.{length};
 use crate::added;
 use crate::checked;
 use crate::fold;
 use crate::line_end;
-use crate::looked;
+use crate::lines::lookups;
 use crate::number;
 use signals::Written;
 
@@ -19,18 +17,6 @@ fn fill(list: &mut [u32]) {
     }
 }
 
-fn longest() -> [u32; 256]
-    ensures { λ r. ⌜ 256 ≡ length r ⌝ }
-{
-    [0; 256]
-}
-
-fn longer() -> [u32; 257]
-    ensures { λ r. ⌜ 257 ≡ length r ⌝ }
-{
-    [0; 257]
-}
-
 // s and a digit or a letter.
 fn name_of(i: usize) -> [u8; 2] {
     let k = (i % 32) as u8;
@@ -42,26 +28,17 @@ fn grown(sheet: &mut [u8], n: usize, name: &[u8], list: &[u32], other: &mut [u8]
     if sheet.len() < n {
         return n;
     }
-    match sheets::append(&sheet[..n], name, list, other) {
+    match sheets::append(&sheet[0..n], name, list, other) {
         Written::Count(count) => {
-            copied(sheet, other);
+            if other.len() <= sheet.len() {
+                bytes::copy(other, sheet);
+            }
             count
         }
         Written::Refused(fault) => {
             number(fault as u64);
             n
         }
-    }
-}
-
-fn copied(to: &mut [u8], from: &[u8]) {
-    let mut i: usize = 0;
-    while i < from.len() {
-        if to.len() <= i {
-            return;
-        }
-        to[i] = from[i];
-        i += 1;
     }
 }
 
@@ -81,16 +58,13 @@ fn shown(label: &[u8], sheet: &[u8], n: usize, list: &[u32], other: &mut [u8]) {
     if sheet.len() < n {
         return;
     }
-    let whole = &sheet[..n];
+    let whole = &sheet[0..n];
     io::write_all(1, label);
     number(n as u64);
     number(fold(whole));
     line_end();
     checked(b" check", whole);
-    looked(b" s0", whole, b"s0");
-    looked(b" sf", whole, b"sf");
-    looked(b" sv", whole, b"sv");
-    looked(b" sw", whole, b"sw");
+    lookups(b" s0:s0\n sf:sf\n sv:sv\n sw:sw\n", whole);
     added(b" append one more", whole, b"sw", list, other);
     added(b" append s0", whole, b"s0", list, other);
     added(b" append [2]", whole, b"sw", &[2u32], other);
@@ -108,7 +82,7 @@ fn sheet_of(label: &[u8], many: usize, list: &[u32]) {
 
 pub fn fullest() {
     sheet_of(b"32 of one word", 32, &[1u32]);
-    let mut list = longest();
+    let mut list = [0u32; 256];
     fill(&mut list);
     sheet_of(b"32 of 256 words", 32, &list);
     sheet_of(b"31 of 256 words", 31, &list);
@@ -120,10 +94,10 @@ fn started(label: &[u8], list: &[u32]) {
 }
 
 pub fn too_long() {
-    let mut list = longer();
+    let mut list = [0u32; 257];
     fill(&mut list);
     started(b"append 257 words", &list);
-    let mut list = longest();
+    let mut list = [0u32; 256];
     fill(&mut list);
     started(b"append 256 words", &list);
 }
