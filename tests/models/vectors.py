@@ -1,4 +1,7 @@
-"""The lines that each test program is to print, made by the models from the vectors in its source."""
+"""The lines that each test program is to print, made by the models from the vectors in its source, some restated here.
+
+A slot (operations_run) is no notion of document 01: what it keeps is said at `call`.
+"""
 import re
 import formulas
 import sheets

@@ -83,10 +83,13 @@ fn list_vector(name: &[u8], list: &[u32], fault: u32) {
     line(name, list_fault(list) as u64, fault as u64);
 }
 
-fn list_vectors() {
+fn word_count_vectors() {
     let long = [0u32; 257];
     list_vector(b"1: no words", &long[0..0], 1);
     list_vector(b"1: 257 words", &long, 1);
+}
+
+fn list_vectors() {
     list_vector(b"2: [2]", &[2], 2);
     list_vector(b"3: [0,23,21]", &[0, 23, 21], 3);
     list_vector(b"3: [0,3], a word of date 0", &[0, 3], 3);
@@ -318,6 +321,7 @@ fn value_vectors() {
 }
 
 fn main() {
+    word_count_vectors();
     list_vectors();
     list_order_vectors();
     accepted_vectors();

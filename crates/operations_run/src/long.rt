@@ -1,4 +1,4 @@
-// Vectors of lists and answers of about 256 words.
+// Vectors of lists and answers of about 256 words, as rows (rows.rt).
 use super::calls::FALLING;
 use super::calls::NOT;
 use super::calls::OR;

@@ -21,8 +21,8 @@ fn word(w: u32) {
     io::print_decimal(1, w as u64);
 }
 
-// The number that the words up to w are folded into, w shown where the list is.
-fn took(sum: u64, w: u32, shown: bool) -> u64 {
+// The fold with one word more, which is shown where the list is.
+fn with_word(sum: u64, w: u32, shown: bool) -> u64 {
     if shown {
         word(w);
     }
@@ -33,7 +33,7 @@ fn fold(list: &[u32], shown: bool) -> u64 {
     let mut sum: u64 = 0;
     let mut i: usize = 0;
     while i < list.len() {
-        sum = took(sum, list[i], shown);
+        sum = with_word(sum, list[i], shown);
         i += 1;
     }
     sum

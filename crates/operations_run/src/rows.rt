@@ -1,6 +1,6 @@
-// A vector of two operands as a row of numbers: its operation, its length, the words of its output, then of each operand
-// how many words and, on five places and on three, which. A list of more words than places has there the first, the second,
-// how much each next one rises, then the third and the last where they are others than those.
+// A vector is a row of numbers: its operation, its length, the words of its output, then of each operand how many words, and
+// which, on five places and on three. A list longer than its places is given by its first word, its second, how much each next
+// one rises, then its third and its last, or 0 where these follow from the rise.
 use super::calls;
 
 fn at(places: &[u32], i: usize) -> u32 {

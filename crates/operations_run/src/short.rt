@@ -1,4 +1,4 @@
-// Vectors of short lists.
+// Vectors of short lists, as rows (rows.rt).
 use super::calls::FALLING;
 use super::calls::FALLING_IN;
 use super::calls::NOT;

@@ -1,11 +1,10 @@
 // Each fault of a sheet and of a lookup.
-use crate::lines::lookups;
-use crate::lines::sheets;
+use crate::lines;
 use crate::looked;
 
 // Marks, versions, counts.
 pub fn fronts() {
-    sheets(
+    lines::sheets(
         b"empty sheet:SGL\x01\x00\x00\x00\n\
         left over:SGL\x01\x00\x00\x00\x00\n\
         mark SGM:SGM\x01\x00\x00\x00\n\
@@ -25,7 +24,7 @@ pub fn fronts() {
 
 // Malformed, cut, repeated.
 pub fn names() {
-    sheets(
+    lines::sheets(
         b"name A:SGL\x01\x00\x01\x00A\x00\x00\x00\x00\x00\x00\x00\n\
         name 1a:SGL\x01\x00\x01\x001a\x00\x00\x00\x00\x00\x00\n\
         name a_:SGL\x01\x00\x01\x00a_\x00\x00\x00\x00\x00\x00\n\
@@ -42,7 +41,7 @@ pub fn names() {
 
 // Word counts, first words, later words.
 pub fn words() {
-    sheets(
+    lines::sheets(
         b"no words:SGL\x01\x00\x01\x00a\x00\x00\x00\x00\x00\x00\x00\x00\x00\n\
         257 words:SGL\x01\x00\x01\x00a\x00\x00\x00\x00\x00\x00\x00\x01\x01\n\
         256 words, none there:SGL\x01\x00\x01\x00a\x00\x00\x00\x00\x00\x00\x00\x00\x01\n\
@@ -69,8 +68,8 @@ fn other_sheets() {
     looked(b"look up a on an empty sheet", b"SGL\x01\x00\x00\x00", b"a");
 }
 
-pub fn names_looked_up(pair: &[u8]) {
-    lookups(
+pub fn lookups(pair: &[u8]) {
+    lines::lookups(
         b"look up a:a\n\
         look up b2:b2\n\
         look up b:b\n\

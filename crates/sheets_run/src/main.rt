@@ -151,7 +151,7 @@ fn main() {
     faults::fronts();
     faults::names();
     faults::words();
-    faults::names_looked_up(pair);
+    faults::lookups(pair);
     appends(pair);
     refused_names(pair);
     refused_lists(pair);
