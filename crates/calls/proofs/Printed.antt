@@ -42,15 +42,15 @@ g = tree.Tree.unary (tree.Unary.ton 2) f
 
 -- the sheet is accepted and gives a the list [0,23,36]
 sheet-fine : sheetFault printedSheet ≡ 0
-unfolding sheetFault frontFault signalsFault signalFault sheetWordsFault laterWordsFault countOn wordCount signalSize reading.nameAt low16 low32 same among fieldFits wellNamed letter digit lettersOrDigits unpadded before zeros dateOf valueAt valueAfter headValue changesNothing firstOf
+unfolding sheetFault frontFault signalsFault signalFault sheetWordsFault laterWordsFault countOn wordCount signalSize reading.nameAt low16 low32 same among fieldFits wellNamed letter digit lettersOrDigits before zeros dateOf valueAt valueAfter headValue changesNothing firstOf
 sheet-fine = refl
 
 list-f : listNamed printedF (signalsOn printedSheet) ≡ 0 ∷ 23 ∷ 36 ∷ []
-unfolding signalsOn signalsFrom listNamed countOn wordCount signalSize reading.nameAt low16 low32 wordsIn same unpadded before
+unfolding signalsOn signalsFrom listNamed countOn wordCount signalSize reading.nameAt low16 low32 wordsIn same before
 list-f = refl
 
 found-f : among printedF (names (signalsOn printedSheet)) ≡ true
-unfolding signalsOn signalsFrom names among countOn wordCount signalSize reading.nameAt low16 same unpadded before
+unfolding signalsOn signalsFrom names among countOn wordCount signalSize reading.nameAt low16 same before
 found-f = refl
 
 -- the texts are read

@@ -1,20 +1,16 @@
 -- Document 01: "The program reads standard input: formula F to the first line feed, G to the second, then the sheet (of the first 65,536
 -- bytes; those past them are dropped). [..] Without a line feed, what follows is empty."
 use Prim.Native.Nat.{ℕ}
-use mathlib.Core.Bool.{cond}
-use mathlib.Core.List.{List, [], _∷_}
-use lib.Dec.{eqb}
+use mathlib.Core.List.{List}
 use lib.ListN.{take}
-use Rattle.slices.specs.Slices.{before}
+use Rattle.slices.specs.Slices.{before, past}
 
--- the bytes before the first line feed, which is 10; all of them when there is none
-unfoldable pub toLineFeed : List ℕ → List ℕ
+-- the bytes before the first line feed, which is 10, all of them when there is none; those after it, none when there is none
+abbrev pub toLineFeed : List ℕ → List ℕ
 toLineFeed text = before 10 text
 
--- the bytes after the first line feed; none when there is none
-unfoldable pub pastLineFeed : List ℕ → List ℕ
-pastLineFeed [] = []
-pastLineFeed (b ∷ bs) = cond (eqb b 10) bs (pastLineFeed bs)
+abbrev pub pastLineFeed : List ℕ → List ℕ
+pastLineFeed text = past 10 text
 
 -- the bytes of the input that count
 unfoldable pub counted : List ℕ → List ℕ

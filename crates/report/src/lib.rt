@@ -2,7 +2,7 @@
 ghost use mathlib.Core.Path.{_≡_};
 ghost use Prim.Native.Nat.{_+_, _≤_};
 ghost use lib.ListN.{length, take, drop};
-ghost use Rattle.report.specs.Input.{toLineFeed, pastLineFeed, counted as Input·counted};
+ghost use Rattle.report.specs.Input.{counted as Input·counted};
 ghost use Rattle.report.specs.Line.{decimal as Line·decimal, line as Line·line, lineOf};
 ghost use Rattle.report.specs.Reporting.{lineAnswer, lineOutput, firstFaultOf, reportAnswer, reportOutput};
 use signals::Verdict;
@@ -19,25 +19,6 @@ fn counted(input: &[u8]) -> &[u8]
         return &input[..BYTES];
     }
     input
-}
-
-// The bytes before the first line feed.
-fn first_line(text: &[u8]) -> &[u8]
-    ensures { λ r. ⌜ now r ≡ toLineFeed (now (text .entry)) ⌝ }
-{
-    let n = slices::len_before(text, 10);
-    &text[..n]
-}
-
-// The bytes after the first line feed.
-fn rest(text: &[u8]) -> &[u8]
-    ensures { λ r. ⌜ now r ≡ pastLineFeed (now (text .entry)) ⌝ }
-{
-    let n = slices::len_before(text, 10);
-    if n < text.len() {
-        return &text[n + 1..];
-    }
-    &text[n..]
 }
 
 // Puts a number's decimal digits at the end of the array, and says where they begin.
@@ -100,10 +81,10 @@ pub fn report(input: &[u8], work: &mut [u32], out: &mut [u8]) -> Written
     ensures { λ r. ⌜ (r ≡ reportAnswer (now (input .entry)) (length (now (work .entry))) (now (out .entry))) × (now (out .exit) ≡ reportOutput (now (input .entry)) (length (now (work .entry))) (now (out .entry))) × ((firstFaultOf (now (input .entry)) (length (now (work .entry))) ≡ 0 → ⊥) → now (work .exit) ≡ now (work .entry)) ⌝ }
 {
     let text = counted(input);
-    let after = rest(text);
-    let sheet = rest(after);
-    let f = first_line(text);
-    let g = first_line(after);
+    let after = slices::part_after(text, b'\n');
+    let sheet = slices::part_after(after, b'\n');
+    let f = slices::part_before(text, b'\n');
+    let g = slices::part_before(after, b'\n');
     let verdict = evaluation::claim(sheet, f, g, work);
     tell(verdict, out)
 }

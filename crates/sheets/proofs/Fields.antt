@@ -30,12 +30,12 @@ character-above b h e = go (letter b) refl h
     go false p q = digit-above b q e
 
 unpadded-padding : (k : ℕ) → unpadded (replicate k 0) ≡ []
-unfolding unpadded before
+unfolding before
 unpadded-padding zero = refl
 unpadded-padding (suc k) = refl
 
 characters-unpadded : (n : List ℕ) (k : ℕ) → lettersOrDigits n ≡ true → unpadded (n ++ replicate k 0) ≡ n
-unfolding unpadded before lettersOrDigits
+unfolding before lettersOrDigits
 characters-unpadded [] k h = unpadded-padding k
 characters-unpadded (b ∷ bs) k h =
     rw (ne-eqb b 0 (character-above b (and-left (letter b || digit b) _ h)))

@@ -67,11 +67,9 @@ module _ (s : List ℕ) (i : ℕ) where
   characters-end p = rw (drop-end s i p)
 
 pub unpadded-within : (f : List ℕ) → length (unpadded f) ≤ length f
-unfolding unpadded
 unpadded-within f = before-within 0 f
 
 pub take-unpadded : (f : List ℕ) → take (length (unpadded f)) f ≡ unpadded f
-unfolding unpadded
 take-unpadded f = take-before 0 f
 
 pub named-empty : (n : List ℕ) → length n ≡ 0 → wellNamed n ≡ false

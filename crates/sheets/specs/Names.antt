@@ -27,7 +27,7 @@ unfoldable pub padded : List ℕ → List ℕ
 padded name = name ++ replicate (8 - length name) 0
 
 -- the characters of a name field: those before its first zero byte
-unfoldable pub unpadded : List ℕ → List ℕ
+abbrev pub unpadded : List ℕ → List ℕ
 unpadded field = before 0 field
 
 unfoldable pub zeros : List ℕ → Bool

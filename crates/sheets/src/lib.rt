@@ -113,8 +113,7 @@ pub fn well_named(name: &[u8]) -> bool
 fn name_in(field: &[u8]) -> &[u8]
     ensures { λ r. ⌜ now r ≡ unpadded (now (field .entry)) ⌝ }
 {
-    let n = slices::len_before(field, 0);
-    &field[..n]
+    slices::part_before(field, 0)
 }
 
 // A name field: a name, then zero bytes.

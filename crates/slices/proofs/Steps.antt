@@ -1,15 +1,15 @@
--- One turn of a loop over bytes: a list from a place on, and the bytes before a stop byte from there.
-use Prim.Native.Nat.{ℕ, suc, _+_, _≤_, _<_}
+-- One turn of a loop over bytes: a list from a place on, and the bytes before and after a stop byte from there.
+use Prim.Native.Nat.{ℕ, suc, _+_, _-_, _≤_, _<_}
 use native.Mathlib.Numerals.{add-one}
 use native.Mathlib.Omega.{arith}
-use mathlib.Core.Path.{_≡_, refl, ap}
+use mathlib.Core.Path.{_≡_, refl, sym, ap, _∙_}
 use mathlib.Core.Bool.{Bool, true, false, cond}
 use mathlib.Core.List.{List, [], _∷_}
 use lib.Dec.{eqb}
-use lib.ListN.{length, getD, take, drop, drop-of-length-le}
-use lib.Seq.{drop-cons}
+use lib.ListN.{length, getD, take, drop, drop-of-length-le, length-drop}
+use lib.Seq.{drop-cons, take-all}
 use borrow.Author.Tests.{eq-eqb, ne-eqb}
-use Rattle.slices.specs.Slices.{before}
+use Rattle.slices.specs.Slices.{before, past}
 
 pub drop-step : (l : List ℕ) (i : ℕ) → i < length l → drop i l ≡ getD l i 0 ∷ drop (i + 1) l
 drop-step l i h = rw (add-one, drop-cons l i 0)
@@ -49,3 +49,28 @@ take-before stop (b ∷ bs) = go (eqb b stop) (take-before stop bs)
         → take (length (cond t [] (b ∷ before stop bs))) (b ∷ bs) ≡ cond t [] (b ∷ before stop bs)
     go true h = refl
     go false h = ap (λ (l : List ℕ). b ∷ l) h
+
+-- the bytes past the stop byte, whether there is one or not
+drop-past : (stop : ℕ) (s : List ℕ) → drop (suc (length (before stop s))) s ≡ past stop s
+unfolding before past
+drop-past stop [] = refl
+drop-past stop (b ∷ bs) = go (eqb b stop) (drop-past stop bs)
+  where
+    go : (t : Bool) → drop (suc (length (before stop bs))) bs ≡ past stop bs
+        → drop (length (cond t [] (b ∷ before stop bs))) bs ≡ cond t bs (past stop bs)
+    go true h = refl
+    go false h = h
+
+-- what is left of a part that starts where the loop stopped
+module _ (stop : ℕ) (s : List ℕ) (n : ℕ) (e : n ≡ length (before stop s)) where
+  pub past-found : take (length s - (n + 1)) (drop (n + 1) s) ≡ past stop s
+  past-found =
+      take-all (length s - (n + 1)) (drop (n + 1) s) (rw (length-drop (n + 1) s) (omega arith))
+      ∙ rw (add-one n, e) (drop-past stop s)
+
+  pub past-none : length s ≤ n → take (length s - n) (drop n s) ≡ past stop s
+  past-none h =
+      take-all (length s - n) (drop n s) (rw (length-drop n s) (omega arith))
+      ∙ drop-end s n h
+      ∙ sym (drop-end s (suc n) (omega arith))
+      ∙ rw e (drop-past stop s)

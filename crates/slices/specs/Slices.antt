@@ -1,4 +1,4 @@
--- Bytes before a stop byte, and bytes written at a place of an output.
+-- Bytes before and after a stop byte, and bytes written at a place of an output.
 use Prim.Native.Nat.{ℕ, _+_}
 use mathlib.Core.Bool.{cond}
 use mathlib.Core.List.{List, [], _∷_, _++_}
@@ -9,6 +9,11 @@ use lib.ListN.{length, take, drop}
 unfoldable pub before : ℕ → List ℕ → List ℕ
 before stop [] = []
 before stop (b ∷ bs) = cond (eqb b stop) [] (b ∷ before stop bs)
+
+-- the bytes after the first that is `stop`; none when none is
+unfoldable pub past : ℕ → List ℕ → List ℕ
+past stop [] = []
+past stop (b ∷ bs) = cond (eqb b stop) bs (past stop bs)
 
 -- the output with these bytes written at a place
 abbrev pub placed : List ℕ → ℕ → List ℕ → List ℕ

@@ -1,10 +1,10 @@
 // What sheets and the program's report both do with bytes.
 ghost use mathlib.Core.Path.{_≡_};
 ghost use lib.ListN.{length};
-ghost use Rattle.slices.specs.Slices.{before, putAt};
+ghost use Rattle.slices.specs.Slices.{before, past, putAt};
 
 // The number of bytes before the first that is `stop`; of all bytes when none is.
-pub fn len_before(bytes: &[u8], stop: u8) -> usize
+fn len_before(bytes: &[u8], stop: u8) -> usize
     ensures { λ r. ⌜ r ≡ length (before stop (now (bytes .entry))) ⌝ }
 {
     let mut i = 0;
@@ -15,6 +15,25 @@ pub fn len_before(bytes: &[u8], stop: u8) -> usize
         i += 1;
     }
     i
+}
+
+// The bytes before the first that is `stop`; all of them when none is.
+pub fn part_before(bytes: &[u8], stop: u8) -> &[u8]
+    ensures { λ r. ⌜ now r ≡ before stop (now (bytes .entry)) ⌝ }
+{
+    let n = len_before(bytes, stop);
+    &bytes[..n]
+}
+
+// The bytes after the first that is `stop`; none when none is.
+pub fn part_after(bytes: &[u8], stop: u8) -> &[u8]
+    ensures { λ r. ⌜ now r ≡ past stop (now (bytes .entry)) ⌝ }
+{
+    let n = len_before(bytes, stop);
+    if n < bytes.len() {
+        return &bytes[n + 1..];
+    }
+    &bytes[n..]
 }
 
 // Writes bytes into the output at a place; nothing where they do not fit.
