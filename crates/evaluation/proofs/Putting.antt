@@ -2,16 +2,21 @@
 use Prim.Native.Nat.{ℕ, zero, suc, _+_, _*_, _-_, _/_, _≤_, _<_}
 use native.Mathlib.Omega.{arith}
 use native.Mathlib.Numerals.{add-one}
+use native.Mathlib.Nat.{add-zero}
 use mathlib.Core.Path.{_≡_, refl, sym, _∙_, ap}
 use mathlib.Core.List.{List, [], _∷_, _++_}
 use lib.ListN.{length, take, drop, getD, set, length-drop, drop-of-length-le, length-set}
-use lib.Seq.{paste, paste-suc, paste-zero, take-all, take-nil, drop-drop}
+use lib.Seq.{paste, paste-suc, paste-zero, take-all, take-nil, drop-drop, getD-drop}
 use Rattle.sheets.specs.Bytes.{low32, wordsIn}
-use Rattle.sheets.proofs.Walking.{low32-at}
 use Rattle.formulas.specs.Formula.{nameAt}
 
 pub put-next : (d s w : List ℕ) (at i v : ℕ) → w ≡ paste d at s i → v ≡ getD s i 0 → at + i < length d → i < length s → set w (at + i) v ≡ paste d at s (i + 1)
 put-next d s w at i v e ev hd hs = rw (e, ev) (paste-suc d at s i 0 hd hs ∙ ap (paste d at s) (sym (add-one i)))
+
+low32-at : (s : List ℕ) (at : ℕ)
+    → low32 (drop at s) ≡ getD s at 0 + 256 * getD s (at + 1) 0 + 65536 * getD s (at + 2) 0 + 16777216 * getD s (at + 3) 0
+unfolding low32
+low32-at s at = simp (getD-drop, add-zero)
 
 pub word-of-bytes : (s : List ℕ) (at b0 b1 b2 b3 : ℕ) → b0 ≡ getD s at 0 → b1 ≡ getD s (at + 1) 0 → b2 ≡ getD s (at + 2) 0 → b3 ≡ getD s (at + 3) 0
     → b0 + 256 * b1 + 65536 * b2 + 16777216 * b3 ≡ low32 (drop at s)
