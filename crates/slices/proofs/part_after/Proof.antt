@@ -28,7 +28,7 @@ returns : tie.Need-returns
 returns c = past-found (c .before .before .before .before .args .stop) (now (c .before .before .before .before .args .bytes)) (c .before .before .len-before .result) (c .before .before .len-before .ensures)
 
 sub-result-2 : tie.Need-sub-result-2
-sub-result-2 c = rw (c .before .len-before .ensures) (before-within (c .before .before .before .args .stop) (now (c .before .before .before .args .bytes)))
+sub-result-2 c = omega (arith, c .before .len-before .ensures, before-within (c .before .before .before .args .stop) (now (c .before .before .before .args .bytes)))
 
 part-result-start-2 : tie.Need-part-result-start-2
 part-result-start-2 c =
