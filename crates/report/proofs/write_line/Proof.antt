@@ -1,6 +1,9 @@
 -- `report::write_line` meets its contract.
 use borrow.Author.Needs.{needs}
+use native.Mathlib.Omega.{arith}
+use mathlib.Core.Path.{_∙_}
 use denote.Ref.{now}
+use Rattle.slices.proofs.Placing.{put-fits}
 use Rattle.report.proofs.Filling.{line-short, line-put}
 use Rattle.report.proofs.write_line.Statement.{statement}
 use Rattle.report.proofs.write_line.Tie as tie
@@ -32,7 +35,14 @@ same-length c = search needs
 returns-2 : tie.Need-returns-2
 returns-2 c =
     let a = c .before .before .before .before .before .before .before .before .before .before .before .before .before .before .before .before .before .args in
-    line-put (now (a .text)) (now (a .digits)) (now (a .out)) (c .before .before .before .before .before .before .before .before .before .before .before .put .last .0) (c .before .before .before .before .before .before .before .put2 .last .0) (c .before .before .put3 .last .0) (c .before .before .before .before .before .before .before .before .before .before .before .before .before .if1 .left) (c .before .before .before .before .before .before .before .before .before .before .before .put .ensures) (c .before .before .before .before .before .before .before .put2 .ensures) (c .before .before .put3 .ensures)
+    let room = c .before .before .before .before .before .before .before .before .before .before .before .before .before .if1 .left in
+    let first = c .before .before .before .before .before .before .before .before .before .before .before .put in
+    let second = c .before .before .before .before .before .before .before .put2 in
+    let third = c .before .before .put3 in
+    line-put (now (a .text)) (now (a .digits)) (now (a .out)) (first .last .0) (second .last .0) (third .last .0) room
+    (first .ensures ∙ put-fits _ _ _ (omega arith))
+    (second .ensures ∙ put-fits _ _ _ (omega (arith, first .kept .0)))
+    (third .ensures ∙ put-fits _ _ _ (omega (arith, first .kept .0, second .kept .0)))
 
 pub write-line-spec : {M : Type 1} → statement M
 write-line-spec =
