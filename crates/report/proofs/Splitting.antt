@@ -7,8 +7,8 @@ use lib.ListN.{length, take}
 use lib.Seq.{length-take-le, take-all}
 use Rattle.report.specs.Input.{counted}
 
-pub counted-length : (s : List ℕ) → 65536 < length s → 65536 ≡ length (take 65536 s)
-counted-length s h = sym (length-take-le 65536 s (omega arith))
+pub cut-length : (n : ℕ) (s : List ℕ) → n < length s → n ≡ length (take n s)
+cut-length n s h = sym (length-take-le n s (omega arith))
 
 pub counted-cut : (s : List ℕ) → take 65536 s ≡ counted s
 unfolding counted

@@ -1,12 +1,12 @@
 -- `report::counted` meets its contract.
 use native.Mathlib.Omega.{arith}
 use denote.Ref.{now}
-use Rattle.report.proofs.Splitting.{counted-length, counted-cut, counted-all}
+use Rattle.report.proofs.Splitting.{cut-length, counted-cut, counted-all}
 use Rattle.report.proofs.counted.Statement.{statement}
 use Rattle.report.proofs.counted.Tie as tie
 
 slice-aggregate-result : tie.Need-slice-aggregate-result
-slice-aggregate-result c = counted-length (now (c .before .before .args .input)) (c .before .if1 .taken)
+slice-aggregate-result c = cut-length _ (now (c .before .before .args .input)) (c .before .if1 .taken)
 
 returns : tie.Need-returns
 returns c = counted-cut (now (c .before .before .args .input))
