@@ -1,6 +1,8 @@
 // The desk, one slice of numbers: its places by name, elements that are 0 past the end, and random numbers.
 ghost use mathlib.Core.Path.{_≡_};
-ghost use lib.ListN.{length};
+ghost use lib.ListN.{length, getD, set};
+ghost use Prim.Native.Nat.{_+_, _%_};
+ghost use Rattle.random_formulas.specs.Draws.{nextSeed, drawnBelow, Rolled};
 
 pub const SEED: usize = 0;
 // The number of tasks left, of bytes written, the depth of the part being written and the greatest so far.
@@ -40,26 +42,47 @@ pub fn whole() -> [u64; 16384]
     [0; 16384]
 }
 
-pub fn at(desk: &[u64], i: usize) -> u64 {
+pub fn at(desk: &[u64], i: usize) -> u64
+    ensures { λ r. ⌜ r ≡ getD (now (desk .entry)) i 0 ⌝ }
+{
     if i < desk.len() { desk[i] } else { 0 }
 }
 
-pub fn set(desk: &mut [u64], i: usize, v: u64) {
+pub fn set(desk: &mut [u64], i: usize, v: u64)
+    ensures { λ _. ⌜ now (desk .exit) ≡ set (now (desk .entry)) i v ⌝ }
+{
     if i < desk.len() {
         desk[i] = v;
     }
 }
 
 // One more of a kind.
-pub fn count(desk: &mut [u64], i: usize) {
+pub fn count(desk: &mut [u64], i: usize)
+    ensures { λ _. ⌜ now (desk .exit) ≡ set (now (desk .entry)) i (getD (now (desk .entry)) i 0 % 1000000000 + 1) ⌝ }
+{
     let n = at(desk, i) % 1000000000;
     set(desk, i, n + 1);
 }
 
-// A random number below n: the product of the last and 48,271 by 2,147,483,647.
-pub fn roll(desk: &mut [u64], n: u64) -> u64 {
-    let last = at(desk, SEED) % 2147483647;
-    let drawn = last * 48271 % 2147483647;
-    set(desk, SEED, drawn);
-    if n == 0 { 0 } else { drawn / 16 % n }
+// The seed after s.
+fn next_seed(s: u64) -> u64
+    ensures { λ r. ⌜ r ≡ nextSeed s ⌝ }
+{
+    s % 2147483647 * 48271 % 2147483647
+}
+
+// The number below n that a seed gives.
+fn drawn(seed: u64, n: u64) -> u64
+    ensures { λ r. ⌜ r ≡ drawnBelow seed n ⌝ }
+{
+    if n == 0 { 0 } else { seed / 16 % n }
+}
+
+// A random number below n, 0 for 0; the seed moves on.
+pub fn roll(desk: &mut [u64], n: u64) -> u64
+    ensures { λ r. ⌜ Rolled (now (desk .entry)) n (now (desk .exit)) r ⌝ }
+{
+    let seed = next_seed(at(desk, SEED));
+    set(desk, SEED, seed);
+    drawn(seed, n)
 }

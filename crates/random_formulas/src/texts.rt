@@ -1,5 +1,8 @@
 // A tree's text, in brackets where the grouping needs them and here and there without need. A task is a byte to write, the end of an
 // operand of ! ^ ~ (256), or a part (1,024 + 4 * place + 0, 1, 2 for an operand that may be a sum, a product, a factor).
+ghost use mathlib.Core.Path.{_≡_};
+ghost use lib.ListN.{set};
+ghost use Rattle.random_formulas.specs.Texts.{withByte};
 use crate::desk::BYTES;
 use crate::desk::DEEPEST;
 use crate::desk::DEPTH;
@@ -35,7 +38,9 @@ fn pop(desk: &mut [u64]) -> u64 {
 }
 
 // One byte more.
-pub fn write(desk: &mut [u64], b: u8) {
+pub fn write(desk: &mut [u64], b: u8)
+    ensures { λ _. ⌜ now (desk .exit) ≡ withByte (now (desk .entry)) b ⌝ }
+{
     let n = at(desk, BYTES) % 2048;
     set(desk, TEXT + n as usize, b as u64);
     set(desk, BYTES, n + 1);
@@ -212,7 +217,9 @@ fn task(desk: &mut [u64], task: u64) {
     placed(desk, ((task - 1024) / 4 % 256) as usize, task % 4);
 }
 
-pub fn cleared(desk: &mut [u64]) {
+pub fn cleared(desk: &mut [u64])
+    ensures { λ _. ⌜ now (desk .exit) ≡ set (set (set (set (now (desk .entry)) 1 0) 2 0) 3 0) 4 0 ⌝ }
+{
     set(desk, TASKS, 0);
     set(desk, BYTES, 0);
     set(desk, DEPTH, 0);

@@ -1,16 +1,23 @@
 // Random trees: a tree is its parts, operands before operators, each kind + 16 * value. Kinds: 0 and 1 the constants, 2 a name,
 // 3 !, 4 ^, 5 ~, 6 TON, 7 TOF, 8 ., 9 +, 10 SR, 11 RS. The value is the name's number or the length.
+ghost use mathlib.Core.Path.{_≡_};
+ghost use Prim.Native.Nat.{_+_, _*_, _%_};
+ghost use Rattle.random_formulas.specs.Trees.{operandsOf};
 use crate::desk::NAMES;
 use crate::desk::SIZES;
 use crate::desk::at;
 use crate::desk::roll;
 use crate::desk::set;
 
-pub fn part(kind: u64, value: u64) -> u64 {
+pub fn part(kind: u64, value: u64) -> u64
+    ensures { λ r. ⌜ r ≡ kind % 16 + 16 * (value % 4294967296) ⌝ }
+{
     kind % 16 + 16 * (value % 4294967296)
 }
 
-pub fn operands(kind: u64) -> u64 {
+pub fn operands(kind: u64) -> u64
+    ensures { λ r. ⌜ r ≡ operandsOf kind ⌝ }
+{
     if kind < 3 {
         0
     } else if kind < 8 {

@@ -1,6 +1,6 @@
 // A random sheet and two random formulas: each call, and the claim, against the second evaluator.
 // The tally: 0 mismatches, 1 to 18 formulas refused so, 20 formulas answered, 21 to 24 claims that hold, fail at, fail after, are
-// refused.
+// refused. The notes: the sheet's fault, F's, G's, and 18 where the work area is short.
 use crate::made::sheet_fault;
 use crate::made::spoil;
 use crate::made::text;

@@ -100,7 +100,12 @@ fn spoiled_place(fault: u64) -> usize {
     }
 }
 
-// Spoils the sheet written so that it has the fault: by a byte more, or a 2 where none may stand.
+// Version 2, the name A, the first word 2.
+fn spoiled_byte(fault: u64) -> u64 {
+    if fault == 16 { 65 } else { 2 }
+}
+
+// Spoils the sheet written so that it has the fault: by a byte more, or by another byte in its place.
 pub fn spoil(desk: &mut [u64], fault: u64) {
     if fault == 0 {
         return;
@@ -109,5 +114,5 @@ pub fn spoil(desk: &mut [u64], fault: u64) {
         write(desk, 0);
         return;
     }
-    set(desk, spoiled_place(fault), 2);
+    set(desk, spoiled_place(fault), spoiled_byte(fault));
 }

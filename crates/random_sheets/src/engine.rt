@@ -1,6 +1,7 @@
 // The engine's calls on the sheet and formulas of a buffer of four slots of 2,048 bytes: slot 0 the sheet, 1 to 3 the formulas.
 ghost use mathlib.Core.Path.{_≡_};
 ghost use lib.ListN.{length};
+ghost use Prim.Native.Nat.{_+_, _%_};
 use random_formulas::desk::BYTES;
 use random_formulas::desk::LENGTHS;
 use random_formulas::desk::TEXT;
@@ -90,7 +91,9 @@ pub fn claim(desk: &[u64], slots: &[u8], f: usize, g: usize, work: &mut [u32]) -
 }
 
 // The old word at a place of the output.
-pub fn old(i: usize) -> u32 {
+pub fn old(i: usize) -> u32
+    ensures { λ r. ⌜ r ≡ i % 256 + 7000 ⌝ }
+{
     (i % 256) as u32 + 7000
 }
 

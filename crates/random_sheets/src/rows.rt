@@ -1,26 +1,39 @@
 // Signals as rows: the value at every moment up to gap 95. Moment 2k is gap k and moment 2k-1 instant k. Rows 60 to 63 hold the
 // sheet's signals.
+ghost use mathlib.Core.Path.{_≡_};
+ghost use mathlib.Core.Bool.{cond};
+ghost use lib.Dec.{eqb};
+ghost use lib.ListN.{getD, set};
+ghost use Rattle.random_sheets.specs.Rows.{cellOf, wordOf};
 use random_formulas::desk::ROWS;
 use random_formulas::desk::TEXT;
 use random_formulas::desk::at;
 use random_formulas::desk::set;
 use random_formulas::texts::write;
 
-fn cell(row: usize, moment: usize) -> usize {
+fn cell(row: usize, moment: usize) -> usize
+    ensures { λ r. ⌜ r ≡ cellOf row moment ⌝ }
+{
     ROWS + row % 64 * 192 + moment % 192
 }
 
 // The value of a row at a moment.
-pub fn up(desk: &[u64], row: usize, moment: usize) -> bool {
+pub fn up(desk: &[u64], row: usize, moment: usize) -> bool
+    ensures { λ r. ⌜ r ≡ eqb (getD (now (desk .entry)) (cellOf row moment) 0) 1 ⌝ }
+{
     at(desk, cell(row, moment)) == 1
 }
 
-pub fn store(desk: &mut [u64], row: usize, moment: usize, value: bool) {
-    if value {
-        set(desk, cell(row, moment), 1);
-    } else {
-        set(desk, cell(row, moment), 0);
-    }
+fn bit(value: bool) -> u64
+    ensures { λ r. ⌜ r ≡ cond value 1 0 ⌝ }
+{
+    if value { 1 } else { 0 }
+}
+
+pub fn store(desk: &mut [u64], row: usize, moment: usize, value: bool)
+    ensures { λ _. ⌜ now (desk .exit) ≡ set (now (desk .entry)) (cellOf row moment) (cond value 1 0) ⌝ }
+{
+    set(desk, cell(row, moment), bit(value));
 }
 
 // The word of date k, 0 when nothing changes there.
@@ -65,7 +78,9 @@ pub fn words(desk: &mut [u64], row: usize) {
 }
 
 // The i-th of the words written, which are below 65,536.
-pub fn word_at(desk: &[u64], i: usize) -> u64 {
+pub fn word_at(desk: &[u64], i: usize) -> u64
+    ensures { λ r. ⌜ r ≡ wordOf (now (desk .entry)) i ⌝ }
+{
     let place = TEXT + i % 256 * 4;
     at(desk, place) % 256 + at(desk, place + 1) % 256 * 256
 }

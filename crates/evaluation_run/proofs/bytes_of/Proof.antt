@@ -1,6 +1,6 @@
 -- `evaluation_run::bytes_of` is safe and ends.
 use borrow.Author.Needs.{needs}
-use Prim.Native.Nat.{_≤_, _-_}
+use Prim.Native.Nat.{_-_}
 use mathlib.Core.Path.{_≡_}
 use lib.ListN.{length}
 use Rattle.evaluation_run.proofs.bytes_of.Statement.{statement}

@@ -1,6 +1,6 @@
 -- `random_run::rounds` is safe and ends.
 use borrow.Author.Needs.{needs}
-use Prim.Native.Nat.{_≤_, _-_}
+use Prim.Native.Nat.{_-_}
 use mathlib.Core.Path.{_≡_}
 use lib.ListN.{length}
 use Rattle.random_run.proofs.rounds.Statement.{statement}

@@ -1,7 +1,6 @@
 -- `evaluation_run::shown::words` is safe and ends.
 use borrow.Author.Needs.{needs}
 use Prim.Native.Nat.{_≤_, _-_}
-use mathlib.Core.Path.{_≡_}
 use lib.ListN.{length}
 use Rattle.evaluation_run.proofs.shown.words.Statement.{statement}
 use Rattle.evaluation_run.proofs.shown.words.Tie as tie

@@ -1,7 +1,6 @@
 -- `laws_run::judged::same_words` is safe and ends.
 use borrow.Author.Needs.{needs}
 use Prim.Native.Nat.{_≤_, _-_}
-use mathlib.Core.Path.{_≡_}
 use lib.ListN.{length}
 use Rattle.laws_run.proofs.judged.same_words.Statement.{statement}
 use Rattle.laws_run.proofs.judged.same_words.Tie as tie

@@ -1,8 +1,6 @@
 -- `laws_run::sides::leaf_of` is safe and ends.
 use borrow.Author.Needs.{needs}
 use Prim.Native.Nat.{_≤_, _-_}
-use mathlib.Core.Path.{_≡_}
-use lib.ListN.{length}
 use Rattle.laws_run.proofs.sides.leaf_of.Statement.{statement}
 use Rattle.laws_run.proofs.sides.leaf_of.Tie as tie
 

@@ -1,6 +1,6 @@
 -- `laws_run::sides::put_letter` is safe and ends.
 use borrow.Author.Needs.{needs}
-use Prim.Native.Nat.{_≤_, _-_}
+use Prim.Native.Nat.{_-_}
 use mathlib.Core.Path.{_≡_}
 use lib.ListN.{length}
 use Rattle.laws_run.proofs.sides.put_letter.Statement.{statement}

@@ -1,7 +1,6 @@
 -- `random_run::compared::same_output` is safe and ends.
 use borrow.Author.Needs.{needs}
 use Prim.Native.Nat.{_≤_, _-_}
-use mathlib.Core.Path.{_≡_}
 use lib.ListN.{length}
 use Rattle.random_run.proofs.compared.same_output.Statement.{statement}
 use Rattle.random_run.proofs.compared.same_output.Tie as tie

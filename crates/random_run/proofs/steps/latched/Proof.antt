@@ -1,8 +1,6 @@
 -- `random_run::steps::latched` is safe and ends.
 use borrow.Author.Needs.{needs}
 use Prim.Native.Nat.{_≤_, _-_}
-use mathlib.Core.Path.{_≡_}
-use lib.ListN.{length}
 use Rattle.random_run.proofs.steps.latched.Statement.{statement}
 use Rattle.random_run.proofs.steps.latched.Tie as tie
 

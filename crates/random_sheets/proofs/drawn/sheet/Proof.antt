@@ -1,6 +1,6 @@
 -- `random_sheets::drawn::sheet` is safe and ends.
 use borrow.Author.Needs.{needs}
-use Prim.Native.Nat.{_≤_, _-_}
+use Prim.Native.Nat.{_-_}
 use mathlib.Core.Path.{_≡_}
 use lib.ListN.{length}
 use Rattle.random_sheets.proofs.drawn.sheet.Statement.{statement}
