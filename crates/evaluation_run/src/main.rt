@@ -1,12 +1,22 @@
-// Document 01's examples of formula calls and claims, dates near M, and faults 5 and 6 at the parts of a formula; one line each:
-// a label, the fault, the word count and the first words of an output of sevens (for a claim, the verdict).
+// The cases of standard input, a line each: document 01's examples of formula calls and claims, dates near M, and faults 5 and 6 at
+// the parts of a formula. `=` begins a sheet's bytes in hexadecimal; every other line is a sign, a label, a formula and, for a claim,
+// the second formula. The fields stand with | between them. The signs: 6, 2 and 0 a call with room for so many words, of an output of six, two and
+// three sevens; w a call and x a claim with a work area of 8,191 words; > a claim.
+// One line each: a label, the fault, the word count and the output (for a claim, the verdict).
 ghost use mathlib.Core.Path.{_≡_};
 ghost use lib.ListN.{length};
-use signals::Verdict;
-use signals::Written;
+use fields::after;
+use fields::before;
+use fields::byte_at;
+use fields::part;
+use libc::STDIN_FILENO;
 
-mod limits;
-mod many;
+mod shown;
+
+use crate::shown::answered;
+use crate::shown::label_of;
+use crate::shown::verdict;
+use crate::shown::words;
 
 fn work_area() -> [u32; 8192]
     ensures { λ r. ⌜ 8192 ≡ length r ⌝ }
@@ -14,154 +24,159 @@ fn work_area() -> [u32; 8192]
     [0; 8192]
 }
 
-fn scarce_area() -> [u32; 8191]
-    ensures { λ r. ⌜ 8191 ≡ length r ⌝ }
-{
-    [0; 8191]
+fn digit(b: u8) -> u8 {
+    if b < 58 { b % 16 } else { b % 16 + 9 }
 }
 
-fn number(n: u64) {
-    io::write_all(1, b" ");
-    io::print_decimal(1, n);
-}
-
-fn label_of(label: &[u8], text: &[u8]) {
-    io::write_all(1, label);
-    io::write_all(1, b" ");
-    io::write_all(1, text);
-    io::write_all(1, b":");
-}
-
-fn answered(answer: Written) {
-    match answer {
-        Written::Count(count) => {
-            number(0);
-            number(count as u64);
-        }
-        Written::Refused(fault) => {
-            number(fault as u64);
-            number(0);
-        }
+// The i-th byte, from two digits.
+fn put_byte(line: &[u8], sheet: &mut [u8], i: usize) {
+    let k = i % 4096;
+    let high = digit(byte_at(line, 2 * k));
+    let low = digit(byte_at(line, 2 * k + 1));
+    if k < sheet.len() {
+        sheet[k] = high % 16 * 16 + low % 16;
     }
 }
 
-fn word_at(out: &[u32], i: usize) -> u32 {
-    if i < out.len() { out[i] } else { 0 }
-}
-
-fn show(out: &[u32], i: usize) {
-    let word = word_at(out, i);
-    number(word as u64);
-}
-
-fn words(out: &[u32]) {
+// The bytes in hexadecimal, and how many.
+fn bytes_of(line: &[u8], sheet: &mut [u8]) -> usize {
+    let n = line.len() / 2;
     let mut i: usize = 0;
-    while i < out.len() {
-        show(out, i);
+    while i < n {
+        put_byte(line, sheet, i);
         i += 1;
     }
-    io::write_all(1, b"\n");
+    n
 }
 
-// A formula call with room for six words.
-fn called(label: &[u8], sheet: &[u8], text: &[u8]) {
-    let mut work = work_area();
-    let mut out = [7u32; 6];
-    label_of(label, text);
-    answered(evaluation::evaluate(sheet, text, &mut work, &mut out));
-    words(&out);
+// The words of the work area that a sign allows.
+fn work_of(sign: u8) -> usize {
+    if sign == b'w' {
+        8191
+    } else if sign == b'x' {
+        8191
+    } else {
+        8192
+    }
 }
 
-// With room for two words.
-fn short(label: &[u8], sheet: &[u8], text: &[u8]) {
-    let mut work = work_area();
-    let mut out = [7u32; 2];
-    label_of(label, text);
-    answered(evaluation::evaluate(sheet, text, &mut work, &mut out));
-    words(&out);
+// The words of the output that a sign shows; the room is the last of them.
+fn shown_of(sign: u8) -> usize {
+    if sign == b'2' {
+        2
+    } else if sign == b'0' {
+        3
+    } else {
+        6
+    }
 }
 
-// With no room, after the end of a slice.
-fn roomless(label: &[u8], sheet: &[u8], text: &[u8], out: &mut [u32]) {
-    let mut work = work_area();
-    let end = out.len();
-    label_of(label, text);
-    answered(evaluation::evaluate(sheet, text, &mut work, &mut out[end..]));
+fn room_from(sign: u8) -> usize {
+    if sign == b'0' { 3 } else { 0 }
+}
+
+fn call(sheet: &[u8], text: &[u8], work: &mut [u32], out: &mut [u32], from: usize) {
+    if out.len() < from {
+        return;
+    }
+    answered(evaluation::evaluate(sheet, text, work, &mut out[from..]));
     words(out);
 }
 
-// With a work area of 8,191 words.
-fn scarce(label: &[u8], sheet: &[u8], text: &[u8]) {
-    let mut work = scarce_area();
-    let mut out = [7u32; 6];
-    label_of(label, text);
-    answered(evaluation::evaluate(sheet, text, &mut work, &mut out));
-    words(&out);
-}
-
-fn verdict(answer: Verdict) {
-    match answer {
-        Verdict::Holds => {
-            io::write_all(1, b" holds\n");
-        }
-        Verdict::FailsAt(k) => {
-            io::write_all(1, b" fails at");
-            number(k as u64);
-            io::write_all(1, b"\n");
-        }
-        Verdict::FailsAfter(k) => {
-            io::write_all(1, b" fails after");
-            number(k as u64);
-            io::write_all(1, b"\n");
-        }
-        Verdict::Refused(fault) => {
-            io::write_all(1, b" refused");
-            number(fault as u64);
-            io::write_all(1, b"\n");
+// A formula call with the words of work area and output that the sign allows.
+fn call_by(sign: u8, sheet: &[u8], text: &[u8], work: &mut [u32], out: &mut [u32]) {
+    let start: usize = 0;
+    let enough = work_of(sign);
+    let shown = shown_of(sign);
+    if enough <= work.len() {
+        if shown <= out.len() {
+            call(
+                sheet,
+                text,
+                &mut work[start..enough],
+                &mut out[start..shown],
+                room_from(sign),
+            );
         }
     }
 }
 
-fn claimed(label: &[u8], sheet: &[u8], f: &[u8], g: &[u8]) {
+fn called(sign: u8, sheet: &[u8], label: &[u8], text: &[u8]) {
+    let mut work = work_area();
+    let mut out = [7u32; 6];
+    label_of(label, text);
+    call_by(sign, sheet, text, &mut work, &mut out);
+}
+
+fn claim_by(sign: u8, sheet: &[u8], f: &[u8], g: &[u8], work: &mut [u32]) {
+    let start: usize = 0;
+    let enough = work_of(sign);
+    if enough <= work.len() {
+        verdict(evaluation::claim(sheet, f, g, &mut work[start..enough]));
+    }
+}
+
+fn claimed(sign: u8, sheet: &[u8], label: &[u8], f: &[u8], g: &[u8]) {
     let mut work = work_area();
     label_of(label, f);
     label_of(b" to", g);
-    verdict(evaluation::claim(sheet, f, g, &mut work));
+    claim_by(sign, sheet, f, g, &mut work);
 }
 
-fn scarcely_claimed(label: &[u8], sheet: &[u8], f: &[u8], g: &[u8]) {
-    let mut work = scarce_area();
-    label_of(label, f);
-    label_of(b" to", g);
-    verdict(evaluation::claim(sheet, f, g, &mut work));
+fn is_claim(sign: u8) -> bool {
+    if sign == b'>' { true } else { sign == b'x' }
 }
 
-// e = [0,22], f = [0,23,36], l = [0,21].
-fn by_hand() {
-    let efl =
-        b"SGL\x01\x00\x03\x00e\x00\x00\x00\x00\x00\x00\x00\x02\x00\x00\x00\x00\x00\x16\x00\x00\x00f\x00\x00\x00\x00\x00\x00\x00\x03\x00\x00\x00\x00\x00\x17\x00\x00\x00\x24\x00\x00\x00l\x00\x00\x00\x00\x00\x00\x00\x02\x00\x00\x00\x00\x00\x15\x00\x00\x00";
-    called(b"by hand", efl, b"TON(3,f)");
-    called(b"by hand", efl, b"TON(4,f)");
-    called(b"by hand", efl, b"TOF(2,f)");
-    called(b"by hand", efl, b"TOF(2,e)");
-    called(b"by hand", efl, b"TON(0,e)");
-    called(b"by hand", efl, b"TON(3,1)");
-    called(b"by hand", efl, b"^f");
-    called(b"by hand", efl, b"^l");
-    called(b"by hand", efl, b"~e");
-    called(b"by hand", efl, b"SR(e,e)");
-    called(b"by hand", efl, b"RS(e,e)");
-    called(b"by hand", efl, b"SR(f,f)");
-    claimed(b"by hand", efl, b"l", b"e");
-    claimed(b"by hand", efl, b"1", b"f");
-    claimed(b"printed", efl, b"f", b"TON(2,f)");
-    claimed(b"back", efl, b"TON(2,f)", b"f");
+// A case on the sheet: its label, then its formulas.
+fn tried(sign: u8, sheet: &[u8], case: &[u8]) {
+    let label = before(case, b'|');
+    let formulas = after(case, b'|');
+    if is_claim(sign) {
+        claimed(
+            sign,
+            sheet,
+            label,
+            before(formulas, b'|'),
+            after(formulas, b'|'),
+        );
+    } else {
+        called(sign, sheet, label, formulas);
+    }
+}
+
+// One line; how many bytes the sheet has after it.
+fn case(line: &[u8], sheet: &mut [u8], n: usize) -> usize {
+    let sign = byte_at(line, 0);
+    let rest = after(line, b'|');
+    if sign == b'=' {
+        return bytes_of(rest, sheet);
+    }
+    tried(sign, part(sheet, 0, n), rest);
+    n
+}
+
+// The line that begins at i, where one does.
+fn line(text: &[u8], i: usize, sheet: &mut [u8], n: usize) -> usize {
+    if 0 < i {
+        if byte_at(text, i - 1) != b'\n' {
+            return n;
+        }
+    }
+    case(before(part(text, i, text.len()), b'\n'), sheet, n)
+}
+
+fn lines(text: &[u8], sheet: &mut [u8]) {
+    let mut n: usize = 0;
+    let mut i: usize = 0;
+    while i < text.len() {
+        n = line(text, i, sheet, n);
+        i += 1;
+    }
 }
 
 fn main() {
-    by_hand();
-    limits::faults();
-    limits::orders();
-    limits::near_m();
-    many::fives();
+    let mut input = io::large_buffer();
+    let mut sheet = io::buffer();
+    let n = io::read_full(STDIN_FILENO, &mut input);
+    lines(&input[..n], &mut sheet);
 }

@@ -1,430 +1,236 @@
 // A random sheet and two random formulas: each call, and the claim, against the second evaluator.
 // The tally: 0 mismatches, 1 to 18 formulas refused so, 20 formulas answered, 21 to 24 claims that hold, fail at, fail after, are
-// refused.
-use crate::answers::call;
-use crate::answers::claim;
-use crate::answers::early_fault;
-use crate::answers::expected_verdict;
-use crate::answers::fill;
-use crate::answers::list_of;
-use crate::answers::same_output;
-use crate::areas::desk_area;
-use crate::areas::longest;
-use crate::areas::row_area;
-use crate::areas::scarce_work;
-use crate::areas::text_area;
-use crate::areas::tree_area;
-use crate::areas::work_area;
-use crate::cells::at;
-use crate::cells::count;
-use crate::cells::roll;
-use crate::drawn::fault;
-use crate::drawn::sheet_of;
-use crate::drawn::signals;
-use crate::made::formula;
+// refused. The notes: the sheet's fault, F's, G's, and 18 where the work area is short.
+use crate::made::sheet_fault;
+use crate::made::spoil;
+use crate::made::text;
+use crate::made::tree;
+use crate::steps::FAILS;
+use crate::steps::first;
 use crate::steps::stepped;
+use random_formulas::desk::BYTES;
+use random_formulas::desk::NAMES;
+use random_formulas::desk::NOTES;
+use random_formulas::desk::TALLY;
+use random_formulas::desk::at;
+use random_formulas::desk::count;
+use random_formulas::desk::roll;
+use random_formulas::desk::set;
+use random_formulas::texts::cleared;
+use random_sheets::drawn::sheet;
+use random_sheets::drawn::signals;
+use random_sheets::engine::call;
+use random_sheets::engine::claim;
+use random_sheets::engine::fill;
+use random_sheets::engine::kept;
+use random_sheets::engine::longest;
+use random_sheets::engine::old;
+use random_sheets::engine::work_area;
+use random_sheets::rows::word_at;
+use random_sheets::rows::words;
 
-fn tell(tally: &mut [u64], same: bool) {
+fn out_at(out: &[u32], i: usize) -> u32 {
+    if i < out.len() { out[i] } else { 0 }
+}
+
+fn expected_word(desk: &[u64], count: usize, i: usize) -> u64 {
+    if i < count {
+        return word_at(desk, i);
+    }
+    old(i) as u64
+}
+
+fn same_word(desk: &[u64], out: &[u32], count: usize, i: usize) -> bool {
+    let word = out_at(out, i);
+    word as u64 == expected_word(desk, count, i)
+}
+
+// The output is the words written, so many, then the old ones.
+fn same_output(desk: &[u64], out: &[u32], count: usize) -> bool {
+    let mut i: usize = 0;
+    while i < out.len() {
+        if !same_word(desk, out, count, i) {
+            return false;
+        }
+        i += 1;
+    }
+    true
+}
+
+// Counts the kind, and a mismatch where there is one.
+fn tell(desk: &mut [u64], kind: u64, same: bool) {
+    count(desk, TALLY + (kind % 32) as usize);
     if same {
         return;
     }
-    count(tally, 0);
+    count(desk, TALLY);
 }
 
-// Refused as expected, with the output untouched.
-fn refused(tally: &mut [u64], fault: u64, answer: u64, out: &[u32]) {
-    count(tally, (fault % 20) as usize);
-    tell(tally, answer == fault % 20 + 1000);
-    tell(tally, same_output(out, out, 0));
+fn same_answer(number: bool, output: bool) -> bool {
+    if number { output } else { false }
 }
 
-fn matched(tally: &mut [u64], answer: u64, out: &[u32], list: &[u32], n: usize) {
-    count(tally, 20);
-    tell(tally, answer == n as u64);
-    tell(tally, same_output(out, list, n));
+// The answer and the output against the number and so many words expected.
+fn compare(desk: &mut [u64], kind: u64, expected: u64, answer: u64, out: &[u32], n: usize) {
+    let same = same_answer(answer == expected, same_output(desk, out, n));
+    tell(desk, kind, same);
 }
 
-fn listed(tally: &mut [u64], answer: u64, out: &[u32], list: &[u32], n: usize) {
+// Writes the list of a row; how many words.
+fn list(desk: &mut [u64], row: usize) -> usize {
+    cleared(desk);
+    words(desk, row);
+    (at(desk, BYTES) / 4) as usize
+}
+
+// What comes before the parts are worked out: the sheet's fault, F's, G's, 18.
+fn early_fault(desk: &[u64], f: usize, g: usize) -> u64 {
+    let of_sheet = at(desk, NOTES);
+    if of_sheet != 0 {
+        return of_sheet;
+    }
+    let of_f = at(desk, NOTES + f % 4);
+    if of_f != 0 {
+        return of_f;
+    }
+    let of_g = at(desk, NOTES + g % 4);
+    if of_g != 0 {
+        return of_g;
+    }
+    at(desk, NOTES + 3)
+}
+
+fn judge_call(desk: &mut [u64], f: usize, answer: u64, out: &[u32]) {
+    let fault = early_fault(desk, f, f) % 20;
+    if fault != 0 {
+        compare(desk, fault, fault + 1000, answer, out, 0);
+        return;
+    }
+    let n = list(desk, f);
     if out.len() < n {
-        refused(tally, 7, answer, out);
+        compare(desk, 7, 1007, answer, out, 0);
         return;
     }
-    matched(tally, answer, out, list, n);
+    compare(desk, 20, n as u64, answer, out, n);
 }
 
-fn answered(tally: &mut [u64], rows: &[u8], row: usize, answer: u64, out: &[u32]) {
-    let mut list = longest();
-    let n = list_of(rows, row, &mut list);
-    listed(tally, answer, out, &list, n);
+fn call_in(desk: &mut [u64], slots: &[u8], f: usize, work: &mut [u32], out: &mut [u32]) {
+    fill(out);
+    let answer = call(desk, slots, f, work, out);
+    judge_call(desk, f, answer, out);
 }
 
-fn told(tally: &mut [u64], rows: &[u8], row: usize, early: u64, answer: u64, out: &[u32]) {
-    if early == 0 {
-        answered(tally, rows, row, answer, out);
-        return;
-    }
-    refused(tally, early, answer, out);
+fn room_of(few: bool) -> usize {
+    if few { 2 } else { 256 }
 }
 
-// One formula call; early is the fault before the parts are worked out.
-fn formula_call(
-    tally: &mut [u64],
-    rows: &[u8],
-    row: usize,
-    early: u64,
-    sheet: &[u8],
-    in_sheet: usize,
-    text: &[u8],
-    in_text: usize,
+// With room for every list, at times for two words.
+fn call_with(
+    desk: &mut [u64],
+    slots: &[u8],
+    f: usize,
     work: &mut [u32],
     out: &mut [u32],
+    room: usize,
 ) {
-    fill(out);
-    let answer = call(sheet, in_sheet, text, in_text, work, out);
-    told(tally, rows, row, early, answer, out);
-}
-
-// With room for two words.
-fn little(
-    tally: &mut [u64],
-    rows: &[u8],
-    row: usize,
-    early: u64,
-    sheet: &[u8],
-    in_sheet: usize,
-    text: &[u8],
-    in_text: usize,
-    work: &mut [u32],
-) {
-    let mut out = [0u32; 2];
-    formula_call(
-        tally,
-        rows,
-        row,
-        early,
-        sheet,
-        in_sheet,
-        text,
-        in_text,
-        work,
-        &mut out,
-    );
-}
-
-// With room for every list.
-fn ample(
-    tally: &mut [u64],
-    rows: &[u8],
-    row: usize,
-    early: u64,
-    sheet: &[u8],
-    in_sheet: usize,
-    text: &[u8],
-    in_text: usize,
-    work: &mut [u32],
-) {
-    let mut out = longest();
-    formula_call(
-        tally,
-        rows,
-        row,
-        early,
-        sheet,
-        in_sheet,
-        text,
-        in_text,
-        work,
-        &mut out,
-    );
-}
-
-fn outputs(
-    seed: &mut [u64],
-    tally: &mut [u64],
-    rows: &[u8],
-    row: usize,
-    early: u64,
-    sheet: &[u8],
-    in_sheet: usize,
-    text: &[u8],
-    in_text: usize,
-    work: &mut [u32],
-) {
-    if roll(seed, 20) == 0 {
-        little(
-            tally,
-            rows,
-            row,
-            early,
-            sheet,
-            in_sheet,
-            text,
-            in_text,
-            work,
-        );
+    let start: usize = 0;
+    if out.len() < room {
         return;
     }
-    ample(
-        tally,
-        rows,
-        row,
-        early,
-        sheet,
-        in_sheet,
-        text,
-        in_text,
-        work,
-    );
+    call_in(desk, slots, f, work, &mut out[start..room]);
 }
 
-fn kind_of(verdict: u64) -> usize {
-    if verdict == 0 {
-        21
-    } else {
-        (verdict % 4) as usize + 21
+// One formula call.
+fn formula_call(desk: &mut [u64], slots: &[u8], f: usize, work: &mut [u32]) {
+    let mut out = longest();
+    let few = roll(desk, 20) == 0;
+    call_with(desk, slots, f, work, &mut out, room_of(few));
+}
+
+fn failure(moment: usize) -> u64 {
+    let m = (moment % 192) as u64;
+    if m == 191 {
+        return 0;
     }
-}
-
-fn expected(rows: &[u8], early: u64) -> u64 {
-    if early == 0 {
-        return expected_verdict(rows);
+    if m % 2 == 0 {
+        return m / 2 * 4 + 2;
     }
-    early % 20 * 4 + 3
+    (m + 1) / 2 * 4 + 1
 }
 
-fn judged(tally: &mut [u64], rows: &[u8], early: u64, answer: u64) {
-    let verdict = expected(rows, early);
-    count(tally, kind_of(verdict));
-    tell(tally, answer == verdict);
+// The verdict expected, moment by moment up to gap 95.
+fn expected_verdict(desk: &[u64]) -> u64 {
+    let fault = early_fault(desk, 1, 2) % 20;
+    if fault != 0 {
+        return fault * 4 + 3;
+    }
+    failure(first(desk, FAILS, 0, 0, 191))
 }
 
-fn calls(
-    seed: &mut [u64],
-    tally: &mut [u64],
-    rows: &[u8],
-    faults: &[u64],
-    sheet: &[u8],
-    in_sheet: usize,
-    f: &[u8],
-    in_f: usize,
-    g: &[u8],
-    in_g: usize,
-    work: &mut [u32],
-    scarce: bool,
-) {
-    let of_sheet = at(faults, 0);
-    let of_f = at(faults, 1);
-    let of_g = at(faults, 2);
-    let early_f = early_fault(of_sheet, of_f, 0, scarce);
-    outputs(
-        seed,
-        tally,
-        rows,
-        0,
-        early_f,
-        sheet,
-        in_sheet,
-        f,
-        in_f,
-        work,
-    );
-    let early_g = early_fault(of_sheet, of_g, 0, scarce);
-    outputs(
-        seed,
-        tally,
-        rows,
-        1,
-        early_g,
-        sheet,
-        in_sheet,
-        g,
-        in_g,
-        work,
-    );
-    let answer = claim(sheet, in_sheet, f, in_f, g, in_g, work);
-    judged(
-        tally,
-        rows,
-        early_fault(of_sheet, of_f, of_g, scarce),
-        answer,
-    );
+fn judge_claim(desk: &mut [u64], answer: u64) {
+    let verdict = expected_verdict(desk);
+    tell(desk, verdict % 4 + 21, answer == verdict);
 }
 
-fn with_scarce(
-    seed: &mut [u64],
-    tally: &mut [u64],
-    rows: &[u8],
-    faults: &[u64],
-    sheet: &[u8],
-    in_sheet: usize,
-    f: &[u8],
-    in_f: usize,
-    g: &[u8],
-    in_g: usize,
-) {
-    let mut work = scarce_work();
-    calls(
-        seed,
-        tally,
-        rows,
-        faults,
-        sheet,
-        in_sheet,
-        f,
-        in_f,
-        g,
-        in_g,
-        &mut work,
-        true,
-    );
+fn calls(desk: &mut [u64], slots: &[u8], work: &mut [u32]) {
+    formula_call(desk, slots, 1, work);
+    formula_call(desk, slots, 2, work);
+    let answer = claim(desk, slots, 1, 2, work);
+    judge_claim(desk, answer);
 }
 
-fn with_enough(
-    seed: &mut [u64],
-    tally: &mut [u64],
-    rows: &[u8],
-    faults: &[u64],
-    sheet: &[u8],
-    in_sheet: usize,
-    f: &[u8],
-    in_f: usize,
-    g: &[u8],
-    in_g: usize,
-) {
-    let mut work = work_area();
-    calls(
-        seed,
-        tally,
-        rows,
-        faults,
-        sheet,
-        in_sheet,
-        f,
-        in_f,
-        g,
-        in_g,
-        &mut work,
-        false,
-    );
+fn calls_with(desk: &mut [u64], slots: &[u8], work: &mut [u32], enough: usize) {
+    let start: usize = 0;
+    if work.len() < enough {
+        return;
+    }
+    calls(desk, slots, &mut work[start..enough]);
+}
+
+fn work_fault(scarce: bool) -> u64 {
+    if scarce { 18 } else { 0 }
+}
+
+fn work_of(scarce: bool) -> usize {
+    if scarce { 8191 } else { 8192 }
 }
 
 // With a work area of 8,192 words, at times of one less.
-fn with_work(
-    seed: &mut [u64],
-    tally: &mut [u64],
-    rows: &[u8],
-    faults: &[u64],
-    sheet: &[u8],
-    in_sheet: usize,
-    f: &[u8],
-    in_f: usize,
-    g: &[u8],
-    in_g: usize,
-) {
-    if roll(seed, 50) == 0 {
-        with_scarce(seed, tally, rows, faults, sheet, in_sheet, f, in_f, g, in_g);
+fn with_work(desk: &mut [u64], slots: &[u8]) {
+    let mut work = work_area();
+    let scarce = roll(desk, 50) == 0;
+    let fault = work_fault(scarce);
+    set(desk, NOTES + 3, fault);
+    calls_with(desk, slots, &mut work, work_of(scarce));
+}
+
+// A formula in its slot and, if it has no fault, its values in the row of that number.
+fn formula(desk: &mut [u64], slots: &mut [u8], f: usize) {
+    let n = tree(desk);
+    let fault = text(desk, n);
+    set(desk, NOTES + f % 4, fault);
+    kept(desk, slots, f);
+    if fault != 0 {
         return;
     }
-    with_enough(seed, tally, rows, faults, sheet, in_sheet, f, in_f, g, in_g);
+    stepped(desk, n, f);
 }
 
-// A formula and, if it has no fault, its values in the row.
-fn worked(
-    seed: &mut [u64],
-    names: u64,
-    rows: &mut [u8],
-    row: usize,
-    desk: &mut [u64],
-    text: &mut [u8],
-    about: &mut [u64],
-) {
-    let mut tree = tree_area();
-    formula(seed, names, &mut tree, desk, text, about);
-    if at(about, 2) != 0 {
-        return;
-    }
-    stepped(rows, &tree, at(about, 0) as usize, row);
+// The sheet in its slot.
+fn sheet_drawn(desk: &mut [u64], slots: &mut [u8]) {
+    signals(desk);
+    let many = roll(desk, 3) % 3 + 1;
+    let fault = sheet_fault(desk);
+    set(desk, NAMES, many);
+    set(desk, NOTES, fault);
+    sheet(desk, many as usize);
+    spoil(desk, fault);
+    kept(desk, slots, 0);
 }
 
-pub fn round(seed: &mut [u64], tally: &mut [u64]) {
-    let mut rows = row_area();
-    let mut desk = desk_area();
-    let mut sheet = text_area();
-    signals(seed, &mut rows);
-    let many = roll(seed, 3) % 3 + 1;
-    let of_sheet = fault(seed);
-    let in_sheet = sheet_of(&rows, &mut desk, &mut sheet, many as usize, of_sheet);
-    pair(seed, tally, &mut rows, many, of_sheet, &sheet, in_sheet);
-}
-
-// Two random formulas on the sheet.
-fn pair(
-    seed: &mut [u64],
-    tally: &mut [u64],
-    rows: &mut [u8],
-    many: u64,
-    of_sheet: u64,
-    sheet: &[u8],
-    in_sheet: usize,
-) {
-    let mut f = text_area();
-    let mut g = text_area();
-    let mut of_f = [0u64; 3];
-    let mut of_g = [0u64; 3];
-    two(seed, many, rows, &mut f, &mut of_f, &mut g, &mut of_g);
-    about(
-        seed,
-        tally,
-        rows,
-        of_sheet,
-        sheet,
-        in_sheet,
-        &f,
-        &of_f,
-        &g,
-        &of_g,
-    );
-}
-
-fn two(
-    seed: &mut [u64],
-    many: u64,
-    rows: &mut [u8],
-    f: &mut [u8],
-    of_f: &mut [u64],
-    g: &mut [u8],
-    of_g: &mut [u64],
-) {
-    let mut desk = desk_area();
-    worked(seed, many, rows, 0, &mut desk, f, of_f);
-    worked(seed, many, rows, 1, &mut desk, g, of_g);
-}
-
-fn about(
-    seed: &mut [u64],
-    tally: &mut [u64],
-    rows: &[u8],
-    of_sheet: u64,
-    sheet: &[u8],
-    in_sheet: usize,
-    f: &[u8],
-    of_f: &[u64],
-    g: &[u8],
-    of_g: &[u64],
-) {
-    let faults = [of_sheet, at(of_f, 2), at(of_g, 2)];
-    let in_f = at(of_f, 1) as usize;
-    let in_g = at(of_g, 1) as usize;
-    with_work(
-        seed,
-        tally,
-        rows,
-        &faults,
-        sheet,
-        in_sheet,
-        f,
-        in_f,
-        g,
-        in_g,
-    );
+pub fn round(desk: &mut [u64], slots: &mut [u8]) {
+    sheet_drawn(desk, slots);
+    formula(desk, slots, 1);
+    formula(desk, slots, 2);
+    with_work(desk, slots);
 }

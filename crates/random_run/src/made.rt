@@ -1,142 +1,118 @@
-// Random formulas with their fault number. About a formula: the number of its parts, of its bytes, its fault.
-use crate::areas::tree_area;
-use crate::cells::at;
-use crate::cells::roll;
-use crate::cells::set;
-use crate::texts::write;
-use crate::texts::written;
-use crate::trees::grow;
-use crate::trees::measure;
+// Random formulas with their fault number, and spoiled sheets.
+use crate::steps::LONG;
+use crate::steps::STRANGE;
+use crate::steps::first;
+use random_formulas::desk::BYTES;
+use random_formulas::desk::DEEPEST;
+use random_formulas::desk::TEXT;
+use random_formulas::desk::TREE;
+use random_formulas::desk::at;
+use random_formulas::desk::roll;
+use random_formulas::desk::set;
+use random_formulas::texts::write;
+use random_formulas::texts::written;
+use random_formulas::trees::grow;
 
 // How many parts at least: mostly few.
-fn least(seed: &mut [u64]) -> usize {
-    if roll(seed, 25) == 0 {
-        return (roll(seed, 20) % 20) as usize + 18;
+fn least(desk: &mut [u64]) -> usize {
+    if roll(desk, 25) == 0 {
+        return (roll(desk, 20) % 20) as usize + 18;
     }
-    (roll(seed, 11) % 11) as usize + 1
+    (roll(desk, 11) % 11) as usize + 1
 }
 
-// Spoils some texts; their fault, 0 for the rest.
-fn spoiled(seed: &mut [u64], desk: &mut [u64], text: &mut [u8]) -> u64 {
-    let r = roll(seed, 250);
-    if r == 0 {
-        set(desk, 1, 0);
-        return 10;
-    }
-    if r == 1 {
-        set(desk, 1, 1025);
-        return 10;
-    }
+// A byte that no formula ends with.
+fn stray(r: u64) -> u8 {
     if r == 2 {
-        write(desk, text, 43);
-        return 11;
+        43
+    } else if r == 3 {
+        41
+    } else {
+        32
     }
-    if r == 3 {
-        write(desk, text, 41);
-        return 11;
-    }
-    if r == 4 {
-        write(desk, text, 32);
-        return 11;
-    }
-    0
 }
 
-// A length above M.
-fn long(word: u64) -> bool {
-    if 1073741823 < word / 16 {
-        return word % 16 != 2;
+// Spoils some texts; their fault, else the one given.
+fn spoiled(desk: &mut [u64], fault: u64) -> u64 {
+    let r = roll(desk, 250);
+    if 4 < r {
+        return fault;
     }
-    false
-}
-
-// A name that the sheet lacks.
-fn strange(word: u64, names: u64) -> bool {
-    if word % 16 == 2 {
-        return names <= word / 16;
-    }
-    false
-}
-
-fn some_long(tree: &[u64], n: usize) -> bool {
-    let mut i: usize = 0;
-    while i < n {
-        if long(at(tree, i)) {
-            return true;
-        }
-        i += 1;
-    }
-    false
-}
-
-fn some_strange(tree: &[u64], n: usize, names: u64) -> bool {
-    let mut i: usize = 0;
-    while i < n {
-        if strange(at(tree, i), names) {
-            return true;
-        }
-        i += 1;
-    }
-    false
-}
-
-fn tree_fault(tree: &[u64], n: usize, names: u64, bytes: u64, depth: u64) -> u64 {
-    if 1024 < bytes {
+    if r < 2 {
+        set(desk, BYTES, r * 1025);
         return 10;
     }
-    if some_long(tree, n) {
-        return 8;
-    }
+    write(desk, stray(r));
+    11
+}
+
+fn shape_fault(n: usize, depth: u64) -> u64 {
     if 32 < n {
         return 12;
     }
-    if 16 < depth {
-        return 12;
+    if 16 < depth { 12 } else { 0 }
+}
+
+fn tree_fault(desk: &[u64], n: usize) -> u64 {
+    if 1024 < at(desk, BYTES) {
+        return 10;
     }
-    if some_strange(tree, n, names) {
+    if first(desk, LONG, 0, 0, n) < n {
+        return 8;
+    }
+    let fault = shape_fault(n, at(desk, DEEPEST));
+    if fault != 0 {
+        return fault;
+    }
+    if first(desk, STRANGE, 0, 0, n) < n {
         return 13;
     }
     0
 }
 
-// Writes the tree and notes what is known about it.
-pub fn noted(
-    seed: &mut [u64],
-    names: u64,
-    tree: &[u64],
-    n: usize,
-    desk: &mut [u64],
-    text: &mut [u8],
-    about: &mut [u64],
-) {
-    let mut sizes = tree_area();
-    measure(tree, n, &mut sizes);
-    written(seed, tree, &sizes, n, desk, text);
-    let fault = tree_fault(tree, n, names, at(desk, 1), at(desk, 3));
-    set(about, 0, n as u64);
-    set(about, 1, at(desk, 1));
-    set(about, 2, fault);
+// A tree, how many parts it has.
+pub fn tree(desk: &mut [u64]) -> usize {
+    let parts = least(desk);
+    grow(desk, TREE, parts)
 }
 
-pub fn formula(
-    seed: &mut [u64],
-    names: u64,
-    tree: &mut [u64],
-    desk: &mut [u64],
-    text: &mut [u8],
-    about: &mut [u64],
-) {
-    let parts = least(seed);
-    let n = grow(seed, names, parts, tree);
-    noted(seed, names, tree, n, desk, text, about);
-    let fault = spoiled(seed, desk, text);
-    spoil(about, at(desk, 1), fault);
+// Writes the tree, and spoils some texts; the fault.
+pub fn text(desk: &mut [u64], n: usize) -> u64 {
+    written(desk, TREE, n);
+    let fault = tree_fault(desk, n);
+    spoiled(desk, fault)
 }
 
-fn spoil(about: &mut [u64], bytes: u64, fault: u64) {
+// A sheet fault, most times none.
+pub fn sheet_fault(desk: &mut [u64]) -> u64 {
+    let r = roll(desk, 200);
+    if r < 4 { r + 14 } else { 0 }
+}
+
+// The place of the version, of the first name and of the first word.
+fn spoiled_place(fault: u64) -> usize {
+    if fault == 14 {
+        TEXT + 3
+    } else if fault == 16 {
+        TEXT + 7
+    } else {
+        TEXT + 17
+    }
+}
+
+// Version 2, the name A, the first word 2.
+fn spoiled_byte(fault: u64) -> u64 {
+    if fault == 16 { 65 } else { 2 }
+}
+
+// Spoils the sheet written so that it has the fault: by a byte more, or by another byte in its place.
+pub fn spoil(desk: &mut [u64], fault: u64) {
     if fault == 0 {
         return;
     }
-    set(about, 1, bytes);
-    set(about, 2, fault);
+    if fault == 15 {
+        write(desk, 0);
+        return;
+    }
+    set(desk, spoiled_place(fault), spoiled_byte(fault));
 }

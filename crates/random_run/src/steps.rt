@@ -1,57 +1,89 @@
-// The second evaluator: the value of every part at every moment up to gap 95, by document 01's sentences. Moment 2k is gap k and
-// moment 2k-1 instant k. A row holds 192 moments; rows 60 to 63 hold the sheet's signals.
-use crate::cells::at;
-use crate::cells::byte_at;
-use crate::cells::set_byte;
-use crate::trees::operands;
+// The second evaluator: the value of every part at every moment up to gap 95, by document 01's sentences.
+use random_formulas::desk::NAMES;
+use random_formulas::desk::TREE;
+use random_formulas::desk::at;
+use random_formulas::trees::operands;
+use random_sheets::rows::store;
+use random_sheets::rows::up;
 
-fn cell(row: usize, moment: usize) -> usize {
-    row % 64 * 192 + moment % 192
-}
+// The tests of a place: a row is down or up at a moment, row 1 is up and row 2 down, a part of the tree has a length above M, a part
+// is a name that the sheet lacks.
+pub const DOWN: u64 = 0;
 
-// The value of a row at a moment.
-pub fn up(rows: &[u8], row: usize, moment: usize) -> bool {
-    byte_at(rows, cell(row, moment)) == 1
-}
+pub const UP: u64 = 1;
 
-pub fn store(rows: &mut [u8], row: usize, moment: usize, value: bool) {
-    if value {
-        set_byte(rows, cell(row, moment), 1);
-    } else {
-        set_byte(rows, cell(row, moment), 0);
+pub const FAILS: u64 = 2;
+
+pub const LONG: u64 = 3;
+
+pub const STRANGE: u64 = 4;
+
+fn fails(desk: &[u64], moment: usize) -> bool {
+    if up(desk, 1, moment) {
+        return !up(desk, 2, moment);
     }
+    false
 }
 
-fn leaf_up(rows: &[u8], kind: u64, value: u64, moment: usize) -> bool {
-    if kind == 0 {
-        return false;
+fn long(word: u64) -> bool {
+    if 1073741823 < word / 16 {
+        return word % 16 != 2;
     }
-    if kind == 1 {
-        return true;
+    false
+}
+
+fn strange(word: u64, names: u64) -> bool {
+    if word % 16 == 2 {
+        return names <= word / 16;
+    }
+    false
+}
+
+fn passes(desk: &[u64], test: u64, row: usize, i: usize) -> bool {
+    if test < FAILS {
+        let value = test == UP;
+        return up(desk, row, i) == value;
+    }
+    if test == FAILS {
+        return fails(desk, i);
+    }
+    let word = at(desk, TREE + i % 256);
+    if test == LONG {
+        return long(word);
+    }
+    strange(word, at(desk, NAMES))
+}
+
+// The first place from one up to another that passes the test, the end when none does.
+pub fn first(desk: &[u64], test: u64, row: usize, from: usize, end: usize) -> usize {
+    let mut i = from;
+    while i < end {
+        if passes(desk, test, row, i) {
+            return i;
+        }
+        i += 1;
+    }
+    end
+}
+
+fn leaf_up(desk: &[u64], kind: u64, value: u64, moment: usize) -> bool {
+    if kind < 2 {
+        return kind == 1;
     }
     let row = (value % 4 + 60) as usize;
-    up(rows, row, moment)
-}
-
-fn leaf(rows: &mut [u8], kind: u64, value: u64, row: usize) {
-    let mut m: usize = 192;
-    while 0 < m {
-        m -= 1;
-        let v = leaf_up(rows, kind, value, m);
-        store(rows, row, m, v);
-    }
+    up(desk, row, moment)
 }
 
 // Up, or down, at an instant and the other just before.
-fn edge(rows: &[u8], row: usize, moment: usize, to: bool) -> bool {
+fn edge(desk: &[u64], row: usize, moment: usize, to: bool) -> bool {
     if moment % 2 == 0 {
         return false;
     }
     if moment == 0 {
         return false;
     }
-    let now = up(rows, row, moment);
-    let before = up(rows, row, moment - 1);
+    let now = up(desk, row, moment);
+    let before = up(desk, row, moment - 1);
     if now == before {
         return false;
     }
@@ -59,169 +91,128 @@ fn edge(rows: &[u8], row: usize, moment: usize, to: bool) -> bool {
 }
 
 // The first moment from t-d on.
-fn first(moment: usize, d: u64) -> usize {
-    let back = (d % 96) as usize * 2;
-    if back < moment { moment - back } else { 0 }
+fn back(moment: usize, d: u64) -> usize {
+    let by = (d % 96) as usize * 2;
+    if by < moment { moment - by } else { 0 }
 }
 
 // The row has the value at some moment from t-d to t.
-fn some(rows: &[u8], row: usize, moment: usize, d: u64, value: bool) -> bool {
+fn some(desk: &[u64], test: u64, row: usize, moment: usize, d: u64) -> bool {
     let end = moment % 192 + 1;
-    let mut m = first(moment, d);
-    while m < end {
-        if up(rows, row, m) == value {
-            return true;
-        }
-        m += 1;
-    }
-    false
+    first(desk, test, row, back(moment, d), end) < end
 }
 
-fn ton(rows: &[u8], row: usize, moment: usize, d: u64) -> bool {
+fn ton(desk: &[u64], row: usize, moment: usize, d: u64) -> bool {
     let k = (moment % 1024 + 1) / 2;
     if (k as u64) < d {
         return false;
     }
-    !some(rows, row, moment, d, false)
+    !some(desk, DOWN, row, moment, d)
 }
 
-fn unary_up(rows: &[u8], kind: u64, d: u64, row: usize, moment: usize) -> bool {
+fn unary_up(desk: &[u64], kind: u64, d: u64, row: usize, moment: usize) -> bool {
     if kind == 3 {
-        return !up(rows, row, moment);
+        return !up(desk, row, moment);
     }
-    if kind == 4 {
-        return edge(rows, row, moment, true);
-    }
-    if kind == 5 {
-        return edge(rows, row, moment, false);
+    if kind < 6 {
+        return edge(desk, row, moment, kind == 4);
     }
     if kind == 6 {
-        return ton(rows, row, moment, d);
+        return ton(desk, row, moment, d);
     }
-    some(rows, row, moment, d, true)
+    some(desk, UP, row, moment, d)
 }
 
-// From the last moment to the first, since a part looks only back.
-fn unary(rows: &mut [u8], kind: u64, d: u64, row: usize) {
-    let mut m: usize = 192;
-    while 0 < m {
-        m -= 1;
-        let v = unary_up(rows, kind, d, row, m);
-        store(rows, row, m, v);
-    }
-}
-
-// SR and RS at a moment: back from it, with r down on all the moments after m.
-fn latched(rows: &[u8], kind: u64, s: usize, r: usize, moment: usize) -> bool {
-    if kind == 10 {
-        if up(rows, s, moment) {
-            return true;
+// At moment m, with r down on all the moments after it: 0 when SR or RS is up by it, 1 when r is up, 2 when earlier moments decide.
+fn decided(desk: &[u64], kind: u64, s: usize, r: usize, m: usize) -> u64 {
+    let set = up(desk, s, m);
+    let reset = up(desk, r, m);
+    if reset {
+        if set {
+            if kind == 10 {
+                return 1 - m as u64 % 2;
+            }
         }
+        return 1;
     }
+    if set { 0 } else { 2 }
+}
+
+// SR and RS at a moment, back from it.
+fn latched(desk: &[u64], kind: u64, s: usize, r: usize, moment: usize) -> bool {
     let mut left = moment % 192 + 1;
     while 0 < left {
         left -= 1;
-        let reset = up(rows, r, left);
-        if up(rows, s, left) {
-            if reset {
-                if kind == 10 {
-                    if left % 2 == 1 {
-                        return true;
-                    }
-                }
-            } else {
-                return true;
-            }
-        }
-        if reset {
-            return false;
+        let way = decided(desk, kind, s, r, left);
+        if way < 2 {
+            return way == 0;
         }
     }
     false
 }
 
-fn binary_up(rows: &[u8], kind: u64, f: usize, g: usize, moment: usize) -> bool {
-    if kind == 8 {
-        if up(rows, f, moment) {
-            return up(rows, g, moment);
-        }
-        return false;
-    }
-    if kind == 9 {
-        if up(rows, f, moment) {
+fn latch_up(desk: &[u64], kind: u64, s: usize, r: usize, moment: usize) -> bool {
+    if kind == 10 {
+        if up(desk, s, moment) {
             return true;
         }
-        return up(rows, g, moment);
     }
-    latched(rows, kind, f, g, moment)
+    latched(desk, kind, s, r, moment)
 }
 
-fn binary(rows: &mut [u8], kind: u64, row: usize) {
-    let g = row % 64 + 1;
+fn binary_up(desk: &[u64], kind: u64, f: usize, g: usize, moment: usize) -> bool {
+    if 9 < kind {
+        return latch_up(desk, kind, f, g, moment);
+    }
+    let first = up(desk, f, moment);
+    let second = up(desk, g, moment);
+    if kind == 8 {
+        if first { second } else { false }
+    } else {
+        if first { true } else { second }
+    }
+}
+
+// A part at a moment, its operands standing in the row and the one after it.
+fn part_up(desk: &[u64], kind: u64, value: u64, row: usize, moment: usize) -> bool {
+    let n = operands(kind);
+    if n == 0 {
+        return leaf_up(desk, kind, value, moment);
+    }
+    if n == 1 {
+        return unary_up(desk, kind, value, row, moment);
+    }
+    binary_up(desk, kind, row, row % 64 + 1, moment)
+}
+
+// From the last moment to the first, since a part looks only back.
+fn filled(desk: &mut [u64], kind: u64, value: u64, row: usize) {
     let mut m: usize = 192;
     while 0 < m {
         m -= 1;
-        let v = binary_up(rows, kind, row, g, m);
-        store(rows, row, m, v);
+        let v = part_up(desk, kind, value, row, m);
+        store(desk, row, m, v);
     }
 }
 
-// One part more; how many rows stand.
-fn step(rows: &mut [u8], word: u64, top: usize, base: usize) -> usize {
+// One part more; how many rows stand from the base on.
+fn step(desk: &mut [u64], word: u64, top: usize, base: usize) -> usize {
     let kind = word % 16;
-    let value = word / 16;
-    let n = operands(kind);
-    let low = base % 64;
+    let n = (operands(kind) % 3) as usize;
     let high = top % 64;
-    if n == 0 {
-        leaf(rows, kind, value, low + high);
-        return high + 1;
-    }
-    if high == 0 {
-        return 0;
-    }
-    if n == 1 {
-        unary(rows, kind, value, low + high - 1);
+    if high < n {
         return high;
     }
-    if high < 2 {
-        return high;
-    }
-    binary(rows, kind, low + high - 2);
-    high - 1
+    filled(desk, kind, word / 16, base % 64 + high - n);
+    high + 1 - n
 }
 
 // The tree of n parts, its values in the row base.
-pub fn stepped(rows: &mut [u8], tree: &[u64], n: usize, base: usize) {
+pub fn stepped(desk: &mut [u64], n: usize, base: usize) {
     let mut top: usize = 0;
     let mut i: usize = 0;
     while i < n {
-        top = step(rows, at(tree, i), top, base);
+        top = step(desk, at(desk, TREE + i % 256), top, base);
         i += 1;
-    }
-}
-
-// The word of date k, 0 when nothing changes there.
-pub fn change(rows: &[u8], row: usize, date: usize) -> u32 {
-    let k = date % 96;
-    if k == 0 {
-        return 0;
-    }
-    let before = up(rows, row, 2 * k - 2);
-    let at = up(rows, row, 2 * k - 1);
-    let after = up(rows, row, 2 * k);
-    let word = (4 * k) as u32;
-    if at {
-        if after {
-            if before { 0 } else { word + 3 }
-        } else {
-            word + 2
-        }
-    } else {
-        if after {
-            word + 1
-        } else {
-            if before { word } else { 0 }
-        }
     }
 }

@@ -1,0 +1,15 @@
+-- `evaluation_run::shown::words` is safe and ends.
+use borrow.Author.Needs.{needs}
+use Prim.Native.Nat.{_≤_, _-_}
+use lib.ListN.{length}
+use Rattle.evaluation_run.proofs.shown.words.Statement.{statement}
+use Rattle.evaluation_run.proofs.shown.words.Tie as tie
+
+abbrev Inv-loop : tie.InvT-loop
+Inv-loop out i₀ t3 i = 0 ≤ 0
+
+abbrev μ-loop : tie.MeasureT-loop
+μ-loop out i₀ t3 i = length out - i
+
+pub words-spec : {M : Type 1} → statement M
+words-spec = tie.close (tie.spec Inv-loop μ-loop (λ c. search needs) (λ c κs. search needs) (λ c. search needs) (λ c. search needs) (λ c. search needs) (λ c. search needs) (λ c κs. search needs) (λ c. search needs))

@@ -1,0 +1,16 @@
+-- `laws_run::run` is safe and ends.
+use borrow.Author.Needs.{needs}
+use Prim.Native.Nat.{_-_}
+use mathlib.Core.Path.{_≡_}
+use lib.ListN.{length}
+use Rattle.laws_run.proofs.run.Statement.{statement}
+use Rattle.laws_run.proofs.run.Tie as tie
+
+abbrev Inv-loop : tie.InvT-loop
+Inv-loop desk₀ slots₀ text i₀ desk slots i = (length desk ≡ length desk₀) × (length slots ≡ length slots₀)
+
+abbrev μ-loop : tie.MeasureT-loop
+μ-loop desk₀ slots₀ text i₀ desk slots i = 55 - i
+
+pub run-spec : {M : Type 1} → statement M
+run-spec = tie.close (tie.spec Inv-loop μ-loop (λ c. search needs) (λ c κs. search needs) (λ c. search needs) (λ c. search needs) (λ c. search needs) (λ c. search needs) (λ c. search needs) (λ c. search needs))

@@ -1,0 +1,103 @@
+// Each law of document 01 in both directions: random formulas and lengths for its letters, one side put in the place of a random
+// leaf of a random tree, the other side in the same place, and the words and verdicts of the two formulas compared.
+// Standard input has the laws in order, a line of 24 bytes each: the left side in the first 12, the right side in the rest.
+mod judged;
+mod sides;
+
+use crate::judged::judge;
+use crate::sides::sides;
+use libc::STDIN_FILENO;
+use random_formulas::desk::NAMES;
+use random_formulas::desk::SEED;
+use random_formulas::desk::TALLY;
+use random_formulas::desk::at;
+use random_formulas::desk::set;
+use random_formulas::desk::whole;
+use random_sheets::drawn::sheet;
+use random_sheets::drawn::signals;
+use random_sheets::engine::kept;
+use random_sheets::engine::slots;
+
+fn sheet_drawn(desk: &mut [u64], slots: &mut [u8]) {
+    signals(desk);
+    sheet(desk, 3);
+    kept(desk, slots, 0);
+}
+
+// From one side to the other once.
+fn applied(desk: &mut [u64], slots: &mut [u8], way: usize, from: &[u8], to: &[u8]) {
+    sheet_drawn(desk, slots);
+    sides(desk, slots, from, to);
+    judge(desk, slots, way);
+}
+
+fn both_ways(desk: &mut [u64], slots: &mut [u8], left: &[u8], right: &[u8]) {
+    let mut i: usize = 0;
+    while i < 50 {
+        applied(desk, slots, 1, left, right);
+        applied(desk, slots, 2, right, left);
+        i += 1;
+    }
+}
+
+fn begun(desk: &mut [u64], number: u64) {
+    set(desk, SEED, number % 64 + 20261115);
+    set(desk, NAMES, 3);
+    set(desk, TALLY, 0);
+    set(desk, TALLY + 1, 0);
+    set(desk, TALLY + 2, 0);
+}
+
+fn line(label: &[u8], n: u64) {
+    io::write_all(1, label);
+    io::print_decimal(1, n);
+    io::write_all(1, b"\n");
+}
+
+// How often the law was applied from left to right, from right to left, and how often something differed.
+fn told(desk: &[u64], number: u64) {
+    io::write_all(1, b"law ");
+    io::print_decimal(1, number);
+    line(b": from the left ", at(desk, TALLY + 1));
+    line(b"  from the right ", at(desk, TALLY + 2));
+    line(b"  mismatches ", at(desk, TALLY));
+}
+
+fn law(desk: &mut [u64], slots: &mut [u8], number: u64, left: &[u8], right: &[u8]) {
+    begun(desk, number);
+    both_ways(desk, slots, left, right);
+    told(desk, number);
+}
+
+// The law of a line, counted from 0.
+fn law_at(desk: &mut [u64], slots: &mut [u8], text: &[u8], i: usize) {
+    let start = i % 64 * 24;
+    let middle = start + 12;
+    let end = start + 23;
+    if text.len() < end {
+        return;
+    }
+    law(
+        desk,
+        slots,
+        (i % 64 + 1) as u64,
+        &text[start..middle],
+        &text[middle..end],
+    );
+}
+
+fn run(desk: &mut [u64], slots: &mut [u8], text: &[u8]) {
+    let mut i: usize = 0;
+    while i < 55 {
+        law_at(desk, slots, text, i);
+        i += 1;
+    }
+}
+
+fn main() {
+    let mut desk = whole();
+    let mut slots = slots();
+    let mut input = io::buffer();
+    let n = io::read_full(STDIN_FILENO, &mut input);
+    run(&mut desk, &mut slots, &input[..n]);
+}

@@ -1,0 +1,18 @@
+-- `random_formulas::desk::roll` gives the number drawn and moves the seed on.
+use borrow.Author.Needs.{needs}
+use Rattle.random_formulas.proofs.desk.roll.Statement.{statement}
+use Rattle.random_formulas.proofs.desk.roll.Tie as tie
+
+returns : tie.Need-returns
+returns c = record { drawn = cc; desk = cc }
+
+pub roll-spec : {M : Type 1} → statement M
+roll-spec =
+    tie.close
+    (tie.spec
+    (λ c κs. search needs)
+    (λ c κs. search needs)
+    (λ c κs. search needs)
+    (λ c κs. search needs)
+    (λ c. search needs)
+    returns)

@@ -1,0 +1,16 @@
+-- `random_run::steps::filled` is safe and ends.
+use borrow.Author.Needs.{needs}
+use Prim.Native.Nat.{_-_}
+use mathlib.Core.Path.{_≡_}
+use lib.ListN.{length}
+use Rattle.random_run.proofs.steps.filled.Statement.{statement}
+use Rattle.random_run.proofs.steps.filled.Tie as tie
+
+abbrev Inv-loop : tie.InvT-loop
+Inv-loop desk₀ kind value row m₀ desk m = length desk ≡ length desk₀
+
+abbrev μ-loop : tie.MeasureT-loop
+μ-loop desk₀ kind value row m₀ desk m = m
+
+pub filled-spec : {M : Type 1} → statement M
+filled-spec = tie.close (tie.spec Inv-loop μ-loop (λ c. search needs) (λ c. search needs) (λ c κs. search needs) (λ c κs. search needs) (λ c. search needs) (λ c. search needs) (λ c. search needs) (λ c. search needs))

@@ -1,0 +1,14 @@
+-- `random_run::steps::first` is safe and ends.
+use borrow.Author.Needs.{needs}
+use Prim.Native.Nat.{_≤_, _-_}
+use Rattle.random_run.proofs.steps.first.Statement.{statement}
+use Rattle.random_run.proofs.steps.first.Tie as tie
+
+abbrev Inv-loop : tie.InvT-loop
+Inv-loop desk test row from end i₀ i = 0 ≤ 0
+
+abbrev μ-loop : tie.MeasureT-loop
+μ-loop desk test row from end i₀ i = end - i
+
+pub first-spec : {M : Type 1} → statement M
+first-spec = tie.close (tie.spec Inv-loop μ-loop (λ c. search needs) (λ c κs. search needs) (λ c. search needs) (λ c. search needs) (λ c. search needs) (λ c. search needs) (λ c. search needs))

@@ -1,0 +1,16 @@
+-- `random_sheets::drawn::sheet` is safe and ends.
+use borrow.Author.Needs.{needs}
+use Prim.Native.Nat.{_-_}
+use mathlib.Core.Path.{_≡_}
+use lib.ListN.{length}
+use Rattle.random_sheets.proofs.drawn.sheet.Statement.{statement}
+use Rattle.random_sheets.proofs.drawn.sheet.Tie as tie
+
+abbrev Inv-loop : tie.InvT-loop
+Inv-loop desk₀ many i₀ desk i = length desk ≡ length desk₀
+
+abbrev μ-loop : tie.MeasureT-loop
+μ-loop desk₀ many i₀ desk i = many - i
+
+pub sheet-spec : {M : Type 1} → statement M
+sheet-spec = tie.close (tie.spec Inv-loop μ-loop (λ c κs. search needs) (λ c. search needs) (λ c κs. search needs) (λ c. search needs) (λ c κs. search needs) (λ c κs. search needs) (λ c. search needs) (λ c κs. search needs) (λ c. search needs) (λ c. search needs) (λ c. search needs) (λ c. search needs) (λ c. search needs))

@@ -1,0 +1,16 @@
+-- `random_sheets::rows::words` is safe and ends.
+use borrow.Author.Needs.{needs}
+use Prim.Native.Nat.{_-_}
+use mathlib.Core.Path.{_≡_}
+use lib.ListN.{length}
+use Rattle.random_sheets.proofs.rows.words.Statement.{statement}
+use Rattle.random_sheets.proofs.rows.words.Tie as tie
+
+abbrev Inv-loop : tie.InvT-loop
+Inv-loop desk₀ row k₀ desk k = length desk ≡ length desk₀
+
+abbrev μ-loop : tie.MeasureT-loop
+μ-loop desk₀ row k₀ desk k = 96 - k
+
+pub words-spec : {M : Type 1} → statement M
+words-spec = tie.close (tie.spec Inv-loop μ-loop (λ c κs. search needs) (λ c κs. search needs) (λ c κs. search needs) (λ c. search needs) (λ c κs. search needs) (λ c κs. search needs) (λ c. search needs) (λ c. search needs) (λ c. search needs) (λ c. search needs) (λ c. search needs))
