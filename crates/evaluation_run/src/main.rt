@@ -5,11 +5,11 @@
 // One line each: a label, the fault, the word count and the output (for a claim, the verdict).
 ghost use mathlib.Core.Path.{_≡_};
 ghost use lib.ListN.{length};
-use fields::after;
-use fields::before;
 use fields::byte_at;
 use fields::part;
 use libc::STDIN_FILENO;
+use slices::part_after;
+use slices::part_before;
 
 mod shown;
 
@@ -129,15 +129,15 @@ fn is_claim(sign: u8) -> bool {
 
 // A case on the sheet: its label, then its formulas.
 fn tried(sign: u8, sheet: &[u8], case: &[u8]) {
-    let label = before(case, b'|');
-    let formulas = after(case, b'|');
+    let label = part_before(case, b'|');
+    let formulas = part_after(case, b'|');
     if is_claim(sign) {
         claimed(
             sign,
             sheet,
             label,
-            before(formulas, b'|'),
-            after(formulas, b'|'),
+            part_before(formulas, b'|'),
+            part_after(formulas, b'|'),
         );
     } else {
         called(sign, sheet, label, formulas);
@@ -147,7 +147,7 @@ fn tried(sign: u8, sheet: &[u8], case: &[u8]) {
 // One line; how many bytes the sheet has after it.
 fn case(line: &[u8], sheet: &mut [u8], n: usize) -> usize {
     let sign = byte_at(line, 0);
-    let rest = after(line, b'|');
+    let rest = part_after(line, b'|');
     if sign == b'=' {
         return bytes_of(rest, sheet);
     }
@@ -162,7 +162,7 @@ fn line(text: &[u8], i: usize, sheet: &mut [u8], n: usize) -> usize {
             return n;
         }
     }
-    case(before(part(text, i, text.len()), b'\n'), sheet, n)
+    case(part_before(part(text, i, text.len()), b'\n'), sheet, n)
 }
 
 fn lines(text: &[u8], sheet: &mut [u8]) {

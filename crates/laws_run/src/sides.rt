@@ -2,7 +2,6 @@
 // A side is written operands first; d, e stand for the two lengths, j for their sum, x and i for the larger and the smaller, after
 // N for TON and F for TOF; S is SR and R is RS. The notes hold the two lengths.
 use fields::byte_at;
-use fields::place;
 use random_formulas::desk::NOTES;
 use random_formulas::desk::TREE;
 use random_formulas::desk::TREES;
@@ -14,6 +13,7 @@ use random_formulas::trees::grow;
 use random_formulas::trees::operands;
 use random_formulas::trees::part;
 use random_sheets::engine::kept;
+use slices::len_before;
 
 // The letters' trees: 32 words each, the number of parts first.
 const LETTERS: usize = 1024;
@@ -88,7 +88,7 @@ fn sign(kind: u64, length: u64) -> u64 {
 }
 
 fn put_kind(desk: &mut [u64], n: usize, b: u8, after: u8) -> usize {
-    let kind = place(b"01a!^~NF.+SR", b) as u64;
+    let kind = len_before(b"01a!^~NF.+SR", b) as u64;
     let d = at(desk, NOTES);
     let e = at(desk, NOTES + 1);
     put(desk, n, sign(kind, length(after, d, e)))
@@ -96,11 +96,11 @@ fn put_kind(desk: &mut [u64], n: usize, b: u8, after: u8) -> usize {
 
 // One sign of a side; a length follows N and F and is no sign.
 fn put_sign(desk: &mut [u64], n: usize, b: u8, after: u8) -> usize {
-    let q = place(b"fghsrp", b);
+    let q = len_before(b"fghsrp", b);
     if q < 6 {
         return put_letter(desk, n, q);
     }
-    if place(b"dejxi ", b) < 6 {
+    if len_before(b"dejxi ", b) < 6 {
         return n;
     }
     put_kind(desk, n, b, after)

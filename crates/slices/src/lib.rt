@@ -4,7 +4,7 @@ ghost use lib.ListN.{length};
 ghost use Rattle.slices.specs.Slices.{before, past, putAt};
 
 // The number of bytes before the first that is `stop`; of all bytes when none is.
-fn len_before(bytes: &[u8], stop: u8) -> usize
+pub fn len_before(bytes: &[u8], stop: u8) -> usize
     ensures { λ r. ⌜ r ≡ length (before stop (now (bytes .entry))) ⌝ }
 {
     let mut i = 0;
