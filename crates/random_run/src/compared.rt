@@ -5,9 +5,6 @@ use crate::made::sheet_fault;
 use crate::made::spoil;
 use crate::made::text;
 use crate::made::tree;
-use crate::steps::FAILS;
-use crate::steps::first;
-use crate::steps::stepped;
 use random_formulas::desk::BYTES;
 use random_formulas::desk::NAMES;
 use random_formulas::desk::NOTES;
@@ -28,6 +25,9 @@ use random_sheets::engine::old;
 use random_sheets::engine::work_area;
 use random_sheets::rows::word_at;
 use random_sheets::rows::words;
+use random_sheets::steps::FAILS;
+use random_sheets::steps::first;
+use random_sheets::steps::stepped;
 
 fn out_at(out: &[u32], i: usize) -> u32 {
     if i < out.len() { out[i] } else { 0 }
@@ -115,7 +115,6 @@ fn judge_call(desk: &mut [u64], f: usize, answer: u64, out: &[u32]) {
 }
 
 fn call_in(desk: &mut [u64], slots: &[u8], f: usize, work: &mut [u32], out: &mut [u32]) {
-    fill(out);
     let answer = call(desk, slots, f, work, out);
     judge_call(desk, f, answer, out);
 }
@@ -134,6 +133,7 @@ fn call_with(
     room: usize,
 ) {
     let start: usize = 0;
+    fill(out);
     if out.len() < room {
         return;
     }
@@ -216,15 +216,20 @@ fn formula(desk: &mut [u64], slots: &mut [u8], f: usize) {
     stepped(desk, n, f);
 }
 
+// The sheet of so many signals, with the fault.
+fn sheet_written(desk: &mut [u64], many: u64, fault: u64) {
+    set(desk, NAMES, many);
+    set(desk, NOTES, fault);
+    sheet(desk, many as usize);
+    spoil(desk, fault);
+}
+
 // The sheet in its slot.
 fn sheet_drawn(desk: &mut [u64], slots: &mut [u8]) {
     signals(desk);
     let many = roll(desk, 3) % 3 + 1;
     let fault = sheet_fault(desk);
-    set(desk, NAMES, many);
-    set(desk, NOTES, fault);
-    sheet(desk, many as usize);
-    spoil(desk, fault);
+    sheet_written(desk, many, fault);
     kept(desk, slots, 0);
 }
 

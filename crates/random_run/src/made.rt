@@ -1,7 +1,4 @@
 // Random formulas with their fault number, and spoiled sheets.
-use crate::steps::LONG;
-use crate::steps::STRANGE;
-use crate::steps::first;
 use random_formulas::desk::BYTES;
 use random_formulas::desk::DEEPEST;
 use random_formulas::desk::TEXT;
@@ -12,6 +9,9 @@ use random_formulas::desk::set;
 use random_formulas::texts::write;
 use random_formulas::texts::written;
 use random_formulas::trees::grow;
+use random_sheets::steps::LONG;
+use random_sheets::steps::STRANGE;
+use random_sheets::steps::first;
 
 // How many parts at least: mostly few.
 fn least(desk: &mut [u64]) -> usize {

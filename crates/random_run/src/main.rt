@@ -1,8 +1,7 @@
-// Random formulas on random sheets, called and claimed, against a second evaluator that steps moment by moment.
+// Random formulas on random sheets, called and claimed, against the second evaluator, which steps moment by moment.
 // It prints how often each kind came, and how often the two differed.
 mod compared;
 mod made;
-mod steps;
 
 use crate::compared::round;
 use random_formulas::desk::SEED;

@@ -1,10 +1,10 @@
--- `random_run::steps::stepped` is safe and ends.
+-- `random_sheets::steps::stepped` is safe and ends.
 use borrow.Author.Needs.{needs}
 use Prim.Native.Nat.{_-_}
 use mathlib.Core.Path.{_≡_}
 use lib.ListN.{length}
-use Rattle.random_run.proofs.steps.stepped.Statement.{statement}
-use Rattle.random_run.proofs.steps.stepped.Tie as tie
+use Rattle.random_sheets.proofs.steps.stepped.Statement.{statement}
+use Rattle.random_sheets.proofs.steps.stepped.Tie as tie
 
 abbrev Inv-loop : tie.InvT-loop
 Inv-loop desk₀ n base top₀ i₀ desk top i = length desk ≡ length desk₀

@@ -1,10 +1,10 @@
--- `random_run::steps::filled` is safe and ends.
+-- `random_sheets::steps::filled` is safe and ends.
 use borrow.Author.Needs.{needs}
 use Prim.Native.Nat.{_-_}
 use mathlib.Core.Path.{_≡_}
 use lib.ListN.{length}
-use Rattle.random_run.proofs.steps.filled.Statement.{statement}
-use Rattle.random_run.proofs.steps.filled.Tie as tie
+use Rattle.random_sheets.proofs.steps.filled.Statement.{statement}
+use Rattle.random_sheets.proofs.steps.filled.Tie as tie
 
 abbrev Inv-loop : tie.InvT-loop
 Inv-loop desk₀ kind value row m₀ desk m = length desk ≡ length desk₀

@@ -1,10 +1,10 @@
 // The second evaluator: the value of every part at every moment up to gap 95, by document 01's sentences.
+use crate::rows::store;
+use crate::rows::up;
 use random_formulas::desk::NAMES;
 use random_formulas::desk::TREE;
 use random_formulas::desk::at;
 use random_formulas::trees::operands;
-use random_sheets::rows::store;
-use random_sheets::rows::up;
 
 // The tests of a place: a row is down or up at a moment, row 1 is up and row 2 down, a part of the tree has a length above M, a part
 // is a name that the sheet lacks.
