@@ -1,18 +1,18 @@
 // Formulas 1 and 2 compared: their words, their verdicts on each other, and theirs to and from formula 3.
 // The tally: 0 mismatches, 1 and 2 the applications from the left and from the right that were answered, 3 those refused.
-use random_formulas::desk::TALLY;
-use random_formulas::desk::count;
+use random_formulas::cells::TALLY;
+use random_formulas::cells::count;
 use random_sheets::engine::call;
 use random_sheets::engine::claim;
 use random_sheets::engine::fill;
 use random_sheets::engine::longest;
 use random_sheets::engine::work_area;
 
-fn tell(desk: &mut [u64], same: bool) {
+fn tell(cells: &mut [u64], same: bool) {
     if same {
         return;
     }
-    count(desk, TALLY);
+    count(cells, TALLY);
 }
 
 fn word_at(a: &[u32], i: usize) -> u32 {
@@ -31,9 +31,9 @@ fn same_words(a: &[u32], b: &[u32]) -> bool {
 }
 
 // A call's word count, or 1,000 + the fault, its output having held old words.
-fn called(desk: &[u64], slots: &[u8], f: usize, work: &mut [u32], out: &mut [u32]) -> u64 {
+fn called(cells: &[u64], slots: &[u8], f: usize, work: &mut [u32], out: &mut [u32]) -> u64 {
     fill(out);
-    call(desk, slots, f, work, out)
+    call(cells, slots, f, work, out)
 }
 
 // 0 when one count is a refusal, 1 when all is the same, else 2.
@@ -52,53 +52,53 @@ fn outcome(count_f: u64, count_g: u64, same: bool) -> u64 {
     2
 }
 
-fn words(desk: &[u64], slots: &[u8], work: &mut [u32]) -> u64 {
+fn words(cells: &[u64], slots: &[u8], work: &mut [u32]) -> u64 {
     let mut of_f = longest();
     let mut of_g = longest();
-    let count_f = called(desk, slots, 1, work, &mut of_f);
-    let count_g = called(desk, slots, 2, work, &mut of_g);
+    let count_f = called(cells, slots, 1, work, &mut of_f);
+    let count_g = called(cells, slots, 2, work, &mut of_g);
     outcome(count_f, count_g, same_words(&of_f, &of_g))
 }
 
 // F to G holds.
-fn holds(desk: &mut [u64], slots: &[u8], f: usize, g: usize, work: &mut [u32]) {
-    let verdict = claim(desk, slots, f, g, work);
-    tell(desk, verdict == 0);
+fn holds(cells: &mut [u64], slots: &[u8], f: usize, g: usize, work: &mut [u32]) {
+    let verdict = claim(cells, slots, f, g, work);
+    tell(cells, verdict == 0);
 }
 
 // The verdicts on formulas 1 and 2 to formula 3 are the same.
-fn same_to(desk: &mut [u64], slots: &[u8], work: &mut [u32]) {
-    let of_f = claim(desk, slots, 1, 3, work);
-    let of_g = claim(desk, slots, 2, 3, work);
-    tell(desk, of_f == of_g);
+fn same_to(cells: &mut [u64], slots: &[u8], work: &mut [u32]) {
+    let of_f = claim(cells, slots, 1, 3, work);
+    let of_g = claim(cells, slots, 2, 3, work);
+    tell(cells, of_f == of_g);
 }
 
 // The verdicts on formula 3 to formulas 1 and 2 are the same.
-fn same_from(desk: &mut [u64], slots: &[u8], work: &mut [u32]) {
-    let of_f = claim(desk, slots, 3, 1, work);
-    let of_g = claim(desk, slots, 3, 2, work);
-    tell(desk, of_f == of_g);
+fn same_from(cells: &mut [u64], slots: &[u8], work: &mut [u32]) {
+    let of_f = claim(cells, slots, 3, 1, work);
+    let of_g = claim(cells, slots, 3, 2, work);
+    tell(cells, of_f == of_g);
 }
 
-fn verdicts(desk: &mut [u64], slots: &[u8], work: &mut [u32]) {
-    holds(desk, slots, 1, 2, work);
-    holds(desk, slots, 2, 1, work);
-    same_to(desk, slots, work);
-    same_from(desk, slots, work);
+fn verdicts(cells: &mut [u64], slots: &[u8], work: &mut [u32]) {
+    holds(cells, slots, 1, 2, work);
+    holds(cells, slots, 2, 1, work);
+    same_to(cells, slots, work);
+    same_from(cells, slots, work);
 }
 
-fn judge_in(desk: &mut [u64], slots: &[u8], way: usize, work: &mut [u32]) {
-    let outcome = words(desk, slots, work);
+fn judge_in(cells: &mut [u64], slots: &[u8], way: usize, work: &mut [u32]) {
+    let outcome = words(cells, slots, work);
     if outcome == 0 {
-        count(desk, TALLY + 3);
+        count(cells, TALLY + 3);
         return;
     }
-    count(desk, TALLY + way % 3);
-    tell(desk, outcome == 1);
-    verdicts(desk, slots, work);
+    count(cells, TALLY + way % 3);
+    tell(cells, outcome == 1);
+    verdicts(cells, slots, work);
 }
 
-pub fn judge(desk: &mut [u64], slots: &[u8], way: usize) {
+pub fn judge(cells: &mut [u64], slots: &[u8], way: usize) {
     let mut work = work_area();
-    judge_in(desk, slots, way, &mut work);
+    judge_in(cells, slots, way, &mut work);
 }

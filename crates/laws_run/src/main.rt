@@ -7,45 +7,45 @@ mod sides;
 use crate::judged::judge;
 use crate::sides::sides;
 use libc::STDIN_FILENO;
-use random_formulas::desk::NAMES;
-use random_formulas::desk::SEED;
-use random_formulas::desk::TALLY;
-use random_formulas::desk::at;
-use random_formulas::desk::set;
-use random_formulas::desk::whole;
+use random_formulas::cells::NAMES;
+use random_formulas::cells::SEED;
+use random_formulas::cells::TALLY;
+use random_formulas::cells::at;
+use random_formulas::cells::set;
+use random_formulas::cells::whole;
 use random_sheets::drawn::sheet;
 use random_sheets::drawn::signals;
 use random_sheets::engine::kept;
 use random_sheets::engine::slots;
 
-fn sheet_drawn(desk: &mut [u64], slots: &mut [u8]) {
-    signals(desk);
-    sheet(desk, 3);
-    kept(desk, slots, 0);
+fn sheet_drawn(cells: &mut [u64], slots: &mut [u8]) {
+    signals(cells);
+    sheet(cells, 3);
+    kept(cells, slots, 0);
 }
 
 // From one side to the other once.
-fn applied(desk: &mut [u64], slots: &mut [u8], way: usize, from: &[u8], to: &[u8]) {
-    sheet_drawn(desk, slots);
-    sides(desk, slots, from, to);
-    judge(desk, slots, way);
+fn applied(cells: &mut [u64], slots: &mut [u8], way: usize, from: &[u8], to: &[u8]) {
+    sheet_drawn(cells, slots);
+    sides(cells, slots, from, to);
+    judge(cells, slots, way);
 }
 
-fn both_ways(desk: &mut [u64], slots: &mut [u8], left: &[u8], right: &[u8]) {
+fn both_ways(cells: &mut [u64], slots: &mut [u8], left: &[u8], right: &[u8]) {
     let mut i: usize = 0;
     while i < 50 {
-        applied(desk, slots, 1, left, right);
-        applied(desk, slots, 2, right, left);
+        applied(cells, slots, 1, left, right);
+        applied(cells, slots, 2, right, left);
         i += 1;
     }
 }
 
-fn begun(desk: &mut [u64], number: u64) {
-    set(desk, SEED, number % 64 + 20261115);
-    set(desk, NAMES, 3);
-    set(desk, TALLY, 0);
-    set(desk, TALLY + 1, 0);
-    set(desk, TALLY + 2, 0);
+fn begun(cells: &mut [u64], number: u64) {
+    set(cells, SEED, number % 64 + 20261115);
+    set(cells, NAMES, 3);
+    set(cells, TALLY, 0);
+    set(cells, TALLY + 1, 0);
+    set(cells, TALLY + 2, 0);
 }
 
 fn line(label: &[u8], n: u64) {
@@ -55,22 +55,22 @@ fn line(label: &[u8], n: u64) {
 }
 
 // How often the law was applied from left to right, from right to left, and how often something differed.
-fn told(desk: &[u64], number: u64) {
+fn told(cells: &[u64], number: u64) {
     io::write_all(1, b"law ");
     io::print_decimal(1, number);
-    line(b": from the left ", at(desk, TALLY + 1));
-    line(b"  from the right ", at(desk, TALLY + 2));
-    line(b"  mismatches ", at(desk, TALLY));
+    line(b": from the left ", at(cells, TALLY + 1));
+    line(b"  from the right ", at(cells, TALLY + 2));
+    line(b"  mismatches ", at(cells, TALLY));
 }
 
-fn law(desk: &mut [u64], slots: &mut [u8], number: u64, left: &[u8], right: &[u8]) {
-    begun(desk, number);
-    both_ways(desk, slots, left, right);
-    told(desk, number);
+fn law(cells: &mut [u64], slots: &mut [u8], number: u64, left: &[u8], right: &[u8]) {
+    begun(cells, number);
+    both_ways(cells, slots, left, right);
+    told(cells, number);
 }
 
 // The law of a line, counted from 0.
-fn law_at(desk: &mut [u64], slots: &mut [u8], text: &[u8], i: usize) {
+fn law_at(cells: &mut [u64], slots: &mut [u8], text: &[u8], i: usize) {
     let start = i % 64 * 24;
     let middle = start + 12;
     let end = start + 23;
@@ -78,7 +78,7 @@ fn law_at(desk: &mut [u64], slots: &mut [u8], text: &[u8], i: usize) {
         return;
     }
     law(
-        desk,
+        cells,
         slots,
         (i % 64 + 1) as u64,
         &text[start..middle],
@@ -86,18 +86,18 @@ fn law_at(desk: &mut [u64], slots: &mut [u8], text: &[u8], i: usize) {
     );
 }
 
-fn run(desk: &mut [u64], slots: &mut [u8], text: &[u8]) {
+fn run(cells: &mut [u64], slots: &mut [u8], text: &[u8]) {
     let mut i: usize = 0;
     while i < 55 {
-        law_at(desk, slots, text, i);
+        law_at(cells, slots, text, i);
         i += 1;
     }
 }
 
 fn main() {
-    let mut desk = whole();
+    let mut cells = whole();
     let mut slots = slots();
     let mut input = io::buffer();
     let n = io::read_full(STDIN_FILENO, &mut input);
-    run(&mut desk, &mut slots, &input[..n]);
+    run(&mut cells, &mut slots, &input[..n]);
 }

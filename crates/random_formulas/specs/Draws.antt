@@ -14,7 +14,7 @@ nextSeed s = (s % 2147483647) * 48271 % 2147483647
 unfoldable pub drawnBelow : ℕ → ℕ → ℕ
 drawnBelow s n = cond (eqb n 0) 0 (s / 16 % n)
 
--- What a draw below n gives, and the desk after it: the seed is the first number.
+-- What a draw below n gives, and the cells after it: the seed is the first number.
 pub record Rolled (before : List ℕ) (n : ℕ) (after : List ℕ) (r : ℕ) : Type 0 where
   pub drawn : r ≡ drawnBelow (nextSeed (getD before 0 0)) n
-  pub desk : after ≡ set before 0 (nextSeed (getD before 0 0))
+  pub cells : after ≡ set before 0 (nextSeed (getD before 0 0))

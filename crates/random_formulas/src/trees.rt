@@ -3,11 +3,11 @@
 ghost use mathlib.Core.Path.{_≡_};
 ghost use Prim.Native.Nat.{_+_, _*_, _%_};
 ghost use Rattle.random_formulas.specs.Trees.{operandsOf};
-use crate::desk::NAMES;
-use crate::desk::SIZES;
-use crate::desk::at;
-use crate::desk::roll;
-use crate::desk::set;
+use crate::cells::NAMES;
+use crate::cells::SIZES;
+use crate::cells::at;
+use crate::cells::roll;
+use crate::cells::set;
 
 pub fn part(kind: u64, value: u64) -> u64
     ensures { λ r. ⌜ r ≡ kind % 16 + 16 * (value % 4294967296) ⌝ }
@@ -27,55 +27,55 @@ pub fn operands(kind: u64) -> u64
     }
 }
 
-fn leaf(desk: &mut [u64]) -> u64 {
-    let k = roll(desk, 14);
+fn leaf(cells: &mut [u64]) -> u64 {
+    let k = roll(cells, 14);
     if k < 2 {
         return k;
     }
-    if roll(desk, 200) == 0 {
+    if roll(cells, 200) == 0 {
         return part(2, 3);
     }
-    let names = at(desk, NAMES);
-    part(2, roll(desk, names))
+    let names = at(cells, NAMES);
+    part(2, roll(cells, names))
 }
 
-fn length(desk: &mut [u64]) -> u64 {
-    if roll(desk, 200) == 0 {
+fn length(cells: &mut [u64]) -> u64 {
+    if roll(cells, 200) == 0 {
         return 1073741824;
     }
-    roll(desk, 5)
+    roll(cells, 5)
 }
 
-fn unary(desk: &mut [u64]) -> u64 {
-    let kind = roll(desk, 5) % 5 + 3;
+fn unary(cells: &mut [u64]) -> u64 {
+    let kind = roll(cells, 5) % 5 + 3;
     if kind < 6 {
         return part(kind, 0);
     }
-    part(kind, length(desk))
+    part(kind, length(cells))
 }
 
-fn binary(desk: &mut [u64]) -> u64 {
-    roll(desk, 4) % 4 + 8
+fn binary(cells: &mut [u64]) -> u64 {
+    roll(cells, 4) % 4 + 8
 }
 
 // The next part, with so many trees waiting for their operator.
-fn next_part(desk: &mut [u64], waiting: u64, full: bool) -> u64 {
+fn next_part(cells: &mut [u64], waiting: u64, full: bool) -> u64 {
     if waiting == 0 {
-        return leaf(desk);
+        return leaf(cells);
     }
     if full {
-        return binary(desk);
+        return binary(cells);
     }
-    let k = roll(desk, 10);
+    let k = roll(cells, 10);
     if k < 3 {
-        return unary(desk);
+        return unary(cells);
     }
     if 5 < k {
         if 1 < waiting {
-            return binary(desk);
+            return binary(cells);
         }
     }
-    leaf(desk)
+    leaf(cells)
 }
 
 fn waiting_after(waiting: u64, word: u64) -> u64 {
@@ -90,7 +90,7 @@ fn waiting_after(waiting: u64, word: u64) -> u64 {
 }
 
 // A random tree of at least so many parts from a place on, and how many it has.
-pub fn grow(desk: &mut [u64], from: usize, least: usize) -> usize {
+pub fn grow(cells: &mut [u64], from: usize, least: usize) -> usize {
     let mut waiting: u64 = 0;
     let mut n: usize = 0;
     while n < 120 {
@@ -100,28 +100,28 @@ pub fn grow(desk: &mut [u64], from: usize, least: usize) -> usize {
                 return n;
             }
         }
-        let word = next_part(desk, waiting, full);
-        set(desk, from % 4096 + n, word);
+        let word = next_part(cells, waiting, full);
+        set(cells, from % 4096 + n, word);
         waiting = waiting_after(waiting, word);
         n += 1;
     }
     n
 }
 
-fn size(desk: &[u64], i: usize) -> u64 {
-    at(desk, SIZES + i % 256)
+fn size(cells: &[u64], i: usize) -> u64 {
+    at(cells, SIZES + i % 256)
 }
 
 // Where the left operand of the part at i ends; its right operand ends just before i.
-pub fn left_of(desk: &[u64], i: usize) -> usize {
+pub fn left_of(cells: &[u64], i: usize) -> usize {
     if i == 0 {
         return 0;
     }
-    let right = (size(desk, i - 1) % 256) as usize;
+    let right = (size(cells, i - 1) % 256) as usize;
     if right < i { i - 1 - right } else { 0 }
 }
 
-fn size_at(desk: &[u64], word: u64, i: usize) -> u64 {
+fn size_at(cells: &[u64], word: u64, i: usize) -> u64 {
     let n = operands(word % 16);
     if n == 0 {
         return 1;
@@ -129,19 +129,19 @@ fn size_at(desk: &[u64], word: u64, i: usize) -> u64 {
     if i == 0 {
         return 1;
     }
-    let right = size(desk, i - 1) % 256 + 1;
+    let right = size(cells, i - 1) % 256 + 1;
     if n == 1 {
         return right;
     }
-    right + size(desk, left_of(desk, i)) % 256
+    right + size(cells, left_of(cells, i)) % 256
 }
 
 // How many parts each part of the tree from a place on has, itself counted.
-pub fn measure(desk: &mut [u64], from: usize, n: usize) {
+pub fn measure(cells: &mut [u64], from: usize, n: usize) {
     let mut i: usize = 0;
     while i < n {
-        let size = size_at(desk, at(desk, from % 4096 + i % 256), i);
-        set(desk, SIZES + i % 256, size);
+        let size = size_at(cells, at(cells, from % 4096 + i % 256), i);
+        set(cells, SIZES + i % 256, size);
         i += 1;
     }
 }

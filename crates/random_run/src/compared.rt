@@ -5,14 +5,14 @@ use crate::made::sheet_fault;
 use crate::made::spoil;
 use crate::made::text;
 use crate::made::tree;
-use random_formulas::desk::BYTES;
-use random_formulas::desk::NAMES;
-use random_formulas::desk::NOTES;
-use random_formulas::desk::TALLY;
-use random_formulas::desk::at;
-use random_formulas::desk::count;
-use random_formulas::desk::roll;
-use random_formulas::desk::set;
+use random_formulas::cells::BYTES;
+use random_formulas::cells::NAMES;
+use random_formulas::cells::NOTES;
+use random_formulas::cells::TALLY;
+use random_formulas::cells::at;
+use random_formulas::cells::count;
+use random_formulas::cells::roll;
+use random_formulas::cells::set;
 use random_formulas::texts::cleared;
 use random_sheets::drawn::sheet;
 use random_sheets::drawn::signals;
@@ -33,23 +33,23 @@ fn out_at(out: &[u32], i: usize) -> u32 {
     if i < out.len() { out[i] } else { 0 }
 }
 
-fn expected_word(desk: &[u64], count: usize, i: usize) -> u64 {
+fn expected_word(cells: &[u64], count: usize, i: usize) -> u64 {
     if i < count {
-        return word_at(desk, i);
+        return word_at(cells, i);
     }
     old(i) as u64
 }
 
-fn same_word(desk: &[u64], out: &[u32], count: usize, i: usize) -> bool {
+fn same_word(cells: &[u64], out: &[u32], count: usize, i: usize) -> bool {
     let word = out_at(out, i);
-    word as u64 == expected_word(desk, count, i)
+    word as u64 == expected_word(cells, count, i)
 }
 
 // The output is the words written, so many, then the old ones.
-fn same_output(desk: &[u64], out: &[u32], count: usize) -> bool {
+fn same_output(cells: &[u64], out: &[u32], count: usize) -> bool {
     let mut i: usize = 0;
     while i < out.len() {
-        if !same_word(desk, out, count, i) {
+        if !same_word(cells, out, count, i) {
             return false;
         }
         i += 1;
@@ -58,12 +58,12 @@ fn same_output(desk: &[u64], out: &[u32], count: usize) -> bool {
 }
 
 // Counts the kind, and a mismatch where there is one.
-fn tell(desk: &mut [u64], kind: u64, same: bool) {
-    count(desk, TALLY + (kind % 32) as usize);
+fn tell(cells: &mut [u64], kind: u64, same: bool) {
+    count(cells, TALLY + (kind % 32) as usize);
     if same {
         return;
     }
-    count(desk, TALLY);
+    count(cells, TALLY);
 }
 
 fn same_answer(number: bool, output: bool) -> bool {
@@ -71,52 +71,52 @@ fn same_answer(number: bool, output: bool) -> bool {
 }
 
 // The answer and the output against the number and so many words expected.
-fn compare(desk: &mut [u64], kind: u64, expected: u64, answer: u64, out: &[u32], n: usize) {
-    let same = same_answer(answer == expected, same_output(desk, out, n));
-    tell(desk, kind, same);
+fn compare(cells: &mut [u64], kind: u64, expected: u64, answer: u64, out: &[u32], n: usize) {
+    let same = same_answer(answer == expected, same_output(cells, out, n));
+    tell(cells, kind, same);
 }
 
 // Writes the list of a row; how many words.
-fn list(desk: &mut [u64], row: usize) -> usize {
-    cleared(desk);
-    words(desk, row);
-    (at(desk, BYTES) / 4) as usize
+fn list(cells: &mut [u64], row: usize) -> usize {
+    cleared(cells);
+    words(cells, row);
+    (at(cells, BYTES) / 4) as usize
 }
 
 // What comes before the parts are worked out: the sheet's fault, F's, G's, 18.
-fn early_fault(desk: &[u64], f: usize, g: usize) -> u64 {
-    let of_sheet = at(desk, NOTES);
+fn early_fault(cells: &[u64], f: usize, g: usize) -> u64 {
+    let of_sheet = at(cells, NOTES);
     if of_sheet != 0 {
         return of_sheet;
     }
-    let of_f = at(desk, NOTES + f % 4);
+    let of_f = at(cells, NOTES + f % 4);
     if of_f != 0 {
         return of_f;
     }
-    let of_g = at(desk, NOTES + g % 4);
+    let of_g = at(cells, NOTES + g % 4);
     if of_g != 0 {
         return of_g;
     }
-    at(desk, NOTES + 3)
+    at(cells, NOTES + 3)
 }
 
-fn judge_call(desk: &mut [u64], f: usize, answer: u64, out: &[u32]) {
-    let fault = early_fault(desk, f, f) % 20;
+fn judge_call(cells: &mut [u64], f: usize, answer: u64, out: &[u32]) {
+    let fault = early_fault(cells, f, f) % 20;
     if fault != 0 {
-        compare(desk, fault, fault + 1000, answer, out, 0);
+        compare(cells, fault, fault + 1000, answer, out, 0);
         return;
     }
-    let n = list(desk, f);
+    let n = list(cells, f);
     if out.len() < n {
-        compare(desk, 7, 1007, answer, out, 0);
+        compare(cells, 7, 1007, answer, out, 0);
         return;
     }
-    compare(desk, 20, n as u64, answer, out, n);
+    compare(cells, 20, n as u64, answer, out, n);
 }
 
-fn call_in(desk: &mut [u64], slots: &[u8], f: usize, work: &mut [u32], out: &mut [u32]) {
-    let answer = call(desk, slots, f, work, out);
-    judge_call(desk, f, answer, out);
+fn call_in(cells: &mut [u64], slots: &[u8], f: usize, work: &mut [u32], out: &mut [u32]) {
+    let answer = call(cells, slots, f, work, out);
+    judge_call(cells, f, answer, out);
 }
 
 fn room_of(few: bool) -> usize {
@@ -125,7 +125,7 @@ fn room_of(few: bool) -> usize {
 
 // With room for every list, at times for two words.
 fn call_with(
-    desk: &mut [u64],
+    cells: &mut [u64],
     slots: &[u8],
     f: usize,
     work: &mut [u32],
@@ -137,14 +137,14 @@ fn call_with(
     if out.len() < room {
         return;
     }
-    call_in(desk, slots, f, work, &mut out[start..room]);
+    call_in(cells, slots, f, work, &mut out[start..room]);
 }
 
 // One formula call.
-fn formula_call(desk: &mut [u64], slots: &[u8], f: usize, work: &mut [u32]) {
+fn formula_call(cells: &mut [u64], slots: &[u8], f: usize, work: &mut [u32]) {
     let mut out = longest();
-    let few = roll(desk, 20) == 0;
-    call_with(desk, slots, f, work, &mut out, room_of(few));
+    let few = roll(cells, 20) == 0;
+    call_with(cells, slots, f, work, &mut out, room_of(few));
 }
 
 fn failure(moment: usize) -> u64 {
@@ -159,32 +159,32 @@ fn failure(moment: usize) -> u64 {
 }
 
 // The verdict expected, moment by moment up to gap 95.
-fn expected_verdict(desk: &[u64]) -> u64 {
-    let fault = early_fault(desk, 1, 2) % 20;
+fn expected_verdict(cells: &[u64]) -> u64 {
+    let fault = early_fault(cells, 1, 2) % 20;
     if fault != 0 {
         return fault * 4 + 3;
     }
-    failure(first(desk, FAILS, 0, 0, 191))
+    failure(first(cells, FAILS, 0, 0, 191))
 }
 
-fn judge_claim(desk: &mut [u64], answer: u64) {
-    let verdict = expected_verdict(desk);
-    tell(desk, verdict % 4 + 21, answer == verdict);
+fn judge_claim(cells: &mut [u64], answer: u64) {
+    let verdict = expected_verdict(cells);
+    tell(cells, verdict % 4 + 21, answer == verdict);
 }
 
-fn calls(desk: &mut [u64], slots: &[u8], work: &mut [u32]) {
-    formula_call(desk, slots, 1, work);
-    formula_call(desk, slots, 2, work);
-    let answer = claim(desk, slots, 1, 2, work);
-    judge_claim(desk, answer);
+fn calls(cells: &mut [u64], slots: &[u8], work: &mut [u32]) {
+    formula_call(cells, slots, 1, work);
+    formula_call(cells, slots, 2, work);
+    let answer = claim(cells, slots, 1, 2, work);
+    judge_claim(cells, answer);
 }
 
-fn calls_with(desk: &mut [u64], slots: &[u8], work: &mut [u32], enough: usize) {
+fn calls_with(cells: &mut [u64], slots: &[u8], work: &mut [u32], enough: usize) {
     let start: usize = 0;
     if work.len() < enough {
         return;
     }
-    calls(desk, slots, &mut work[start..enough]);
+    calls(cells, slots, &mut work[start..enough]);
 }
 
 fn work_fault(scarce: bool) -> u64 {
@@ -196,46 +196,46 @@ fn work_of(scarce: bool) -> usize {
 }
 
 // With a work area of 8,192 words, at times of one less.
-fn with_work(desk: &mut [u64], slots: &[u8]) {
+fn with_work(cells: &mut [u64], slots: &[u8]) {
     let mut work = work_area();
-    let scarce = roll(desk, 50) == 0;
+    let scarce = roll(cells, 50) == 0;
     let fault = work_fault(scarce);
-    set(desk, NOTES + 3, fault);
-    calls_with(desk, slots, &mut work, work_of(scarce));
+    set(cells, NOTES + 3, fault);
+    calls_with(cells, slots, &mut work, work_of(scarce));
 }
 
 // A formula in its slot and, if it has no fault, its values in the row of that number.
-fn formula(desk: &mut [u64], slots: &mut [u8], f: usize) {
-    let n = tree(desk);
-    let fault = text(desk, n);
-    set(desk, NOTES + f % 4, fault);
-    kept(desk, slots, f);
+fn formula(cells: &mut [u64], slots: &mut [u8], f: usize) {
+    let n = tree(cells);
+    let fault = text(cells, n);
+    set(cells, NOTES + f % 4, fault);
+    kept(cells, slots, f);
     if fault != 0 {
         return;
     }
-    stepped(desk, n, f);
+    stepped(cells, n, f);
 }
 
 // The sheet of so many signals, with the fault.
-fn sheet_written(desk: &mut [u64], many: u64, fault: u64) {
-    set(desk, NAMES, many);
-    set(desk, NOTES, fault);
-    sheet(desk, many as usize);
-    spoil(desk, fault);
+fn sheet_written(cells: &mut [u64], many: u64, fault: u64) {
+    set(cells, NAMES, many);
+    set(cells, NOTES, fault);
+    sheet(cells, many as usize);
+    spoil(cells, fault);
 }
 
 // The sheet in its slot.
-fn sheet_drawn(desk: &mut [u64], slots: &mut [u8]) {
-    signals(desk);
-    let many = roll(desk, 3) % 3 + 1;
-    let fault = sheet_fault(desk);
-    sheet_written(desk, many, fault);
-    kept(desk, slots, 0);
+fn sheet_drawn(cells: &mut [u64], slots: &mut [u8]) {
+    signals(cells);
+    let many = roll(cells, 3) % 3 + 1;
+    let fault = sheet_fault(cells);
+    sheet_written(cells, many, fault);
+    kept(cells, slots, 0);
 }
 
-pub fn round(desk: &mut [u64], slots: &mut [u8]) {
-    sheet_drawn(desk, slots);
-    formula(desk, slots, 1);
-    formula(desk, slots, 2);
-    with_work(desk, slots);
+pub fn round(cells: &mut [u64], slots: &mut [u8]) {
+    sheet_drawn(cells, slots);
+    formula(cells, slots, 1);
+    formula(cells, slots, 2);
+    with_work(cells, slots);
 }

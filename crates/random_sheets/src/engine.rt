@@ -2,11 +2,11 @@
 ghost use mathlib.Core.Path.{_≡_};
 ghost use lib.ListN.{length};
 ghost use Prim.Native.Nat.{_+_, _%_};
-use random_formulas::desk::BYTES;
-use random_formulas::desk::LENGTHS;
-use random_formulas::desk::TEXT;
-use random_formulas::desk::at;
-use random_formulas::desk::set;
+use random_formulas::cells::BYTES;
+use random_formulas::cells::LENGTHS;
+use random_formulas::cells::TEXT;
+use random_formulas::cells::at;
+use random_formulas::cells::set;
 use signals::Verdict;
 use signals::Written;
 
@@ -35,21 +35,21 @@ fn set_byte(a: &mut [u8], i: usize, v: u8) {
 }
 
 // Puts the bytes written into a slot.
-pub fn kept(desk: &mut [u64], slots: &mut [u8], slot: usize) {
-    let n = at(desk, BYTES) % 2049;
+pub fn kept(cells: &mut [u64], slots: &mut [u8], slot: usize) {
+    let n = at(cells, BYTES) % 2049;
     let start = slot % 4 * 2048;
-    set(desk, LENGTHS + slot % 4, n);
+    set(cells, LENGTHS + slot % 4, n);
     let mut i: usize = 0;
     while i < 2048 {
-        set_byte(slots, start + i, (at(desk, TEXT + i) % 256) as u8);
+        set_byte(slots, start + i, (at(cells, TEXT + i) % 256) as u8);
         i += 1;
     }
 }
 
 // The bytes of a slot.
-fn held<'a>(desk: &[u64], slots: &'a [u8], slot: usize) -> &'a [u8] {
+fn held<'a>(cells: &[u64], slots: &'a [u8], slot: usize) -> &'a [u8] {
     let start = slot % 4 * 2048;
-    let end = start + (at(desk, LENGTHS + slot % 4) % 2049) as usize;
+    let end = start + (at(cells, LENGTHS + slot % 4) % 2049) as usize;
     let none: usize = 0;
     if end <= slots.len() {
         return &slots[start..end];
@@ -76,17 +76,17 @@ fn verdict_number(answer: Verdict) -> u64 {
 }
 
 // The formula call.
-pub fn call(desk: &[u64], slots: &[u8], f: usize, work: &mut [u32], out: &mut [u32]) -> u64 {
-    let sheet = held(desk, slots, 0);
-    let text = held(desk, slots, f);
+pub fn call(cells: &[u64], slots: &[u8], f: usize, work: &mut [u32], out: &mut [u32]) -> u64 {
+    let sheet = held(cells, slots, 0);
+    let text = held(cells, slots, f);
     written_number(evaluation::evaluate(sheet, text, work, out))
 }
 
 // The claim of two formulas.
-pub fn claim(desk: &[u64], slots: &[u8], f: usize, g: usize, work: &mut [u32]) -> u64 {
-    let sheet = held(desk, slots, 0);
-    let first = held(desk, slots, f);
-    let second = held(desk, slots, g);
+pub fn claim(cells: &[u64], slots: &[u8], f: usize, g: usize, work: &mut [u32]) -> u64 {
+    let sheet = held(cells, slots, 0);
+    let first = held(cells, slots, f);
+    let second = held(cells, slots, g);
     verdict_number(evaluation::claim(sheet, first, second, work))
 }
 

@@ -1,9 +1,9 @@
 // The second evaluator: the value of every part at every moment up to gap 95, by document 01's sentences.
 use crate::rows::store;
 use crate::rows::up;
-use random_formulas::desk::NAMES;
-use random_formulas::desk::TREE;
-use random_formulas::desk::at;
+use random_formulas::cells::NAMES;
+use random_formulas::cells::TREE;
+use random_formulas::cells::at;
 use random_formulas::trees::operands;
 
 // The tests of a place: a row is down or up at a moment, row 1 is up and row 2 down, a part of the tree has a length above M, a part
@@ -18,9 +18,9 @@ pub const LONG: u64 = 3;
 
 pub const STRANGE: u64 = 4;
 
-fn fails(desk: &[u64], moment: usize) -> bool {
-    if up(desk, 1, moment) {
-        return !up(desk, 2, moment);
+fn fails(cells: &[u64], moment: usize) -> bool {
+    if up(cells, 1, moment) {
+        return !up(cells, 2, moment);
     }
     false
 }
@@ -39,26 +39,26 @@ fn strange(word: u64, names: u64) -> bool {
     false
 }
 
-fn passes(desk: &[u64], test: u64, row: usize, i: usize) -> bool {
+fn passes(cells: &[u64], test: u64, row: usize, i: usize) -> bool {
     if test < FAILS {
         let value = test == UP;
-        return up(desk, row, i) == value;
+        return up(cells, row, i) == value;
     }
     if test == FAILS {
-        return fails(desk, i);
+        return fails(cells, i);
     }
-    let word = at(desk, TREE + i % 256);
+    let word = at(cells, TREE + i % 256);
     if test == LONG {
         return long(word);
     }
-    strange(word, at(desk, NAMES))
+    strange(word, at(cells, NAMES))
 }
 
 // The first place from one up to another that passes the test, the end when none does.
-pub fn first(desk: &[u64], test: u64, row: usize, from: usize, end: usize) -> usize {
+pub fn first(cells: &[u64], test: u64, row: usize, from: usize, end: usize) -> usize {
     let mut i = from;
     while i < end {
-        if passes(desk, test, row, i) {
+        if passes(cells, test, row, i) {
             return i;
         }
         i += 1;
@@ -66,24 +66,24 @@ pub fn first(desk: &[u64], test: u64, row: usize, from: usize, end: usize) -> us
     end
 }
 
-fn leaf_up(desk: &[u64], kind: u64, value: u64, moment: usize) -> bool {
+fn leaf_up(cells: &[u64], kind: u64, value: u64, moment: usize) -> bool {
     if kind < 2 {
         return kind == 1;
     }
     let row = (value % 4 + 60) as usize;
-    up(desk, row, moment)
+    up(cells, row, moment)
 }
 
 // Up, or down, at an instant and the other just before.
-fn edge(desk: &[u64], row: usize, moment: usize, to: bool) -> bool {
+fn edge(cells: &[u64], row: usize, moment: usize, to: bool) -> bool {
     if moment % 2 == 0 {
         return false;
     }
     if moment == 0 {
         return false;
     }
-    let now = up(desk, row, moment);
-    let before = up(desk, row, moment - 1);
+    let now = up(cells, row, moment);
+    let before = up(cells, row, moment - 1);
     if now == before {
         return false;
     }
@@ -97,36 +97,36 @@ fn back(moment: usize, d: u64) -> usize {
 }
 
 // The row has the value at some moment from t-d to t.
-fn some(desk: &[u64], test: u64, row: usize, moment: usize, d: u64) -> bool {
+fn some(cells: &[u64], test: u64, row: usize, moment: usize, d: u64) -> bool {
     let end = moment % 192 + 1;
-    first(desk, test, row, back(moment, d), end) < end
+    first(cells, test, row, back(moment, d), end) < end
 }
 
-fn ton(desk: &[u64], row: usize, moment: usize, d: u64) -> bool {
+fn ton(cells: &[u64], row: usize, moment: usize, d: u64) -> bool {
     let k = (moment % 1024 + 1) / 2;
     if (k as u64) < d {
         return false;
     }
-    !some(desk, DOWN, row, moment, d)
+    !some(cells, DOWN, row, moment, d)
 }
 
-fn unary_up(desk: &[u64], kind: u64, d: u64, row: usize, moment: usize) -> bool {
+fn unary_up(cells: &[u64], kind: u64, d: u64, row: usize, moment: usize) -> bool {
     if kind == 3 {
-        return !up(desk, row, moment);
+        return !up(cells, row, moment);
     }
     if kind < 6 {
-        return edge(desk, row, moment, kind == 4);
+        return edge(cells, row, moment, kind == 4);
     }
     if kind == 6 {
-        return ton(desk, row, moment, d);
+        return ton(cells, row, moment, d);
     }
-    some(desk, UP, row, moment, d)
+    some(cells, UP, row, moment, d)
 }
 
 // At moment m, with r down on all the moments after it: 0 when SR or RS is up by it, 1 when r is up, 2 when earlier moments decide.
-fn decided(desk: &[u64], kind: u64, s: usize, r: usize, m: usize) -> u64 {
-    let set = up(desk, s, m);
-    let reset = up(desk, r, m);
+fn decided(cells: &[u64], kind: u64, s: usize, r: usize, m: usize) -> u64 {
+    let set = up(cells, s, m);
+    let reset = up(cells, r, m);
     if reset {
         if set {
             if kind == 10 {
@@ -139,11 +139,11 @@ fn decided(desk: &[u64], kind: u64, s: usize, r: usize, m: usize) -> u64 {
 }
 
 // SR and RS at a moment, back from it.
-fn latched(desk: &[u64], kind: u64, s: usize, r: usize, moment: usize) -> bool {
+fn latched(cells: &[u64], kind: u64, s: usize, r: usize, moment: usize) -> bool {
     let mut left = moment % 192 + 1;
     while 0 < left {
         left -= 1;
-        let way = decided(desk, kind, s, r, left);
+        let way = decided(cells, kind, s, r, left);
         if way < 2 {
             return way == 0;
         }
@@ -151,21 +151,21 @@ fn latched(desk: &[u64], kind: u64, s: usize, r: usize, moment: usize) -> bool {
     false
 }
 
-fn latch_up(desk: &[u64], kind: u64, s: usize, r: usize, moment: usize) -> bool {
+fn latch_up(cells: &[u64], kind: u64, s: usize, r: usize, moment: usize) -> bool {
     if kind == 10 {
-        if up(desk, s, moment) {
+        if up(cells, s, moment) {
             return true;
         }
     }
-    latched(desk, kind, s, r, moment)
+    latched(cells, kind, s, r, moment)
 }
 
-fn binary_up(desk: &[u64], kind: u64, f: usize, g: usize, moment: usize) -> bool {
+fn binary_up(cells: &[u64], kind: u64, f: usize, g: usize, moment: usize) -> bool {
     if 9 < kind {
-        return latch_up(desk, kind, f, g, moment);
+        return latch_up(cells, kind, f, g, moment);
     }
-    let first = up(desk, f, moment);
-    let second = up(desk, g, moment);
+    let first = up(cells, f, moment);
+    let second = up(cells, g, moment);
     if kind == 8 {
         if first { second } else { false }
     } else {
@@ -174,45 +174,45 @@ fn binary_up(desk: &[u64], kind: u64, f: usize, g: usize, moment: usize) -> bool
 }
 
 // A part at a moment, its operands standing in the row and the one after it.
-fn part_up(desk: &[u64], kind: u64, value: u64, row: usize, moment: usize) -> bool {
+fn part_up(cells: &[u64], kind: u64, value: u64, row: usize, moment: usize) -> bool {
     let n = operands(kind);
     if n == 0 {
-        return leaf_up(desk, kind, value, moment);
+        return leaf_up(cells, kind, value, moment);
     }
     if n == 1 {
-        return unary_up(desk, kind, value, row, moment);
+        return unary_up(cells, kind, value, row, moment);
     }
-    binary_up(desk, kind, row, row % 64 + 1, moment)
+    binary_up(cells, kind, row, row % 64 + 1, moment)
 }
 
 // From the last moment to the first, since a part looks only back.
-fn filled(desk: &mut [u64], kind: u64, value: u64, row: usize) {
+fn filled(cells: &mut [u64], kind: u64, value: u64, row: usize) {
     let mut m: usize = 192;
     while 0 < m {
         m -= 1;
-        let v = part_up(desk, kind, value, row, m);
-        store(desk, row, m, v);
+        let v = part_up(cells, kind, value, row, m);
+        store(cells, row, m, v);
     }
 }
 
 // One part more; how many rows stand from the base on.
-fn step(desk: &mut [u64], word: u64, top: usize, base: usize) -> usize {
+fn step(cells: &mut [u64], word: u64, top: usize, base: usize) -> usize {
     let kind = word % 16;
     let n = (operands(kind) % 3) as usize;
     let high = top % 64;
     if high < n {
         return high;
     }
-    filled(desk, kind, word / 16, base % 64 + high - n);
+    filled(cells, kind, word / 16, base % 64 + high - n);
     high + 1 - n
 }
 
 // The tree of n parts, its values in the row base.
-pub fn stepped(desk: &mut [u64], n: usize, base: usize) {
+pub fn stepped(cells: &mut [u64], n: usize, base: usize) {
     let mut top: usize = 0;
     let mut i: usize = 0;
     while i < n {
-        top = step(desk, at(desk, TREE + i % 256), top, base);
+        top = step(cells, at(cells, TREE + i % 256), top, base);
         i += 1;
     }
 }

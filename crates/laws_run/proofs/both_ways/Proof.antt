@@ -7,10 +7,10 @@ use Rattle.laws_run.proofs.both_ways.Statement.{statement}
 use Rattle.laws_run.proofs.both_ways.Tie as tie
 
 abbrev Inv-loop : tie.InvT-loop
-Inv-loop desk₀ slots₀ left right i₀ desk slots i = (length desk ≡ length desk₀) × (length slots ≡ length slots₀)
+Inv-loop cells₀ slots₀ left right i₀ cells slots i = (length cells ≡ length cells₀) × (length slots ≡ length slots₀)
 
 abbrev μ-loop : tie.MeasureT-loop
-μ-loop desk₀ slots₀ left right i₀ desk slots i = 50 - i
+μ-loop cells₀ slots₀ left right i₀ cells slots i = 50 - i
 
 pub both-ways-spec : {M : Type 1} → statement M
 both-ways-spec = tie.close (tie.spec Inv-loop μ-loop (λ c. search needs) (λ c κs. search needs) (λ c κs. search needs) (λ c. search needs) (λ c. search needs) (λ c. search needs) (λ c. search needs) (λ c. search needs) (λ c. search needs))

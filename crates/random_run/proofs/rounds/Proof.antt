@@ -7,10 +7,10 @@ use Rattle.random_run.proofs.rounds.Statement.{statement}
 use Rattle.random_run.proofs.rounds.Tie as tie
 
 abbrev Inv-loop : tie.InvT-loop
-Inv-loop desk₀ slots₀ many i₀ desk slots i = (length desk ≡ length desk₀) × (length slots ≡ length slots₀)
+Inv-loop cells₀ slots₀ many i₀ cells slots i = (length cells ≡ length cells₀) × (length slots ≡ length slots₀)
 
 abbrev μ-loop : tie.MeasureT-loop
-μ-loop desk₀ slots₀ many i₀ desk slots i = many - i
+μ-loop cells₀ slots₀ many i₀ cells slots i = many - i
 
 pub rounds-spec : {M : Type 1} → statement M
 rounds-spec = tie.close (tie.spec Inv-loop μ-loop (λ c. search needs) (λ c κs. search needs) (λ c. search needs) (λ c. search needs) (λ c. search needs) (λ c. search needs) (λ c. search needs) (λ c. search needs))

@@ -5,10 +5,10 @@ use Rattle.random_run.proofs.told_faults.Statement.{statement}
 use Rattle.random_run.proofs.told_faults.Tie as tie
 
 abbrev Inv-loop : tie.InvT-loop
-Inv-loop desk fault₀ fault = 0 ≤ 0
+Inv-loop cells fault₀ fault = 0 ≤ 0
 
 abbrev μ-loop : tie.MeasureT-loop
-μ-loop desk fault₀ fault = 19 - fault
+μ-loop cells fault₀ fault = 19 - fault
 
 pub told-faults-spec : {M : Type 1} → statement M
 told-faults-spec = tie.close (tie.spec Inv-loop μ-loop (λ c. search needs) (λ c κs. search needs) (λ c. search needs) (λ c. search needs) (λ c. search needs) (λ c. search needs))

@@ -5,10 +5,10 @@ use Rattle.laws_run.proofs.sides.leaf_of.Statement.{statement}
 use Rattle.laws_run.proofs.sides.leaf_of.Tie as tie
 
 abbrev Inv-loop : tie.InvT-loop
-Inv-loop desk n i₀ i = 0 ≤ 0
+Inv-loop cells n i₀ i = 0 ≤ 0
 
 abbrev μ-loop : tie.MeasureT-loop
-μ-loop desk n i₀ i = i
+μ-loop cells n i₀ i = i
 
 pub leaf-of-spec : {M : Type 1} → statement M
 leaf-of-spec = tie.close (tie.spec Inv-loop μ-loop (λ c κs. search needs) (λ c. search needs) (λ c. search needs) (λ c κs. search needs) (λ c κs. search needs) (λ c. search needs) (λ c. search needs) (λ c. search needs) (λ c. search needs) (λ c. search needs) (λ c. search needs) (λ c. search needs))

@@ -7,10 +7,10 @@ use Rattle.laws_run.proofs.sides.letters_drawn.Statement.{statement}
 use Rattle.laws_run.proofs.sides.letters_drawn.Tie as tie
 
 abbrev Inv-loop : tie.InvT-loop
-Inv-loop desk₀ q₀ desk q = length desk ≡ length desk₀
+Inv-loop cells₀ q₀ cells q = length cells ≡ length cells₀
 
 abbrev μ-loop : tie.MeasureT-loop
-μ-loop desk₀ q₀ desk q = 6 - q
+μ-loop cells₀ q₀ cells q = 6 - q
 
 pub letters-drawn-spec : {M : Type 1} → statement M
 letters-drawn-spec = tie.close (tie.spec Inv-loop μ-loop (λ c. search needs) (λ c κs. search needs) (λ c. search needs) (λ c. search needs) (λ c. search needs) (λ c. search needs) (λ c. search needs))

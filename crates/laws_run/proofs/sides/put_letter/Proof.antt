@@ -7,10 +7,10 @@ use Rattle.laws_run.proofs.sides.put_letter.Statement.{statement}
 use Rattle.laws_run.proofs.sides.put_letter.Tie as tie
 
 abbrev Inv-loop : tie.InvT-loop
-Inv-loop desk₀ n q from parts to₀ i₀ desk to i = length desk ≡ length desk₀
+Inv-loop cells₀ n q from parts to₀ i₀ cells to i = length cells ≡ length cells₀
 
 abbrev μ-loop : tie.MeasureT-loop
-μ-loop desk₀ n q from parts to₀ i₀ desk to i = parts - i
+μ-loop cells₀ n q from parts to₀ i₀ cells to i = parts - i
 
 pub put-letter-spec : {M : Type 1} → statement M
 put-letter-spec = tie.close (tie.spec Inv-loop μ-loop (λ c. search needs) (λ c. search needs) (λ c κs. search needs) (λ c. search needs) (λ c. search needs) (λ c. search needs) (λ c κs. search needs) (λ c κs. search needs) (λ c. search needs) (λ c. search needs) (λ c. search needs) (λ c. search needs) (λ c. search needs))

@@ -7,10 +7,10 @@ use Rattle.laws_run.proofs.sides.put_side.Statement.{statement}
 use Rattle.laws_run.proofs.sides.put_side.Tie as tie
 
 abbrev Inv-loop : tie.InvT-loop
-Inv-loop desk₀ n side to₀ i₀ desk to i = length desk ≡ length desk₀
+Inv-loop cells₀ n side to₀ i₀ cells to i = length cells ≡ length cells₀
 
 abbrev μ-loop : tie.MeasureT-loop
-μ-loop desk₀ n side to₀ i₀ desk to i = length side - i
+μ-loop cells₀ n side to₀ i₀ cells to i = length side - i
 
 pub put-side-spec : {M : Type 1} → statement M
 put-side-spec = tie.close (tie.spec Inv-loop μ-loop (λ c. search needs) (λ c κs. search needs) (λ c. search needs) (λ c κs. search needs) (λ c κs. search needs) (λ c. search needs) (λ c. search needs) (λ c. search needs) (λ c. search needs))

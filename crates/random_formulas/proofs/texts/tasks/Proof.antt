@@ -7,10 +7,10 @@ use Rattle.random_formulas.proofs.texts.tasks.Statement.{statement}
 use Rattle.random_formulas.proofs.texts.tasks.Tie as tie
 
 abbrev Inv-loop : tie.InvT-loop
-Inv-loop desk₀ turn₀ desk turn = length desk ≡ length desk₀
+Inv-loop cells₀ turn₀ cells turn = length cells ≡ length cells₀
 
 abbrev μ-loop : tie.MeasureT-loop
-μ-loop desk₀ turn₀ desk turn = 4096 - turn
+μ-loop cells₀ turn₀ cells turn = 4096 - turn
 
 pub tasks-spec : {M : Type 1} → statement M
 tasks-spec = tie.close (tie.spec Inv-loop μ-loop (λ c. search needs) (λ c κs. search needs) (λ c. search needs) (λ c. search needs) (λ c κs. search needs) (λ c κs. search needs) (λ c. search needs) (λ c. search needs) (λ c. search needs) (λ c. search needs) (λ c. search needs))

@@ -7,10 +7,10 @@ use Rattle.random_formulas.proofs.texts.write_bytes.Statement.{statemen
 use Rattle.random_formulas.proofs.texts.write_bytes.Tie as tie
 
 abbrev Inv-loop : tie.InvT-loop
-Inv-loop desk₀ s i₀ desk i = length desk ≡ length desk₀
+Inv-loop cells₀ s i₀ cells i = length cells ≡ length cells₀
 
 abbrev μ-loop : tie.MeasureT-loop
-μ-loop desk₀ s i₀ desk i = length s - i
+μ-loop cells₀ s i₀ cells i = length s - i
 
 pub write-bytes-spec : {M : Type 1} → statement M
 write-bytes-spec = tie.close (tie.spec Inv-loop μ-loop (λ c. search needs) (λ c. search needs) (λ c κs. search needs) (λ c. search needs) (λ c. search needs) (λ c. search needs) (λ c. search needs) (λ c. search needs))

@@ -7,10 +7,10 @@ use Rattle.random_formulas.proofs.trees.grow.Statement.{statement}
 use Rattle.random_formulas.proofs.trees.grow.Tie as tie
 
 abbrev Inv-loop : tie.InvT-loop
-Inv-loop desk₀ from least waiting₀ n₀ desk waiting n = length desk ≡ length desk₀
+Inv-loop cells₀ from least waiting₀ n₀ cells waiting n = length cells ≡ length cells₀
 
 abbrev μ-loop : tie.MeasureT-loop
-μ-loop desk₀ from least waiting₀ n₀ desk waiting n = 120 - n
+μ-loop cells₀ from least waiting₀ n₀ cells waiting n = 120 - n
 
 pub grow-spec : {M : Type 1} → statement M
 grow-spec = tie.close (tie.spec Inv-loop μ-loop (λ c. search needs) (λ c. search needs) (λ c. search needs) (λ c κs. search needs) (λ c. search needs) (λ c κs. search needs) (λ c κs. search needs) (λ c. search needs) (λ c. search needs) (λ c. search needs) (λ c. search needs) (λ c. search needs))

@@ -7,10 +7,10 @@ use Rattle.random_formulas.proofs.trees.measure.Statement.{statement}
 use Rattle.random_formulas.proofs.trees.measure.Tie as tie
 
 abbrev Inv-loop : tie.InvT-loop
-Inv-loop desk₀ from n i₀ desk i = length desk ≡ length desk₀
+Inv-loop cells₀ from n i₀ cells i = length cells ≡ length cells₀
 
 abbrev μ-loop : tie.MeasureT-loop
-μ-loop desk₀ from n i₀ desk i = n - i
+μ-loop cells₀ from n i₀ cells i = n - i
 
 pub measure-spec : {M : Type 1} → statement M
 measure-spec = tie.close (tie.spec Inv-loop μ-loop (λ c. search needs) (λ c. search needs) (λ c κs. search needs) (λ c κs. search needs) (λ c. search needs) (λ c κs. search needs) (λ c. search needs) (λ c. search needs) (λ c. search needs) (λ c. search needs) (λ c. search needs))

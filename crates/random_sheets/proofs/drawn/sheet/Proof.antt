@@ -7,10 +7,10 @@ use Rattle.random_sheets.proofs.drawn.sheet.Statement.{statement}
 use Rattle.random_sheets.proofs.drawn.sheet.Tie as tie
 
 abbrev Inv-loop : tie.InvT-loop
-Inv-loop desk₀ many i₀ desk i = length desk ≡ length desk₀
+Inv-loop cells₀ many i₀ cells i = length cells ≡ length cells₀
 
 abbrev μ-loop : tie.MeasureT-loop
-μ-loop desk₀ many i₀ desk i = many - i
+μ-loop cells₀ many i₀ cells i = many - i
 
 pub sheet-spec : {M : Type 1} → statement M
 sheet-spec = tie.close (tie.spec Inv-loop μ-loop (λ c κs. search needs) (λ c. search needs) (λ c κs. search needs) (λ c. search needs) (λ c κs. search needs) (λ c κs. search needs) (λ c. search needs) (λ c κs. search needs) (λ c. search needs) (λ c. search needs) (λ c. search needs) (λ c. search needs) (λ c. search needs))

@@ -7,10 +7,10 @@ use Rattle.random_sheets.proofs.steps.filled.Statement.{statement}
 use Rattle.random_sheets.proofs.steps.filled.Tie as tie
 
 abbrev Inv-loop : tie.InvT-loop
-Inv-loop desk₀ kind value row m₀ desk m = length desk ≡ length desk₀
+Inv-loop cells₀ kind value row m₀ cells m = length cells ≡ length cells₀
 
 abbrev μ-loop : tie.MeasureT-loop
-μ-loop desk₀ kind value row m₀ desk m = m
+μ-loop cells₀ kind value row m₀ cells m = m
 
 pub filled-spec : {M : Type 1} → statement M
 filled-spec = tie.close (tie.spec Inv-loop μ-loop (λ c. search needs) (λ c. search needs) (λ c κs. search needs) (λ c κs. search needs) (λ c. search needs) (λ c. search needs) (λ c. search needs) (λ c. search needs))

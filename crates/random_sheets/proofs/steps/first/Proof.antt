@@ -5,10 +5,10 @@ use Rattle.random_sheets.proofs.steps.first.Statement.{statement}
 use Rattle.random_sheets.proofs.steps.first.Tie as tie
 
 abbrev Inv-loop : tie.InvT-loop
-Inv-loop desk test row from end i₀ i = 0 ≤ 0
+Inv-loop cells test row from end i₀ i = 0 ≤ 0
 
 abbrev μ-loop : tie.MeasureT-loop
-μ-loop desk test row from end i₀ i = end - i
+μ-loop cells test row from end i₀ i = end - i
 
 pub first-spec : {M : Type 1} → statement M
 first-spec = tie.close (tie.spec Inv-loop μ-loop (λ c. search needs) (λ c κs. search needs) (λ c. search needs) (λ c. search needs) (λ c. search needs) (λ c. search needs) (λ c. search needs))

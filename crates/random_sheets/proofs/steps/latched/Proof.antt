@@ -5,10 +5,10 @@ use Rattle.random_sheets.proofs.steps.latched.Statement.{statement}
 use Rattle.random_sheets.proofs.steps.latched.Tie as tie
 
 abbrev Inv-loop : tie.InvT-loop
-Inv-loop desk kind s r moment left₀ left = 0 ≤ 0
+Inv-loop cells kind s r moment left₀ left = 0 ≤ 0
 
 abbrev μ-loop : tie.MeasureT-loop
-μ-loop desk kind s r moment left₀ left = left
+μ-loop cells kind s r moment left₀ left = left
 
 pub latched-spec : {M : Type 1} → statement M
 latched-spec = tie.close (tie.spec Inv-loop μ-loop (λ c. search needs) (λ c. search needs) (λ c. search needs) (λ c κs. search needs) (λ c. search needs) (λ c. search needs) (λ c. search needs) (λ c. search needs))

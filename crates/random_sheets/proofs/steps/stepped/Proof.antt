@@ -7,10 +7,10 @@ use Rattle.random_sheets.proofs.steps.stepped.Statement.{statement}
 use Rattle.random_sheets.proofs.steps.stepped.Tie as tie
 
 abbrev Inv-loop : tie.InvT-loop
-Inv-loop desk₀ n base top₀ i₀ desk top i = length desk ≡ length desk₀
+Inv-loop cells₀ n base top₀ i₀ cells top i = length cells ≡ length cells₀
 
 abbrev μ-loop : tie.MeasureT-loop
-μ-loop desk₀ n base top₀ i₀ desk top i = n - i
+μ-loop cells₀ n base top₀ i₀ cells top i = n - i
 
 pub stepped-spec : {M : Type 1} → statement M
 stepped-spec = tie.close (tie.spec Inv-loop μ-loop (λ c. search needs) (λ c. search needs) (λ c κs. search needs) (λ c κs. search needs) (λ c. search needs) (λ c. search needs) (λ c. search needs) (λ c. search needs) (λ c. search needs))

@@ -1,4 +1,4 @@
-// The desk, one slice of numbers: its places by name, elements that are 0 past the end, and random numbers.
+// The cells, one slice of numbers: their places by name, elements that are 0 past the end, and random numbers.
 ghost use mathlib.Core.Path.{_≡_};
 ghost use lib.ListN.{length, getD, set};
 ghost use Prim.Native.Nat.{_+_, _%_};
@@ -42,26 +42,26 @@ pub fn whole() -> [u64; 16384]
     [0; 16384]
 }
 
-pub fn at(desk: &[u64], i: usize) -> u64
-    ensures { λ r. ⌜ r ≡ getD (now (desk .entry)) i 0 ⌝ }
+pub fn at(cells: &[u64], i: usize) -> u64
+    ensures { λ r. ⌜ r ≡ getD (now (cells .entry)) i 0 ⌝ }
 {
-    if i < desk.len() { desk[i] } else { 0 }
+    if i < cells.len() { cells[i] } else { 0 }
 }
 
-pub fn set(desk: &mut [u64], i: usize, v: u64)
-    ensures { λ _. ⌜ now (desk .exit) ≡ set (now (desk .entry)) i v ⌝ }
+pub fn set(cells: &mut [u64], i: usize, v: u64)
+    ensures { λ _. ⌜ now (cells .exit) ≡ set (now (cells .entry)) i v ⌝ }
 {
-    if i < desk.len() {
-        desk[i] = v;
+    if i < cells.len() {
+        cells[i] = v;
     }
 }
 
 // One more of a kind.
-pub fn count(desk: &mut [u64], i: usize)
-    ensures { λ _. ⌜ now (desk .exit) ≡ set (now (desk .entry)) i (getD (now (desk .entry)) i 0 % 1000000000 + 1) ⌝ }
+pub fn count(cells: &mut [u64], i: usize)
+    ensures { λ _. ⌜ now (cells .exit) ≡ set (now (cells .entry)) i (getD (now (cells .entry)) i 0 % 1000000000 + 1) ⌝ }
 {
-    let n = at(desk, i) % 1000000000;
-    set(desk, i, n + 1);
+    let n = at(cells, i) % 1000000000;
+    set(cells, i, n + 1);
 }
 
 // The seed after s.
@@ -79,10 +79,10 @@ fn drawn(seed: u64, n: u64) -> u64
 }
 
 // A random number below n, 0 for 0; the seed moves on.
-pub fn roll(desk: &mut [u64], n: u64) -> u64
-    ensures { λ r. ⌜ Rolled (now (desk .entry)) n (now (desk .exit)) r ⌝ }
+pub fn roll(cells: &mut [u64], n: u64) -> u64
+    ensures { λ r. ⌜ Rolled (now (cells .entry)) n (now (cells .exit)) r ⌝ }
 {
-    let seed = next_seed(at(desk, SEED));
-    set(desk, SEED, seed);
+    let seed = next_seed(at(cells, SEED));
+    set(cells, SEED, seed);
     drawn(seed, n)
 }

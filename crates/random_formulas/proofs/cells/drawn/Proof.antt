@@ -1,9 +1,9 @@
--- `random_formulas::desk::drawn` gives the number below n.
+-- `random_formulas::cells::drawn` gives the number below n.
 use borrow.Author.Needs.{needs}
 use borrow.Author.Tests.{ne-eqb}
 use Rattle.random_formulas.specs.Draws.{drawnBelow}
-use Rattle.random_formulas.proofs.desk.drawn.Statement.{statement}
-use Rattle.random_formulas.proofs.desk.drawn.Tie as tie
+use Rattle.random_formulas.proofs.cells.drawn.Statement.{statement}
+use Rattle.random_formulas.proofs.cells.drawn.Tie as tie
 
 returns : tie.Need-returns
 unfolding drawnBelow

@@ -1,10 +1,10 @@
--- `random_formulas::desk::roll` gives the number drawn and moves the seed on.
+-- `random_formulas::cells::roll` gives the number drawn and moves the seed on.
 use borrow.Author.Needs.{needs}
-use Rattle.random_formulas.proofs.desk.roll.Statement.{statement}
-use Rattle.random_formulas.proofs.desk.roll.Tie as tie
+use Rattle.random_formulas.proofs.cells.roll.Statement.{statement}
+use Rattle.random_formulas.proofs.cells.roll.Tie as tie
 
 returns : tie.Need-returns
-returns c = record { drawn = cc; desk = cc }
+returns c = record { drawn = cc; cells = cc }
 
 pub roll-spec : {M : Type 1} → statement M
 roll-spec =

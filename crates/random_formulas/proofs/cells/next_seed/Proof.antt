@@ -1,8 +1,8 @@
--- `random_formulas::desk::next_seed` gives the seed after another.
+-- `random_formulas::cells::next_seed` gives the seed after another.
 use borrow.Author.Needs.{needs}
 use Rattle.random_formulas.specs.Draws.{nextSeed}
-use Rattle.random_formulas.proofs.desk.next_seed.Statement.{statement}
-use Rattle.random_formulas.proofs.desk.next_seed.Tie as tie
+use Rattle.random_formulas.proofs.cells.next_seed.Statement.{statement}
+use Rattle.random_formulas.proofs.cells.next_seed.Tie as tie
 
 returns : tie.Need-returns
 unfolding nextSeed

@@ -1,7 +1,7 @@
--- `random_formulas::desk::count` adds one.
+-- `random_formulas::cells::count` adds one.
 use borrow.Author.Needs.{needs}
-use Rattle.random_formulas.proofs.desk.count.Statement.{statement}
-use Rattle.random_formulas.proofs.desk.count.Tie as tie
+use Rattle.random_formulas.proofs.cells.count.Statement.{statement}
+use Rattle.random_formulas.proofs.cells.count.Tie as tie
 
 returns : tie.Need-returns
 returns c = cc
