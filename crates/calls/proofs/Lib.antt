@@ -1,4 +1,5 @@
 -- The proofs of the statements of specs/.
+pub mod OneNameRule
 pub mod FirstFault
 pub mod SheetLists
 pub mod Settles

@@ -31,24 +31,11 @@ use Rattle.calls.specs.Calls.{readingFault, partFault, partsFault, worki
 use Rattle.calls.proofs.SheetLists.{sheet-sound, named-sound, named-words}
 use Rattle.calls.proofs.PartFaults.{late-of}
 use Rattle.calls.proofs.NotRefused.{Clear}
+use Rattle.calls.proofs.OneNameRule.{one-name-rule}
 use Rattle.signals.proofs.FirstFault.{first-with-none, next-is}
 
--- the sheet's rule of names and the grammar's are one
-rest-named : (bs : List ℕ) → lettersOrDigits bs ≡ true → allOf isNameByte bs ≡ true
-unfolding lettersOrDigits allOf isNameByte isLower isDigit letter digit
-rest-named [] e = refl
-rest-named (b ∷ bs) e =
-    and-of (letter b || digit b) (allOf isNameByte bs) (and-left (letter b || digit b) (lettersOrDigits bs) e)
-    (rest-named bs (and-right (letter b || digit b) (lettersOrDigits bs) e))
-
 pub is-name : (n : List ℕ) → wellNamed n ≡ true → isName n ≡ true
-unfolding wellNamed isName isLower letter
-is-name [] e = e
-is-name (b ∷ bs) e =
-    let l = leb-true (length (b ∷ bs)) 8 (and-left (leb (length (b ∷ bs)) 8) (letter b && lettersOrDigits bs) e) in
-    let r = and-right (leb (length (b ∷ bs)) 8) (letter b && lettersOrDigits bs) e in
-    and-of (letter b) (allOf isNameByte bs && leb (length bs) 7) (and-left (letter b) (lettersOrDigits bs) r)
-    (and-of (allOf isNameByte bs) (leb (length bs) 7) (rest-named bs (and-right (letter b) (lettersOrDigits bs) r)) (le-leb (length bs) 7 (omega arith)))
+is-name n e = one-name-rule n ∙ e
 
 -- words below 2^32 have no date past M
 not-late : (l : List ℕ) → Words l → changesAfterM l ≡ false

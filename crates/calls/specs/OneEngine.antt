@@ -1,4 +1,4 @@
--- Demand 2 leaves no freedom: an engine that meets it answers and writes what the defined one does, for every input, faulty ones too.
+-- One engine meets demand 2: any that does answers and writes what the defined one does, for every input, faulty ones too.
 use Prim.Native.Nat.{ℕ}
 use mathlib.Core.Path.{_≡_}
 use mathlib.Core.List.{List}

@@ -40,7 +40,7 @@ unfoldable pub packPlace : Place → ℕ
 packPlace (place.At start count) = 16777216 * start + count
 packPlace (place.Refused f) = 281474976710656 * f
 
--- bit i of a number
+-- the bit of weight i of a number
 unfoldable pub bit : ℕ → ℕ → Bool
 bit n i = eqb (n / i % 2) 1
 

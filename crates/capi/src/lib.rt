@@ -236,7 +236,7 @@ pub extern "C" fn sgl_append(sheet: &[u8], name: &[u8], list: &[u32], out: &mut 
     pack_written(sheets::append(sheet, name, list, out))
 }
 
-// The list of a formula's signal on a sheet. Refused before the work starts, the work area is as it was; after that it is free.
+// The list of a formula's signal on a sheet. Refused by check 18 or an earlier one it leaves the work area as it was; else that is free.
 #[no_mangle]
 pub extern "C" fn sgl_evaluate(
     sheet: &[u8],
@@ -249,7 +249,7 @@ pub extern "C" fn sgl_evaluate(
     pack_written(evaluation::evaluate(sheet, formula, work, out))
 }
 
-// The verdict of the claim f to g on a sheet.
+// The verdict of the claim f to g on a sheet; the work area as there.
 #[no_mangle]
 pub extern "C" fn sgl_claim(sheet: &[u8], f: &[u8], g: &[u8], work: &mut [u32]) -> u64
     ensures { λ r. ⌜ (r ≡ packVerdict (claimAnswer (now (sheet .entry)) (now (f .entry)) (now (g .entry)) (length (now (work .entry))))) × ((firstClaimFault (now (sheet .entry)) (now (f .entry)) (now (g .entry)) (length (now (work .entry))) ≡ 0 → ⊥) → now (work .exit) ≡ now (work .entry)) ⌝ }

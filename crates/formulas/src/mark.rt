@@ -1,4 +1,4 @@
-// Where the reader of a formula is, by value, and the steps that read no sum. A bad mark flows through each of them unchanged.
+// Where the reader of a formula is, by value, and the steps that read no sum. Each gives a bad mark back unchanged.
 ghost use mathlib.Core.Path.{_≡_};
 ghost use mathlib.Core.Bool.{cond, true};
 ghost use Prim.Native.Nat.{_+_, _-_, _≤_, _<_, max};

@@ -25,4 +25,5 @@ implication a b za zb =
       holds = rw (verdict-is a b za zb) (j .holds);
       failsAt = λ k l. rw (verdict-is a b za zb) (rw (failsIn-instant k l) at (j .fails (instant k)));
       failsAfter = λ k. rw (verdict-is a b za zb) (rw (failsIn-gap k) at (j .fails (gap k)));
+      either = rw (verdict-is a b za zb) (j .either);
     }
