@@ -201,7 +201,7 @@ not-refused =
       verdicts = λ sheet F G a b work l.
           ap faultOfVerdict (given-claim sheet F G a b work l) ∙ claim-no-fault sheet (formulaTree F) (formulaTree G);
       only18 = short-claim;
-      bytes = λ sheet formula. (
+      exactly = λ sheet formula. (
         λ a. let c = answered-clear sheet formula a in (c .sheet-ok, c .text-ok, c .parts-ok),
         λ h. clear-answered sheet formula (record { sheet-ok = h .0; text-ok = h .1; parts-ok = h .2 }),
       );

@@ -31,5 +31,5 @@ pub record NotRefused : Type 0 where
   pub only18 : (sheet F G : List ℕ) → Answered sheet F → Answered sheet G → (work : ℕ) → work < neededWork sheet
       → claimAnswer sheet F G work ≡ Refused 18
   -- answered, from the bytes of sheet and formula: the sheet, the formula on it and its parts have no fault
-  pub bytes : (sheet formula : List ℕ)
+  pub exactly : (sheet formula : List ℕ)
       → Answered sheet formula ↔ ((sheetFault sheet ≡ 0) × (readingFault sheet formula ≡ 0) × (workingFault sheet formula ≡ 0))
