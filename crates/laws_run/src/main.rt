@@ -13,6 +13,7 @@ use random_formulas::cells::TALLY;
 use random_formulas::cells::at;
 use random_formulas::cells::set;
 use random_formulas::cells::whole;
+use random_sheets::drawn::ordinary_times;
 use random_sheets::drawn::sheet;
 use random_sheets::drawn::signals;
 use random_sheets::engine::kept;
@@ -43,6 +44,7 @@ fn both_ways(cells: &mut [u64], slots: &mut [u8], left: &[u8], right: &[u8]) {
 fn begun(cells: &mut [u64], number: u64) {
     set(cells, SEED, number % 64 + 20261115);
     set(cells, NAMES, 3);
+    ordinary_times(cells);
     set(cells, TALLY, 0);
     set(cells, TALLY + 1, 0);
     set(cells, TALLY + 2, 0);

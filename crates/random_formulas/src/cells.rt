@@ -17,8 +17,18 @@ pub const DEEPEST: usize = 4;
 pub const NAMES: usize = 5;
 // Where the tree being written begins.
 pub const START: usize = 6;
+// How many dates a row has.
+pub const DATES: usize = 7;
 // How many bytes the sheet and three formulas have.
 pub const LENGTHS: usize = 8;
+// By how much the dates of a row's far part are later than their columns.
+pub const SHIFT: usize = 12;
+// The first column at which signals change, and the last.
+pub const FIRST: usize = 13;
+
+pub const LAST: usize = 14;
+// 5 or 6 of the first part stepped that meets one, else 0.
+pub const PART: usize = 15;
 // For the program's own numbers, 16 to 63.
 pub const NOTES: usize = 16;
 
@@ -31,15 +41,15 @@ pub const SIZES: usize = 512;
 pub const TREES: usize = 768;
 
 pub const TASK: usize = 1280;
-// The bytes written, at most 2,048.
+// The bytes written, at most 4,096.
 pub const TEXT: usize = 2048;
-// 64 rows of 192 moments.
-pub const ROWS: usize = 4096;
+// 64 rows of 832 moments.
+pub const ROWS: usize = 8192;
 
-pub fn whole() -> [u64; 16384]
-    ensures { λ r. ⌜ 16384 ≡ length r ⌝ }
+pub fn whole() -> [u64; 61440]
+    ensures { λ r. ⌜ 61440 ≡ length r ⌝ }
 {
-    [0; 16384]
+    [0; 61440]
 }
 
 pub fn at(cells: &[u64], i: usize) -> u64

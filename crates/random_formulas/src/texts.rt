@@ -41,7 +41,7 @@ fn pop(cells: &mut [u64]) -> u64 {
 pub fn write(cells: &mut [u64], b: u8)
     ensures { λ _. ⌜ now (cells .exit) ≡ withByte (now (cells .entry)) b ⌝ }
 {
-    let n = at(cells, BYTES) % 2048;
+    let n = at(cells, BYTES) % 4096;
     set(cells, TEXT + n as usize, b as u64);
     set(cells, BYTES, n + 1);
 }

@@ -1,6 +1,7 @@
 // A random sheet and two random formulas: each call, and the claim, against the second evaluator.
 // The tally: 0 mismatches, 1 to 18 formulas refused so, 20 formulas answered, 21 to 24 claims that hold, fail at, fail after, are
-// refused. The notes: the sheet's fault, F's, G's, and 18 where the work area is short.
+// refused. The notes: the sheet's fault, F's, G's, 18 where the work area is short; 5 or 6 that F's parts meet, and G's, 4 further on.
+ghost use Prim.Native.Nat.{_≤_};
 use crate::made::sheet_fault;
 use crate::made::spoil;
 use crate::made::text;
@@ -8,12 +9,16 @@ use crate::made::tree;
 use random_formulas::cells::BYTES;
 use random_formulas::cells::NAMES;
 use random_formulas::cells::NOTES;
+use random_formulas::cells::PART;
 use random_formulas::cells::TALLY;
 use random_formulas::cells::at;
 use random_formulas::cells::count;
 use random_formulas::cells::roll;
 use random_formulas::cells::set;
 use random_formulas::texts::cleared;
+use random_sheets::drawn::far_times;
+use random_sheets::drawn::long_times;
+use random_sheets::drawn::ordinary_times;
 use random_sheets::drawn::sheet;
 use random_sheets::drawn::signals;
 use random_sheets::engine::call;
@@ -23,6 +28,8 @@ use random_sheets::engine::kept;
 use random_sheets::engine::longest;
 use random_sheets::engine::old;
 use random_sheets::engine::work_area;
+use random_sheets::rows::date_of;
+use random_sheets::rows::dates;
 use random_sheets::rows::word_at;
 use random_sheets::rows::words;
 use random_sheets::steps::FAILS;
@@ -100,8 +107,21 @@ fn early_fault(cells: &[u64], f: usize, g: usize) -> u64 {
     at(cells, NOTES + 3)
 }
 
+// What a call of F, or a claim of F to G, meets before its output: then F's parts, then G's.
+fn fault_of(cells: &[u64], f: usize, g: usize) -> u64 {
+    let early = early_fault(cells, f, g);
+    if early != 0 {
+        return early;
+    }
+    let of_f = at(cells, NOTES + 4 + f % 4);
+    if of_f != 0 {
+        return of_f;
+    }
+    at(cells, NOTES + 4 + g % 4)
+}
+
 fn judge_call(cells: &mut [u64], f: usize, answer: u64, out: &[u32]) {
-    let fault = early_fault(cells, f, f) % 20;
+    let fault = fault_of(cells, f, f) % 20;
     if fault != 0 {
         compare(cells, fault, fault + 1000, answer, out, 0);
         return;
@@ -147,24 +167,37 @@ fn formula_call(cells: &mut [u64], slots: &[u8], f: usize, work: &mut [u32]) {
     call_with(cells, slots, f, work, &mut out, room_of(few));
 }
 
-fn failure(moment: usize) -> u64 {
-    let m = (moment % 192) as u64;
-    if m == 191 {
+// The verdict of the first failing moment, the end being none.
+fn failure(cells: &[u64], moment: usize, end: usize) -> u64 {
+    if moment == end {
         return 0;
     }
-    if m % 2 == 0 {
-        return m / 2 * 4 + 2;
+    let date = date_of(cells, moment / 2 + moment % 2) % 4294967296;
+    if moment % 2 == 0 {
+        return date * 4 + 2;
     }
-    (m + 1) / 2 * 4 + 1
+    date * 4 + 1
 }
 
-// The verdict expected, moment by moment up to gap 95.
+// The moment of the last column's gap.
+fn last_gap(cells: &[u64]) -> usize
+    ensures { λ r. ⌜ r ≤ 832 ⌝ }
+{
+    let n = dates(cells);
+    if n == 0 {
+        return 0;
+    }
+    2 * n - 2
+}
+
+// The verdict expected, moment by moment.
 fn expected_verdict(cells: &[u64]) -> u64 {
-    let fault = early_fault(cells, 1, 2) % 20;
+    let fault = fault_of(cells, 1, 2) % 20;
     if fault != 0 {
         return fault * 4 + 3;
     }
-    failure(first(cells, FAILS, 0, 0, 191))
+    let end = last_gap(cells) + 1;
+    failure(cells, first(cells, FAILS, 0, 0, end), end)
 }
 
 fn judge_claim(cells: &mut [u64], answer: u64) {
@@ -209,11 +242,14 @@ fn formula(cells: &mut [u64], slots: &mut [u8], f: usize) {
     let n = tree(cells);
     let fault = text(cells, n);
     set(cells, NOTES + f % 4, fault);
+    set(cells, NOTES + 4 + f % 4, 0);
     kept(cells, slots, f);
     if fault != 0 {
         return;
     }
     stepped(cells, n, f);
+    let part = at(cells, PART);
+    set(cells, NOTES + 4 + f % 4, part);
 }
 
 // The sheet of so many signals, with the fault.
@@ -224,8 +260,21 @@ fn sheet_written(cells: &mut [u64], many: u64, fault: u64) {
     spoil(cells, fault);
 }
 
+// Mostly ordinary times, at times far ones, now and then long ones.
+fn times_drawn(cells: &mut [u64]) {
+    let r = roll(cells, 100);
+    if r < 2 {
+        long_times(cells);
+    } else if r < 20 {
+        far_times(cells);
+    } else {
+        ordinary_times(cells);
+    }
+}
+
 // The sheet in its slot.
 fn sheet_drawn(cells: &mut [u64], slots: &mut [u8]) {
+    times_drawn(cells);
     signals(cells);
     let many = roll(cells, 3) % 3 + 1;
     let fault = sheet_fault(cells);

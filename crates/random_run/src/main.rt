@@ -36,7 +36,7 @@ fn told_fault(cells: &[u64], fault: usize) {
 }
 
 fn told_faults(cells: &[u64]) {
-    let mut fault: usize = 7;
+    let mut fault: usize = 5;
     while fault < 19 {
         told_fault(cells, fault);
         fault += 1;

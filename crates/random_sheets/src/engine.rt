@@ -1,4 +1,4 @@
-// The engine's calls on the sheet and formulas of a buffer of four slots of 2,048 bytes: slot 0 the sheet, 1 to 3 the formulas.
+// The engine's calls on the sheet and formulas of a buffer of four slots of 4,096 bytes: slot 0 the sheet, 1 to 3 the formulas.
 ghost use mathlib.Core.Path.{_≡_};
 ghost use lib.ListN.{length};
 ghost use Prim.Native.Nat.{_+_, _%_};
@@ -10,10 +10,10 @@ use random_formulas::cells::set;
 use signals::Verdict;
 use signals::Written;
 
-pub fn slots() -> [u8; 8192]
-    ensures { λ r. ⌜ 8192 ≡ length r ⌝ }
+pub fn slots() -> [u8; 16384]
+    ensures { λ r. ⌜ 16384 ≡ length r ⌝ }
 {
-    [0; 8192]
+    [0; 16384]
 }
 
 pub fn work_area() -> [u32; 8192]
@@ -36,11 +36,11 @@ fn set_byte(a: &mut [u8], i: usize, v: u8) {
 
 // Puts the bytes written into a slot.
 pub fn kept(cells: &mut [u64], slots: &mut [u8], slot: usize) {
-    let n = at(cells, BYTES) % 2049;
-    let start = slot % 4 * 2048;
+    let n = at(cells, BYTES) % 4097;
+    let start = slot % 4 * 4096;
     set(cells, LENGTHS + slot % 4, n);
     let mut i: usize = 0;
-    while i < 2048 {
+    while i < 4096 {
         set_byte(slots, start + i, (at(cells, TEXT + i) % 256) as u8);
         i += 1;
     }
@@ -48,8 +48,8 @@ pub fn kept(cells: &mut [u64], slots: &mut [u8], slot: usize) {
 
 // The bytes of a slot.
 fn held<'a>(cells: &[u64], slots: &'a [u8], slot: usize) -> &'a [u8] {
-    let start = slot % 4 * 2048;
-    let end = start + (at(cells, LENGTHS + slot % 4) % 2049) as usize;
+    let start = slot % 4 * 4096;
+    let end = start + (at(cells, LENGTHS + slot % 4) % 4097) as usize;
     let none: usize = 0;
     if end <= slots.len() {
         return &slots[start..end];

@@ -1,9 +1,13 @@
-// The second evaluator: the value of every part at every moment up to gap 95, by document 01's sentences.
+// The second evaluator: the value of every part at every moment of the rows, by document 01's sentences.
+use crate::rows::dates;
+use crate::rows::row_fault;
 use crate::rows::store;
 use crate::rows::up;
 use random_formulas::cells::NAMES;
+use random_formulas::cells::PART;
 use random_formulas::cells::TREE;
 use random_formulas::cells::at;
+use random_formulas::cells::set;
 use random_formulas::trees::operands;
 
 // The tests of a place: a row is down or up at a moment, row 1 is up and row 2 down, a part of the tree has a length above M, a part
@@ -98,7 +102,7 @@ fn back(moment: usize, d: u64) -> usize {
 
 // The row has the value at some moment from t-d to t.
 fn some(cells: &[u64], test: u64, row: usize, moment: usize, d: u64) -> bool {
-    let end = moment % 192 + 1;
+    let end = moment % 832 + 1;
     first(cells, test, row, back(moment, d), end) < end
 }
 
@@ -140,7 +144,7 @@ fn decided(cells: &[u64], kind: u64, s: usize, r: usize, m: usize) -> u64 {
 
 // SR and RS at a moment, back from it.
 fn latched(cells: &[u64], kind: u64, s: usize, r: usize, moment: usize) -> bool {
-    let mut left = moment % 192 + 1;
+    let mut left = moment % 832 + 1;
     while 0 < left {
         left -= 1;
         let way = decided(cells, kind, s, r, left);
@@ -187,11 +191,19 @@ fn part_up(cells: &[u64], kind: u64, value: u64, row: usize, moment: usize) -> b
 
 // From the last moment to the first, since a part looks only back.
 fn filled(cells: &mut [u64], kind: u64, value: u64, row: usize) {
-    let mut m: usize = 192;
+    let mut m = 2 * dates(cells);
     while 0 < m {
         m -= 1;
         let v = part_up(cells, kind, value, row, m);
         store(cells, row, m, v);
+    }
+}
+
+// Notes the fault of the part in the row, unless one before it met one.
+fn noted(cells: &mut [u64], row: usize) {
+    if at(cells, PART) == 0 {
+        let fault = row_fault(cells, row);
+        set(cells, PART, fault);
     }
 }
 
@@ -203,12 +215,15 @@ fn step(cells: &mut [u64], word: u64, top: usize, base: usize) -> usize {
     if high < n {
         return high;
     }
-    filled(cells, kind, word / 16, base % 64 + high - n);
+    let row = base % 64 + high - n;
+    filled(cells, kind, word / 16, row);
+    noted(cells, row);
     high + 1 - n
 }
 
-// The tree of n parts, its values in the row base.
+// The tree of n parts, its values in the row base; the fault of its first part that meets 5 or 6 is noted.
 pub fn stepped(cells: &mut [u64], n: usize, base: usize) {
+    set(cells, PART, 0);
     let mut top: usize = 0;
     let mut i: usize = 0;
     while i < n {

@@ -10,7 +10,7 @@ abbrev Inv-loop : tie.InvT-loop
 Inv-loop cells slots₀ slot n start i₀ slots i = length slots ≡ length slots₀
 
 abbrev μ-loop : tie.MeasureT-loop
-μ-loop cells slots₀ slot n start i₀ slots i = 2048 - i
+μ-loop cells slots₀ slot n start i₀ slots i = 4096 - i
 
 pub kept-spec : {M : Type 1} → statement M
 kept-spec = tie.close (tie.spec Inv-loop μ-loop (λ c κs. search needs) (λ c. search needs) (λ c. search needs) (λ c κs. search needs) (λ c. search needs) (λ c. search needs) (λ c. search needs) (λ c κs. search needs) (λ c. search needs) (λ c κs. search needs) (λ c. search needs) (λ c. search needs) (λ c. search needs) (λ c. search needs) (λ c. search needs) (λ c. search needs))

@@ -7,10 +7,10 @@ use Rattle.random_sheets.proofs.rows.words.Statement.{statement}
 use Rattle.random_sheets.proofs.rows.words.Tie as tie
 
 abbrev Inv-loop : tie.InvT-loop
-Inv-loop cells₀ row k₀ cells k = length cells ≡ length cells₀
+Inv-loop cells₀ row end k₀ cells k = length cells ≡ length cells₀
 
 abbrev μ-loop : tie.MeasureT-loop
-μ-loop cells₀ row k₀ cells k = 96 - k
+μ-loop cells₀ row end k₀ cells k = end - k
 
 pub words-spec : {M : Type 1} → statement M
-words-spec = tie.close (tie.spec Inv-loop μ-loop (λ c κs. search needs) (λ c κs. search needs) (λ c κs. search needs) (λ c. search needs) (λ c κs. search needs) (λ c κs. search needs) (λ c. search needs) (λ c. search needs) (λ c. search needs) (λ c. search needs) (λ c. search needs))
+words-spec = tie.close (tie.spec Inv-loop μ-loop (λ c κs. search needs) (λ c κs. search needs) (λ c κs. search needs) (λ c κs. search needs) (λ c. search needs) (λ c κs. search needs) (λ c κs. search needs) (λ c. search needs) (λ c. search needs) (λ c. search needs) (λ c. search needs) (λ c. search needs))
