@@ -159,12 +159,7 @@ pub lies-at : (sheet name : List ℕ) (p : ℕ × ℕ) (place : Place) → place
     → _≡_ {A = ℕ × ℕ} (p .0, firstByte place + p .1) (p .0, firstByte (placeOf sheet name) + p .1)
 lies-at sheet name p place e = sym (ap (λ (x : Place). (p .0, firstByte x + p .1)) e)
 
-pub part-none : (sheet name : List ℕ) (fault : ℕ) → placeOf sheet name ≡ Refused fault → [] ≡ lookupOf sheet name
+pub part-none : (sheet name part : List ℕ) (fault : ℕ) → placeOf sheet name ≡ Refused fault → length part ≡ 0 → part ≡ lookupOf sheet name
 unfolding lookupOf
-part-none sheet name fault e = sym (ap (partAt sheet) e)
-
-pub lies-front : (sheet name : List ℕ) (p : ℕ × ℕ) (fault : ℕ) → placeOf sheet name ≡ Refused fault
-    → p ≡ (p .0, firstByte (placeOf sheet name) + p .1)
-lies-front sheet name p fault e =
-    let z : p .1 ≡ 0 + p .1 = omega arith in
-    ap (λ (n : ℕ). (p .0, n)) z ∙ lies-at sheet name p (Refused fault) e
+part-none sheet name [] fault e k = sym (ap (partAt sheet) e)
+part-none sheet name (b ∷ bs) fault e k = absurd (omega arith)

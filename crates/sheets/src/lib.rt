@@ -356,7 +356,10 @@ pub fn lookup<'a>(sheet: &'a [u8], name: &[u8]) -> &'a [u8]
             let end = start + count;
             &sheet[start..end]
         }
-        Place::Refused(_) => &sheet[..0],
+        Place::Refused(_) => {
+            let front = 0;
+            &sheet[front..front]
+        }
     }
 }
 

@@ -3,7 +3,7 @@ use borrow.Author.Needs.{needs}
 use native.Mathlib.Omega.{arith}
 use mathlib.Core.Path.{sym, _∙_}
 use denote.Ref.{now, ptr}
-use Rattle.sheets.proofs.Locating.{place-within, part-is, lies-at, part-none, lies-front}
+use Rattle.sheets.proofs.Locating.{place-within, part-is, lies-at, part-none}
 use Rattle.sheets.proofs.lookup.Statement.{statement}
 use Rattle.sheets.proofs.lookup.Tie as tie
 
@@ -32,8 +32,14 @@ part-result-end c =
 enum-told : tie.Need-enum-told
 enum-told c = search needs
 
-slice-aggregate-result : tie.Need-slice-aggregate-result
-slice-aggregate-result c = search needs
+sub-result-2 : tie.Need-sub-result-2
+sub-result-2 c = search needs
+
+part-result-start-2 : tie.Need-part-result-start-2
+part-result-start-2 c = search needs
+
+part-result-end-2 : tie.Need-part-result-end-2
+part-result-end-2 c = search needs
 
 returns : tie.Need-returns
 returns c =
@@ -50,8 +56,8 @@ returns-2 c =
     let args = c .before .before .before .before .before .before .args in
     let locate = c .before .before .before .locate in
     let none = sym (locate .ensures) ∙ c .before .enum-told .given .1 in (
-      part-none (now (args .sheet)) (now (args .name)) _ none,
-      lies-front (now (args .sheet)) (now (args .name)) (ptr (args .sheet)) _ none,
+      part-none (now (args .sheet)) (now (args .name)) _ _ none (omega (arith, c .result2 .given .1)),
+      lies-at (now (args .sheet)) (now (args .name)) (ptr (args .sheet)) _ none,
     )
 
 pub lookup-spec : {M : Type 1} → statement M
@@ -65,6 +71,8 @@ lookup-spec =
     part-result-start
     part-result-end
     enum-told
-    slice-aggregate-result
+    sub-result-2
+    part-result-start-2
+    part-result-end-2
     returns
     returns-2)
