@@ -31,7 +31,7 @@ use Rattle.sheets.proofs.Named.{among-snoc, named-new}
 use Rattle.sheets.proofs.Appending.{appends}
 use Rattle.sheets.proofs.Theorems.{append-keeps-sheet}
 use Rattle.calls.specs.OnSheet.{signalOn, settlingDate, exactOn}
-use Rattle.calls.specs.Calls.{neededWork, partFault, workingFault, wordsOn, callFault, callAnswer, callOutput, claimFault, claimVerdict, claimAnswer}
+use Rattle.calls.specs.Calls.{neededWork, partFault, workingFault, wordsOn, callFault, callAnswer, callOutput, claimFault, claimFails, claimVerdict, claimAnswer}
 use Rattle.calls.specs.NormalLists.{ListFor, TheList, JudgedAs}
 use Rattle.calls.specs.Engine.{Engine, defined}
 use Rattle.calls.specs.Tabled.{CallFaultIs}
@@ -126,7 +126,7 @@ gives sheet formula work old e =
 
 -- a verdict of two trees is that of the implication of their signals
 pub judged-as : (sheet : List ℕ) → sheetFault sheet ≡ 0 → (f g : Tree) → JudgedAs (signalOn sheet f) (signalOn sheet g) (claimVerdict sheet f g)
-unfolding claimVerdict
+unfolding claimFails
 judged-as sheet ok f g =
     let n = max (settlingDate sheet f) (settlingDate sheet g) in
     let j = verdict-judged (signalOn sheet f) (signalOn sheet g) n

@@ -9,14 +9,15 @@ use lib.ListN.{length}
 use borrow.Author.Tests.{ltb-false, le-ltb, lt-ltb, eqb-true, eq-eqb, ne-eqb}
 use Rattle.signals.specs.Signal.{Signal, refuted}
 use Rattle.signals.specs.Answers.{faultIn, writtenOf}
-use Rattle.signals.specs.Implication.{earliest, verdictOf, failsIn, faultOfVerdict}
+use Rattle.signals.specs.Implication.{faultOfVerdict}
+use Rattle.signals.proofs.AnswersSay.{answersSay}
 use Rattle.signals.specs.Moment.{gap, isGap, tick}
 use Rattle.signals.specs.declared.Written.the-variants as written
 use Rattle.signals.specs.declared.Verdict.the-variants as verdict
 use Rattle.formulas.specs.Tree.{Tree}
 use Rattle.formulas.specs.Formula.{formulaTree}
 use Rattle.sheets.specs.Reading.{sheetFault}
-use Rattle.calls.specs.Calls.{neededWork, readingFault, workFault, workingFault, wordsOn, roomFault, callFault, callAnswer, claimFault, claimVerdict, claimAnswer}
+use Rattle.calls.specs.Calls.{neededWork, readingFault, workFault, workingFault, wordsOn, roomFault, callFault, callAnswer, claimFault, claimFails, claimVerdict, claimAnswer}
 use Rattle.calls.specs.Answered.{Answered, Enough}
 use Rattle.calls.specs.NotRefused.{NotRefused}
 use Rattle.calls.proofs.FirstFault.{passed}
@@ -136,36 +137,13 @@ unfolding claimAnswer
 claim-refused sheet F G work n e l = rw (ne-eqb (claimFault sheet F G work) 0 (λ z. omega arith)) (ap verdict.Refused e)
 
 -- a verdict is no refusal
-fails-no-fault : (t : ℕ) → faultOfVerdict (failsIn t) ≡ 0
-unfolding failsIn
-fails-no-fault t = go (isGap t)
-  where
-    go : (b : Bool) → faultOfVerdict (cond b (verdict.FailsAfter (tick t)) (verdict.FailsAt (tick t))) ≡ 0
-    go true = refl
-    go false = refl
-
-verdict-no-fault : (f g : Signal) (n : ℕ) → faultOfVerdict (verdictOf f g n) ≡ 0
-unfolding verdictOf
-verdict-no-fault f g n = go (leb (earliest (refuted f g) 0 (gap n + 1)) (gap n)) (earliest (refuted f g) 0 (gap n + 1))
-  where
-    go : (b : Bool) (t : ℕ) → faultOfVerdict (cond b (failsIn t) verdict.Holds) ≡ 0
-    go true t = fails-no-fault t
-    go false t = refl
-
 pub claim-no-fault : (sheet : List ℕ) (f g : Tree) → faultOfVerdict (claimVerdict sheet f g) ≡ 0
-unfolding claimVerdict
-claim-no-fault sheet f g = verdict-no-fault _ _ _
+claim-no-fault sheet f g = answersSay .verdict .fault 0 (claimFails sheet f g)
 
 -- the fault that a claim's answer shows
 pub claim-fault-shown : (sheet F G : List ℕ) (work : ℕ) → faultOfVerdict (claimAnswer sheet F G work) ≡ claimFault sheet F G work
 unfolding claimAnswer
-claim-fault-shown sheet F G work = go (eqb (claimFault sheet F G work) 0) refl
-  where
-    go : (b : Bool) → eqb (claimFault sheet F G work) 0 ≡ b
-        → faultOfVerdict (cond b (claimVerdict sheet (formulaTree F) (formulaTree G)) (verdict.Refused (claimFault sheet F G work)))
-        ≡ claimFault sheet F G work
-    go true q = claim-no-fault sheet (formulaTree F) (formulaTree G) ∙ sym (eqb-true (claimFault sheet F G work) 0 q)
-    go false q = refl
+claim-fault-shown sheet F G work = answersSay .verdict .fault (claimFault sheet F G work) (claimFails sheet (formulaTree F) (formulaTree G))
 
 pub answered-claim : (sheet F G : List ℕ) → Answered sheet F → Answered sheet G → (work : ℕ) → claimFault sheet F G work ≡ workFault sheet work
 answered-claim sheet F G a b work = clear-claim sheet F G (answered-clear sheet F a) (answered-clear sheet G b) work

@@ -8,7 +8,7 @@ use lib.ListN.{length}
 use Rattle.signals.specs.Moment.{isGap, tick, started, fromTo}
 use Rattle.signals.specs.Signal.{every, TON, refuted}
 use Rattle.signals.specs.Words.{word, dateOf, valueAt, valueAfter, headValue, changesNothing, valueFrom, signalOf, lastFrom, lastDate, wordsOf, listOf}
-use Rattle.signals.specs.Implication.{earliest, failsIn, verdictOf}
+use Rattle.signals.specs.Implication.{earliest, failsIn, firstFailing}
 use Rattle.signals.specs.declared.Verdict.the-variants.{FailsAt}
 use Rattle.operations.specs.Calls.{changesAfterM}
 use Rattle.formulas.specs.Tree as tree
@@ -25,7 +25,7 @@ use Rattle.sheets.specs.Names.{letter, digit, lettersOrDigits, wellNamed, unpad
 use Rattle.sheets.specs.Reading as reading
 use Rattle.sheets.specs.Reading.{wordCount, signalSize, laterWordsFault, sheetWordsFault, signalFault, signalsFault, frontFault, countOn, sheetFault, signalsFrom, signalsOn, names, listNamed, environmentOn}
 use Rattle.calls.specs.OnSheet.{settlingDate, exactOn, namesFound}
-use Rattle.calls.specs.Calls.{neededWork, partFault, partsFault, wordsOn, claimVerdict}
+use Rattle.calls.specs.Calls.{neededWork, partFault, partsFault, wordsOn, claimFails, claimVerdict}
 use Rattle.calls.specs.Engine.{defined}
 use Rattle.calls.specs.Demand2.{Delivered}
 use Rattle.calls.specs.Printed.{printedSheet, printedF, printedG, Printed}
@@ -122,7 +122,7 @@ given formula words c e l =
     rw (← e) (delivered printedSheet formula 8192 old (clear-call printedSheet formula c 8192 4 enough-work (rw e l)))
 
 claimed : claimVerdict printedSheet f g ≡ FailsAt 5
-unfolding claimVerdict settlingDate environmentOn verdictOf earliest refuted failsIn isGap tick TON started every fromTo signalOf valueFrom headValue dateOf valueAt valueAfter lastDate lastFrom
+unfolding claimFails settlingDate environmentOn firstFailing earliest refuted failsIn isGap tick TON started every fromTo signalOf valueFrom headValue dateOf valueAt valueAfter lastDate lastFrom
 claimed = rw list-f refl
 
 pub printed : Printed

@@ -7,7 +7,7 @@ use mathlib.Core.List.{List, [], _∷_}
 use Rattle.signals.specs.Moment.{isGap, tick}
 use Rattle.signals.specs.Signal.{constant, NOT, AND, refuted}
 use Rattle.signals.specs.Words.{dateOf, word, wordsOf, listOf}
-use Rattle.signals.specs.Implication.{earliest, failsIn, verdictOf}
+use Rattle.signals.specs.Implication.{earliest, failsIn, firstFailing}
 use Rattle.signals.specs.declared.Verdict.the-variants.{FailsAfter}
 use Rattle.operations.specs.Calls.{changesAfterM}
 use Rattle.formulas.specs.Tree as tree
@@ -21,7 +21,7 @@ use Rattle.sheets.specs.Bytes.{low16}
 use Rattle.sheets.specs.Names.{same}
 use Rattle.sheets.specs.Reading.{signalsFault, frontFault, countOn, sheetFault}
 use Rattle.calls.specs.OnSheet.{settlingDate, exactOn, namesFound}
-use Rattle.calls.specs.Calls.{neededWork, readingFault, partFault, partsFault, workingFault, wordsOn, claimVerdict}
+use Rattle.calls.specs.Calls.{neededWork, readingFault, partFault, partsFault, workingFault, wordsOn, claimFails, claimVerdict}
 use Rattle.calls.specs.Answered.{Answered, Enough}
 use Rattle.calls.proofs.NotRefused.{Clear, clear-answered}
 use Rattle.signals.specs.Answers.{firstOf}
@@ -146,5 +146,5 @@ enough-of formula w v e = record { area = omega arith; room = rw e (omega arith)
 
 -- 1 to 0 fails after 0
 pub one-to-none : claimVerdict emptySheet up down ≡ FailsAfter 0
-unfolding claimVerdict settlingDate verdictOf earliest refuted constant failsIn isGap tick
+unfolding claimFails settlingDate firstFailing earliest refuted constant failsIn isGap tick
 one-to-none = refl

@@ -2,13 +2,13 @@
 use Prim.Native.Nat.{ℕ, max}
 use mathlib.Core.Bool.{cond}
 use mathlib.Core.List.{List, [], _∷_}
-use lib.Dec.{ltb, eqb}
+use mathlib.Core.Option.{Option}
+use lib.Dec.{ltb}
 use lib.ListN.{length}
-use Rattle.signals.specs.Answers.{writtenOf, outputOf}
-use Rattle.signals.specs.Implication.{verdictOf}
+use Rattle.signals.specs.Answers.{writtenOf, outputOf, judgedBy, verdictFor}
+use Rattle.signals.specs.Implication.{firstFailing}
 use Rattle.signals.specs.declared.Written.{Written}
 use Rattle.signals.specs.declared.Verdict.{Verdict}
-use Rattle.signals.specs.declared.Verdict.the-variants.{Refused}
 use Rattle.operations.specs.Calls.{changesAfterM}
 use Rattle.formulas.specs.Tree.{Tree}
 use Rattle.formulas.specs.Formula.{formulaFault, formulaTree}
@@ -71,12 +71,12 @@ claimFault sheet F G work =
     (firstOf (readingFault sheet G)
     (firstOf (workFault sheet work) (firstOf (workingFault sheet F) (workingFault sheet G)))))
 
--- the verdict of the implication of the two signals
-unfoldable pub claimVerdict : List ℕ → Tree → Tree → Verdict
-claimVerdict sheet f g = verdictOf (signalOn sheet f) (signalOn sheet g) (max (settlingDate sheet f) (settlingDate sheet g))
+-- the moment at which the implication of the two signals fails first, and its verdict
+unfoldable pub claimFails : List ℕ → Tree → Tree → Option ℕ
+claimFails sheet f g = firstFailing (signalOn sheet f) (signalOn sheet g) (max (settlingDate sheet f) (settlingDate sheet g))
+
+abbrev pub claimVerdict : List ℕ → Tree → Tree → Verdict
+claimVerdict sheet f g = judgedBy (claimFails sheet f g)
 
 unfoldable pub claimAnswer : List ℕ → List ℕ → List ℕ → ℕ → Verdict
-claimAnswer sheet F G work =
-    cond (eqb (claimFault sheet F G work) 0)
-    (claimVerdict sheet (formulaTree F) (formulaTree G))
-    (Refused (claimFault sheet F G work))
+claimAnswer sheet F G work = verdictFor (claimFault sheet F G work) (claimFails sheet (formulaTree F) (formulaTree G))

@@ -1,19 +1,20 @@
 -- Small faults and counts make small answers.
 use Prim.Native.Nat.{ℕ, _+_, _<_, _≤_}
 use native.Mathlib.Omega.{arith}
-use mathlib.Core.Path.{_≡_, refl}
+use mathlib.Core.Path.{_≡_, refl, sym, subst}
 use mathlib.Core.Bool.{Bool, true, false, cond}
 use mathlib.Core.List.{List}
-use lib.Dec.{eqb, leb}
+use mathlib.Core.Option.{Option}
+use lib.Dec.{eqb}
 use lib.ListN.{length}
 use borrow.Author.Tests.{eqb-true}
-use Rattle.signals.specs.Moment.{isGap, tick, gap}
-use Rattle.signals.specs.Signal.{Signal, refuted}
 use Rattle.signals.specs.Words.{listFault}
-use Rattle.signals.specs.Answers.{writtenOf}
-use Rattle.signals.specs.Implication.{earliest, failsIn, verdictOf}
+use Rattle.signals.specs.Answers.{writtenOf, faultOfVerdict, verdictFor}
+use Rattle.signals.specs.AnswersSay.{GivenVerdict}
 use Rattle.signals.specs.declared.Written.the-variants as written
+use Rattle.signals.specs.declared.Verdict.{Verdict}
 use Rattle.signals.specs.declared.Verdict.the-variants as verdict
+use Rattle.signals.proofs.AnswersSay.{answersSay}
 use Rattle.signals.proofs.ListFaults.{listFaultsExact}
 use Rattle.capi.specs.Packing.{SmallWritten, SmallVerdict}
 use Rattle.signals.specs.Answers.{firstOf}
@@ -37,26 +38,14 @@ written-small fault words f w = go (eqb fault 0) refl
     go true e = w (eqb-true fault 0 e)
     go false e = f
 
-fails-small : (t : ℕ) → SmallVerdict (failsIn t)
-unfolding failsIn
-fails-small t = go (isGap t)
-  where
-    go : (g : Bool) → SmallVerdict (cond g (verdict.FailsAfter (tick t)) (verdict.FailsAt (tick t)))
-    go true = tt
-    go false = tt
+-- an answer that a call can give, with a small fault
+given-small : (v : Verdict) → GivenVerdict v → faultOfVerdict v < 65536 → SmallVerdict v
+given-small verdict.Holds h l = tt
+given-small (verdict.FailsAt k) h l = h
+given-small (verdict.FailsAfter k) h l = tt
+given-small (verdict.Refused f) h l = l
 
-pub verdict-small : (f g : Signal) (n : ℕ) → SmallVerdict (verdictOf f g n)
-unfolding verdictOf
-verdict-small f g n = go (leb (earliest (refuted f g) 0 (gap n + 1)) (gap n))
-  where
-    go : (t : Bool) → SmallVerdict (cond t (failsIn (earliest (refuted f g) 0 (gap n + 1))) verdict.Holds)
-    go true = fails-small _
-    go false = tt
-
-pub answer-small : (fault : ℕ) (f g : Signal) (n : ℕ) → fault < 65536
-    → SmallVerdict (cond (eqb fault 0) (verdictOf f g n) (verdict.Refused fault))
-answer-small fault f g n h = go (eqb fault 0)
-  where
-    go : (t : Bool) → SmallVerdict (cond t (verdictOf f g n) (verdict.Refused fault))
-    go true = verdict-small f g n
-    go false = h
+pub answer-small : (fault : ℕ) (first : Option ℕ) → fault < 65536 → SmallVerdict (verdictFor fault first)
+answer-small fault first h =
+    given-small (verdictFor fault first) (answersSay .verdict .given fault first)
+    (subst (λ (f : ℕ). f < 65536) (sym (answersSay .verdict .fault fault first)) h)

@@ -14,7 +14,7 @@ use Rattle.formulas.specs.Formula.{formulaFault, formulaTree, accepted, longest
 use Rattle.laws.specs.Rewriting.{parts}
 use Rattle.sheets.specs.Reading.{sheetFault}
 use Rattle.calls.specs.OnSheet.{exactOn, namesFound}
-use Rattle.calls.specs.Calls.{neededWork, readingFault, workFault, partFault, partsFault, workingFault, wordsOn, roomFault, callFault, callAnswer, claimFault, claimVerdict, claimAnswer}
+use Rattle.calls.specs.Calls.{neededWork, readingFault, workFault, partFault, partsFault, workingFault, wordsOn, roomFault, callFault, callAnswer, claimFault, claimAnswer}
 use Rattle.calls.proofs.FirstFault.{passed}
 use Rattle.calls.proofs.PartFaults.{whole-none}
 use Rattle.capi.specs.Packing.{SmallWritten, SmallVerdict}
@@ -78,9 +78,9 @@ call-small sheet formula work old =
     .0))
 
 pub claim-small : (sheet F G : List ℕ) (work : ℕ) → SmallVerdict (claimAnswer sheet F G work)
-unfolding claimAnswer claimFault claimVerdict
+unfolding claimAnswer claimFault
 claim-small sheet F G work =
-    answer-small _ _ _ _
+    answer-small _ _
     (first-small (sheetFault sheet) _ (sheet-small sheet)
     (first-small (readingFault sheet F) _ (reading-small sheet F)
     (first-small (readingFault sheet G) _ (reading-small sheet G)

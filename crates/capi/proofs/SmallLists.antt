@@ -13,11 +13,11 @@ use Rattle.signals.specs.Tidying.{tidied}
 use Rattle.signals.specs.declared.Told.the-variants as told
 use Rattle.signals.proofs.TidyFaults.{tidyFaultsExact}
 use Rattle.signals.proofs.Tidying.{tidying}
-use Rattle.lists.specs.Questions.{toldValue, toldOf, instantFault, gapFault, valueAtOf, valueInOf, equalOf, impliesOf, tidyingFault}
+use Rattle.lists.specs.Questions.{instantFault, gapFault, valueAtOf, valueInOf, equalOf, impliesOf, tidyingFault}
 use Rattle.sheets.proofs.Accepting.{listed-some}
 use Rattle.capi.specs.Packing.{SmallWritten, SmallTold, SmallVerdict}
 use Rattle.capi.proofs.SmallAnswers.{choice, first-small, list-small, written-small, answer-small}
-use Rattle.signals.specs.Answers.{firstOf}
+use Rattle.signals.specs.Answers.{firstOf, toldValue, toldOf}
 use Rattle.signals.proofs.FirstFault.{both-none}
 
 pair-small : (a b : List ℕ) → firstOf (listFault a) (listFault b) < 65536
@@ -49,7 +49,7 @@ equal-small a b = told-small _ _ (pair-small a b)
 
 pub implies-small : (a b : List ℕ) → SmallVerdict (impliesOf a b)
 unfolding impliesOf
-implies-small a b = answer-small _ _ _ _ (pair-small a b)
+implies-small a b = answer-small _ _ (pair-small a b)
 
 pub tidy-small : (l : List ℕ) (n : ℕ) → SmallWritten (writtenOf (tidyingFault l n) (tidied l))
 unfolding tidyingFault firstOf

@@ -14,11 +14,11 @@ use Rattle.sheets.specs.Bytes.{bytes16}
 use Rattle.sheets.specs.Names.{wellNamed, among}
 use Rattle.sheets.specs.Reading.{signalSize, wordCount, nameAt, signalFault, signalsFault, sheetFault, countOn, signalsOn, names, Entry, entry}
 use Rattle.sheets.specs.Writing.{entryBytes, entriesBytes, sheetBytes}
-use Rattle.sheets.specs.Calls.{beginFault, lookupFault, placeOf, appended, appendFault}
+use Rattle.sheets.specs.Calls.{faultOfPlace, beginFault, lookupFault, placeOf, appended, appendFault}
 use Rattle.sheets.specs.declared.Place.{Place}
 use Rattle.sheets.specs.declared.Place.the-variants as place
 use Rattle.sheets.proofs.Judging.{sound}
-use Rattle.sheets.proofs.Locating.{front-none, signals-none, place-within, faultAt, lookup-none, place-fault}
+use Rattle.sheets.proofs.Locating.{front-none, signals-none, place-within, lookup-none, place-fault}
 use Rattle.sheets.proofs.Fields.{named-short}
 use Rattle.sheets.proofs.Filling.{two, length-entry}
 use Rattle.sheets.proofs.Accepting.{listed-some}
@@ -75,12 +75,12 @@ place-small sheet name = go (placeOf sheet name) refl
   where
     go : (p : Place) → placeOf sheet name ≡ p → SmallPlace p
     go (place.At start count) e =
-        let z : lookupFault sheet name ≡ 0 = sym (place-fault sheet name) ∙ ap faultAt e in
+        let z : lookupFault sheet name ≡ 0 = sym (place-fault sheet name) ∙ ap faultOfPlace e in
         let l = sheet-short sheet (lookup-none sheet name z .fine) in
         let w = place-within sheet name start count e in
         (omega arith, omega arith)
     go (place.Refused f) e =
-        let z : f ≡ lookupFault sheet name = sym (ap faultAt e) ∙ place-fault sheet name in
+        let z : f ≡ lookupFault sheet name = sym (ap faultOfPlace e) ∙ place-fault sheet name in
         omega (arith, lookup-small sheet name)
 
 entry-short : (name list : List ℕ) → wellNamed name ≡ true → listFault list ≡ 0 → length (entryBytes (entry name list)) ≤ 1034

@@ -1,9 +1,12 @@
 -- The answers of the library as the one number that an exported function returns.
-use Prim.Native.Nat.{ℕ, _+_, _*_, _/_, _%_, _<_}
+use Prim.Native.Nat.{ℕ, _+_, _*_, _/_, _%_, _≤_, _<_}
 use mathlib.Core.Bool.{Bool, true, false}
 use mathlib.Core.List.{List, [], _∷_}
+use mathlib.Core.Option.{Option, none, some}
 use lib.Dec.{eqb}
-use Rattle.signals.specs.Signal.{Table}
+use Rattle.signals.specs.Signal.{Table, num}
+use Rattle.signals.specs.Answers.{faultIn, countIn, faultOfTold, valueIn, faultOfVerdict, failsFirst}
+use Rattle.sheets.specs.Calls.{faultOfPlace, firstByte, byteCount}
 use Rattle.signals.specs.declared.Written.{Written}
 use Rattle.signals.specs.declared.Written.the-variants as written
 use Rattle.signals.specs.declared.Told.{Told}
@@ -19,26 +22,23 @@ packFault f = 65536 * f
 
 -- 65,536 × fault + count; the count is 0 when refused
 unfoldable pub packWritten : Written → ℕ
-packWritten (written.Count n) = n
-packWritten (written.Refused f) = packFault f
+packWritten answer = packFault (faultIn answer) + countIn answer
 
 -- 65,536 × fault + the value, 1 for yes (up) and 0 for no (down)
 unfoldable pub packTold : Told → ℕ
-packTold told.Yes = 1
-packTold told.No = 0
-packTold (told.Refused f) = packFault f
+packTold answer = packFault (faultOfTold answer) + num (valueIn answer)
 
--- 0 holds, 2k fails at k, 2k+1 fails after k, 2^40 × n refused n
+-- 2^40 × fault + what fails first: 0 for nothing, 2k for the instant k, 2k+1 for the gap k
+unfoldable pub packMoment : Option ℕ → ℕ
+packMoment none = 0
+packMoment (some t) = t + 1
+
 unfoldable pub packVerdict : Verdict → ℕ
-packVerdict verdict.Holds = 0
-packVerdict (verdict.FailsAt k) = 2 * k
-packVerdict (verdict.FailsAfter k) = 2 * k + 1
-packVerdict (verdict.Refused n) = 1099511627776 * n
+packVerdict answer = 1099511627776 * faultOfVerdict answer + packMoment (failsFirst answer)
 
--- 2^48 × fault when refused, else 2^24 × first byte + byte count
+-- 2^48 × fault + 2^24 × first byte + byte count; the last two are 0 when refused
 unfoldable pub packPlace : Place → ℕ
-packPlace (place.At start count) = 16777216 * start + count
-packPlace (place.Refused f) = 281474976710656 * f
+packPlace answer = 281474976710656 * faultOfPlace answer + 16777216 * firstByte answer + byteCount answer
 
 -- the bit of weight i of a number
 unfoldable pub bit : ℕ → ℕ → Bool
@@ -48,7 +48,7 @@ bit n i = eqb (n / i % 2) 1
 unfoldable pub tableIn : ℕ → Table
 tableIn n = (bit n 1 ∷ bit n 2 ∷ []) ∷ (bit n 4 ∷ bit n 8 ∷ []) ∷ []
 
--- The answers whose numbers fit: every fault and every count is below 65,536, a first byte below 2^24.
+-- The answers whose numbers fit: every fault and every count is below 65,536, a first byte below 2^24, an instant from 1 on.
 abbrev pub SmallWritten : Written → Type 0
 SmallWritten (written.Count n) = n < 65536
 SmallWritten (written.Refused f) = f < 65536
@@ -60,7 +60,7 @@ SmallTold (told.Refused f) = f < 65536
 
 abbrev pub SmallVerdict : Verdict → Type 0
 SmallVerdict verdict.Holds = Unit
-SmallVerdict (verdict.FailsAt k) = Unit
+SmallVerdict (verdict.FailsAt k) = 1 ≤ k
 SmallVerdict (verdict.FailsAfter k) = Unit
 SmallVerdict (verdict.Refused n) = n < 65536
 

@@ -4,13 +4,13 @@ use native.Mathlib.Omega.{arith}
 use mathlib.Core.Path.{_≡_, refl, sym, _∙_, ap}
 use mathlib.Core.Bool.{Bool, true, false, cond}
 use mathlib.Core.List.{List, [], _∷_, _++_}
+use mathlib.Core.Option.{Option}
 use lib.Dec.{eqb, ltb}
 use lib.ListN.{length, take, drop}
 use lib.Seq.{take-take}
 use borrow.Author.Tests.{eq-eqb, ne-eqb}
 use Rattle.signals.specs.Words.{listFault, signalOf, lastDate}
 use Rattle.signals.specs.Settled.{SettledFrom}
-use Rattle.signals.specs.Implication.{verdictOf}
 use Rattle.signals.specs.declared.Written.{Written}
 use Rattle.signals.specs.declared.Written.the-variants as written
 use Rattle.signals.specs.declared.Verdict.{Verdict}
@@ -23,39 +23,36 @@ use Rattle.laws.specs.Rewriting.{parts}
 use Rattle.laws.proofs.Consequences.{one-verdict}
 use Rattle.sheets.specs.Reading.{sheetFault}
 use Rattle.calls.specs.OnSheet.{exactOn, signalOn, settlingDate}
-use Rattle.calls.specs.Calls.{readingFault, workFault, neededWork, partsFault, workingFault, claimFault, claimVerdict, claimAnswer}
+use Rattle.calls.specs.Calls.{readingFault, workFault, neededWork, partsFault, workingFault, claimFault, claimFails, claimVerdict, claimAnswer}
 use Rattle.calls.proofs.Settles.{settles}
 use Rattle.calls.proofs.NotRefused.{work-ok, work-short}
-use Rattle.evaluation.specs.Machine.{InSlot, WorkedOut, judgeFault, verdictBy, claimOnFault, ClaimOn}
+use Rattle.evaluation.specs.Machine.{InSlot, WorkedOut, judgeFault, claimOnFault, ClaimOn}
 use Rattle.evaluation.specs.Work.{firstClaimFault}
 use Rattle.evaluation.proofs.Exact.{signal-is, settled-at}
 use Rattle.evaluation.proofs.Stepping.{counted, refused-by}
 use Rattle.evaluation.proofs.SlotFacts.{short}
-use Rattle.signals.specs.Answers.{firstOf}
+use Rattle.signals.specs.Answers.{firstOf, judgedBy, verdictFor}
 use Rattle.signals.proofs.FirstFault.{first-is, next-is}
 
 -- faults in their order
-pub by-first : (f g rest : ℕ) (v : Verdict) → g ≡ f → (f ≡ 0 → ⊥) → Refused f ≡ verdictBy (firstOf g rest) v
-unfolding verdictBy
+pub by-first : (f g rest : ℕ) (v : Option ℕ) → g ≡ f → (f ≡ 0 → ⊥) → Refused f ≡ verdictFor (firstOf g rest) v
 by-first f g rest v e n =
     let m : g ≡ 0 → ⊥ = λ z. n (sym e ∙ z) in
     rw (first-is g rest m, ne-eqb g 0 m, e)
 
-pub by-next : (f rest : ℕ) (v r : Verdict) → f ≡ 0 → r ≡ verdictBy rest v → r ≡ verdictBy (firstOf f rest) v
+pub by-next : (f rest : ℕ) (v : Option ℕ) (r : Verdict) → f ≡ 0 → r ≡ verdictFor rest v → r ≡ verdictFor (firstOf f rest) v
 by-next f rest v r z h = rw (next-is f rest z) h
 
-by-none : (f : ℕ) (v : Verdict) → f ≡ 0 → v ≡ verdictBy f v
-unfolding verdictBy
+by-none : (f : ℕ) (v : Option ℕ) → f ≡ 0 → judgedBy v ≡ verdictFor f v
 by-none f v z = rw (eq-eqb f 0 z)
 
-by-one : (f g : ℕ) (v : Verdict) → g ≡ f → (f ≡ 0 → ⊥) → Refused f ≡ verdictBy g v
-unfolding verdictBy
+by-one : (f g : ℕ) (v : Option ℕ) → g ≡ f → (f ≡ 0 → ⊥) → Refused f ≡ verdictFor g v
 by-one f g v e n = let m : g ≡ 0 → ⊥ = λ z. n (sym e ∙ z) in rw (ne-eqb g 0 m, e)
 
 -- two lists compared
 pub compared : (sheet : List ℕ) → sheetFault sheet ≡ 0 → (t u : Tree) → listFault (exactOn sheet t) ≡ 0 → listFault (exactOn sheet u) ≡ 0
     → impliesOf (exactOn sheet t) (exactOn sheet u) ≡ claimVerdict sheet t u
-unfolding impliesOf claimVerdict laterLast firstOf
+unfolding impliesOf claimFails laterLast firstOf
 compared sheet ok t u a b =
     let n = max (lastDate (exactOn sheet t)) (lastDate (exactOn sheet u)) in
     let m = max (settlingDate sheet t) (settlingDate sheet u) in
@@ -71,7 +68,7 @@ module _ (sheet g before after : List ℕ) (answer : Written) (w : WorkedOut she
   unfolding workingFault
   did e = counted (partsFault sheet (parts (formulaTree g))) (exactOn sheet (formulaTree g)) _ (sym (w .answer-is) ∙ e) .0
 
-  pub compare-refused : (f : ℕ) (v : Verdict) → answer ≡ written.Refused f → Refused f ≡ verdictBy (workingFault sheet g) v
+  pub compare-refused : (f : ℕ) (v : Option ℕ) → answer ≡ written.Refused f → Refused f ≡ verdictFor (workingFault sheet g) v
   unfolding workingFault
   compare-refused f v e =
       let q = refused-by (partsFault sheet (parts (formulaTree g))) (exactOn sheet (formulaTree g)) f (sym (w .answer-is) ∙ e) in
@@ -85,7 +82,7 @@ module _ (sheet g before after : List ℕ) (answer : Written) (w : WorkedOut she
     compare-short = let s = short (exactOn sheet (formulaTree g)) (w .stands (given .0) .accepted) in omega (arith, given .1)
 
     pub compare-done : (ok : sheetFault sheet ≡ 0) (t : Tree) (m : ℕ) → m ≤ 256 → InSlot before 0 m (exactOn sheet t) → (r : Verdict)
-        → r ≡ impliesOf (take m after) (take (256 + n - 256) (drop 256 after)) → r ≡ verdictBy (workingFault sheet g) (claimVerdict sheet t (formulaTree g))
+        → r ≡ impliesOf (take m after) (take (256 + n - 256) (drop 256 after)) → r ≡ verdictFor (workingFault sheet g) (claimFails sheet t (formulaTree g))
     unfolding workingFault
     compare-done ok t m h s r x =
         let k : 256 + n - 256 ≡ n = omega arith in
@@ -96,7 +93,7 @@ module _ (sheet g before after : List ℕ) (answer : Written) (w : WorkedOut she
         y ∙ compared sheet ok t (formulaTree g) (s .accepted) (w .stands (given .0) .accepted) ∙ by-none (partsFault sheet (parts (formulaTree g))) _ (given .0)
 
 module _ (sheet f g before after : List ℕ) (answer : Written) (w : WorkedOut sheet before after 0 (formulaTree f) answer) where
-  pub judge-refused : (x : ℕ) (v : Verdict) → answer ≡ written.Refused x → Refused x ≡ verdictBy (judgeFault sheet f g) v
+  pub judge-refused : (x : ℕ) (v : Option ℕ) → answer ≡ written.Refused x → Refused x ≡ verdictFor (judgeFault sheet f g) v
   unfolding judgeFault workingFault
   judge-refused x v e =
       let q = refused-by (partsFault sheet (parts (formulaTree f))) (exactOn sheet (formulaTree f)) x (sym (w .answer-is) ∙ e) in
@@ -110,8 +107,8 @@ module _ (sheet f g before after : List ℕ) (answer : Written) (w : WorkedOut s
     judge-short = let s = short (exactOn sheet (formulaTree f)) (w .stands (known .0) .accepted) in omega (arith, known .1)
 
     pub judge-done : (r : Verdict)
-        → ((t : Tree) → partsFault sheet (parts t) ≡ 0 → InSlot after 0 n (exactOn sheet t) → r ≡ verdictBy (workingFault sheet g) (claimVerdict sheet t (formulaTree g)))
-        → r ≡ verdictBy (judgeFault sheet f g) (claimVerdict sheet (formulaTree f) (formulaTree g))
+        → ((t : Tree) → partsFault sheet (parts t) ≡ 0 → InSlot after 0 n (exactOn sheet t) → r ≡ verdictFor (workingFault sheet g) (claimFails sheet t (formulaTree g)))
+        → r ≡ verdictFor (judgeFault sheet f g) (claimFails sheet (formulaTree f) (formulaTree g))
     unfolding judgeFault workingFault
     judge-done r h =
         by-next (partsFault sheet (parts (formulaTree f))) (workingFault sheet g) _ r (known .0)
@@ -132,7 +129,7 @@ module _ (sheet F G work : List ℕ) where
           kept = λ x. refl;
         }
 
-    pub on-judged : 8192 ≤ length work → (r : Verdict) (after : List ℕ) → r ≡ verdictBy (judgeFault sheet F G) (claimVerdict sheet (formulaTree F) (formulaTree G)) → ClaimOn sheet F G work r after
+    pub on-judged : 8192 ≤ length work → (r : Verdict) (after : List ℕ) → r ≡ verdictFor (judgeFault sheet F G) (claimFails sheet (formulaTree F) (formulaTree G)) → ClaimOn sheet F G work r after
     unfolding claimOnFault neededWork
     on-judged h r after x =
         let w = work-ok sheet (length work) h in
@@ -145,16 +142,16 @@ module _ (sheet F G work : List ℕ) where
   Claimed r after = (r ≡ claimAnswer sheet F G (length work)) × ((firstClaimFault sheet F G (length work) ≡ 0 → ⊥) → after ≡ work)
 
   pub claim-sheet : (f : ℕ) → f ≡ sheetFault sheet → (f ≡ 0 → ⊥) → Claimed (Refused f) work
-  unfolding claimAnswer claimFault verdictBy
+  unfolding claimAnswer claimFault
   claim-sheet f e n = (by-first f (sheetFault sheet) _ _ (sym e) n, λ x. refl)
 
   module _ (ok : sheetFault sheet ≡ 0) where
     pub claim-reading : (f : ℕ) → readingFault sheet F ≡ f → (f ≡ 0 → ⊥) → Claimed (Refused f) work
-    unfolding claimAnswer claimFault verdictBy
+    unfolding claimAnswer claimFault
     claim-reading f e n = (by-next (sheetFault sheet) _ _ (Refused f) ok (by-first f (readingFault sheet F) _ _ e n), λ x. refl)
 
     pub claim-goes-on : readingFault sheet F ≡ 0 → (r : Verdict) (after : List ℕ) → ClaimOn sheet F G work r after → Claimed r after
-    unfolding claimAnswer claimFault claimOnFault judgeFault firstClaimFault verdictBy
+    unfolding claimAnswer claimFault claimOnFault judgeFault firstClaimFault
     claim-goes-on read r after c = (
       by-next (sheetFault sheet) _ _ r ok (by-next (readingFault sheet F) _ _ r read (c .answer-is)),
       λ n. c .kept (λ z. n (next-is (sheetFault sheet) _ ok ∙ next-is (readingFault sheet F) _ read ∙ z)),

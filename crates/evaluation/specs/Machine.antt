@@ -6,10 +6,9 @@ use mathlib.Core.List.{List, [], _∷_, map}
 use lib.Dec.{eqb}
 use lib.ListN.{length, take, drop, getD, set}
 use lib.Seq.{paste}
-use Rattle.signals.specs.Answers.{writtenOf}
+use Rattle.signals.specs.Answers.{writtenOf, verdictFor}
 use Rattle.signals.specs.declared.Written.{Written}
 use Rattle.signals.specs.declared.Verdict.{Verdict}
-use Rattle.signals.specs.declared.Verdict.the-variants.{Refused}
 use Rattle.signals.specs.Moment.{M}
 use Rattle.signals.specs.Signal.{Table, tableOf, NOT, rising, falling, SR, RS, TON, TOF, connective}
 use Rattle.signals.specs.Words.{listFault}
@@ -20,7 +19,7 @@ use Rattle.formulas.specs.Formula.{nameAt, partOf, codeOf, formulaTree}
 use Rattle.sheets.specs.Names.{wellNamed, among}
 use Rattle.sheets.specs.Reading.{signalsOn, names}
 use Rattle.calls.specs.OnSheet.{exactOn, leafFound}
-use Rattle.calls.specs.Calls.{partFault, partsFault, readingFault, workFault, workingFault, roomFault, wordsOn, claimVerdict}
+use Rattle.calls.specs.Calls.{partFault, partsFault, readingFault, workFault, workingFault, roomFault, wordsOn, claimFails}
 use Rattle.laws.specs.Rewriting.{parts}
 use Rattle.evaluation.specs.declared.Next.{Next}
 use Rattle.signals.specs.Answers.{firstOf}
@@ -193,17 +192,14 @@ pub record Coded (sheet text codes : List ℕ) (n : ℕ) : Type 0 where
 unfoldable pub runFault : List ℕ → List ℕ → ℕ → ℕ
 runFault sheet text room = firstOf (workingFault sheet text) (roomFault (wordsOn sheet text) room)
 
--- the faults of a claim once both formulas are read and the work area is long enough, and its answer
+-- the faults of a claim once both formulas are read and the work area is long enough
 unfoldable pub judgeFault : List ℕ → List ℕ → List ℕ → ℕ
 judgeFault sheet F G = firstOf (workingFault sheet F) (workingFault sheet G)
-
-unfoldable pub verdictBy : ℕ → Verdict → Verdict
-verdictBy fault v = cond (eqb fault 0) v (Refused fault)
 
 -- the claim from G's reading on
 unfoldable pub claimOnFault : List ℕ → List ℕ → List ℕ → ℕ → ℕ
 claimOnFault sheet F G work = firstOf (readingFault sheet G) (firstOf (workFault sheet work) (judgeFault sheet F G))
 
 pub record ClaimOn (sheet F G work : List ℕ) (answer : Verdict) (after : List ℕ) : Type 0 where
-  pub answer-is : answer ≡ verdictBy (claimOnFault sheet F G (length work)) (claimVerdict sheet (formulaTree F) (formulaTree G))
+  pub answer-is : answer ≡ verdictFor (claimOnFault sheet F G (length work)) (claimFails sheet (formulaTree F) (formulaTree G))
   pub kept : (firstOf (readingFault sheet G) (workFault sheet (length work)) ≡ 0 → ⊥) → after ≡ work

@@ -11,10 +11,10 @@ ghost use Rattle.signals.specs.Moment.{M};
 ghost use Rattle.signals.specs.Words.{listFault};
 ghost use Rattle.formulas.specs.Tree.{Tree};
 ghost use Rattle.formulas.specs.Code.{ticksOf, operand, one, two, code};
-ghost use Rattle.evaluation.specs.Machine.{leafOf, unaryOf, binaryOf, leafKnown, Loaded, Applied, unaryExact, binaryExact, Room, Ready, Steps, Plan, partsIn, WorkedOut, partFound, allFound, Prepared, Coded, runFault, judgeFault, verdictBy, InSlot, ClaimOn};
+ghost use Rattle.evaluation.specs.Machine.{leafOf, unaryOf, binaryOf, leafKnown, Loaded, Applied, unaryExact, binaryExact, Room, Ready, Steps, Plan, partsIn, WorkedOut, partFound, allFound, Prepared, Coded, runFault, judgeFault, InSlot, ClaimOn};
 ghost use Rattle.evaluation.specs.Work.{firstFault, firstClaimFault};
-ghost use Rattle.signals.specs.Answers.{writtenOf, outputOf};
-ghost use Rattle.calls.specs.Calls.{roomFault, wordsOn, callAnswer, callOutput, claimVerdict, claimAnswer};
+ghost use Rattle.signals.specs.Answers.{writtenOf, outputOf, verdictFor};
+ghost use Rattle.calls.specs.Calls.{roomFault, wordsOn, callAnswer, callOutput, claimFails, claimAnswer};
 ghost use Rattle.formulas.specs.Formula.{formulaTree};
 ghost use Rattle.laws.specs.Rewriting.{parts};
 ghost use Rattle.calls.specs.OnSheet.{exactOn};
@@ -437,7 +437,7 @@ fn compare(
     work: &mut [u32],
 ) -> Verdict
     requires { ⌜ (8192 ≤ length (now work)) × (sheetFault (now sheet) ≡ 0) × Coded (now sheet) (now g) (now codes) n × («f_count» ≤ 256) ⌝ }
-    ensures { λ r. ⌜ ((t : Tree) → partsFault (now (sheet .entry)) (parts t) ≡ 0 → InSlot (now (work .entry)) 0 «f_count» (exactOn (now (sheet .entry)) t) → r ≡ verdictBy (workingFault (now (sheet .entry)) (now (g .entry))) (claimVerdict (now (sheet .entry)) t (formulaTree (now (g .entry))))) ⌝ }
+    ensures { λ r. ⌜ ((t : Tree) → partsFault (now (sheet .entry)) (parts t) ≡ 0 → InSlot (now (work .entry)) 0 «f_count» (exactOn (now (sheet .entry)) t) → r ≡ verdictFor (workingFault (now (sheet .entry)) (now (g .entry))) (claimFails (now (sheet .entry)) t (formulaTree (now (g .entry))))) ⌝ }
 {
     let answer = work_out(sheet, g, codes, n, work, 1);
     match answer {
@@ -462,7 +462,7 @@ fn judge(
     work: &mut [u32],
 ) -> Verdict
     requires { ⌜ (8192 ≤ length (now work)) × (sheetFault (now sheet) ≡ 0) × Coded (now sheet) (now f) (now «f_codes») «f_n» × Coded (now sheet) (now g) (now «g_codes») «g_n» ⌝ }
-    ensures { λ r. ⌜ r ≡ verdictBy (judgeFault (now (sheet .entry)) (now (f .entry)) (now (g .entry))) (claimVerdict (now (sheet .entry)) (formulaTree (now (f .entry))) (formulaTree (now (g .entry)))) ⌝ }
+    ensures { λ r. ⌜ r ≡ verdictFor (judgeFault (now (sheet .entry)) (now (f .entry)) (now (g .entry))) (claimFails (now (sheet .entry)) (formulaTree (now (f .entry))) (formulaTree (now (g .entry)))) ⌝ }
 {
     let answer = work_out(sheet, f, f_codes, f_n, work, 0);
     match answer {

@@ -16,10 +16,10 @@ use Rattle.signals.specs.declared.Told.{Told}
 use Rattle.signals.specs.declared.Told.the-variants.{Yes, No}
 use Rattle.signals.proofs.Truth.{up-or-down, not-both, every-up, every-of}
 use Rattle.signals.proofs.Normal.{uniqueAccepted}
-use Rattle.lists.specs.Questions.{toldOf, toldValue, laterLast, agreeing, equalOf}
+use Rattle.lists.specs.Questions.{laterLast, agreeing, equalOf}
 use Rattle.lists.specs.Equality.{Compared, Equality}
 use Rattle.lists.proofs.Verdicts.{settled-a, settled-b, not-every}
-use Rattle.signals.specs.Answers.{firstOf}
+use Rattle.signals.specs.Answers.{firstOf, toldOf, toldValue}
 
 same-of : (p q : Bool) → Bool·beq p q ≡ true → p ≡ q
 same-of true true h = refl

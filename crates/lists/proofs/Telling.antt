@@ -9,8 +9,8 @@ use Rattle.signals.specs.Moment.{M, gap, instant}
 use Rattle.signals.specs.Words.{listFault, signalOf}
 use Rattle.signals.specs.declared.Told.{Told}
 use Rattle.signals.specs.declared.Told.the-variants.{Yes, No, Refused}
-use Rattle.lists.specs.Questions.{toldValue, toldOf, instantFault, gapFault, valueAtOf, valueInOf}
-use Rattle.signals.specs.Answers.{firstOf}
+use Rattle.lists.specs.Questions.{instantFault, gapFault, valueAtOf, valueInOf}
+use Rattle.signals.specs.Answers.{firstOf, toldValue, toldOf}
 
 module _ (f g : ℕ) (v : Bool) where
   pub told-first : (f ≡ 0 → ⊥) → Refused f ≡ toldOf (firstOf f g) v

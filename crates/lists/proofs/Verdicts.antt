@@ -23,11 +23,11 @@ use Rattle.signals.proofs.Settling.{settled-later}
 use Rattle.signals.proofs.Normal.{accepted-settled}
 use Rattle.signals.proofs.Implication.{refuted-up, refuted-of, verdict-judged}
 use Rattle.lists.specs.Reading.{NEVER}
-use Rattle.lists.specs.Questions.{toldValue, toldOf, laterLast, agreeing, equalOf, impliesOf}
+use Rattle.lists.specs.Questions.{laterLast, agreeing, equalOf, impliesOf}
 use Rattle.lists.specs.Finding.{shows, shown, FirstFrom, Near, verdictIn}
 use Rattle.lists.specs.declared.Found.{Found}
 use Rattle.lists.specs.declared.Found.the-variants.{In, Nowhere}
-use Rattle.signals.specs.Answers.{firstOf}
+use Rattle.signals.specs.Answers.{firstOf, toldValue, toldOf}
 use Rattle.signals.proofs.FirstFault.{both-none}
 
 -- how a found moment is told

@@ -7,28 +7,11 @@ use lib.ListN.{length}
 use Rattle.signals.specs.Moment.{M, gap, instant}
 use Rattle.signals.specs.Signal.{Signal, every}
 use Rattle.signals.specs.Words.{dateOf, listFault, tidyFault, signalOf, lastDate}
-use Rattle.signals.specs.Implication.{verdictOf}
+use Rattle.signals.specs.Implication.{firstFailing}
 use Rattle.signals.specs.Tidying.{tidied}
 use Rattle.signals.specs.declared.Told.{Told}
-use Rattle.signals.specs.declared.Told.the-variants as told
 use Rattle.signals.specs.declared.Verdict.{Verdict}
-use Rattle.signals.specs.declared.Verdict.the-variants as verdict
-use Rattle.signals.specs.Answers.{firstOf}
-
--- yes for up, no for down
-abbrev pub toldValue : Bool → Told
-toldValue true = told.Yes
-toldValue false = told.No
-
--- the fault number of an answer, 0 for none
-abbrev pub faultOfTold : Told → ℕ
-faultOfTold told.Yes = 0
-faultOfTold told.No = 0
-faultOfTold (told.Refused f) = f
-
--- the answer of a question with this fault (0 for none) and this value
-unfoldable pub toldOf : ℕ → Bool → Told
-toldOf fault value = cond (eqb fault 0) (toldValue value) (told.Refused fault)
+use Rattle.signals.specs.Answers.{firstOf, toldOf, verdictFor}
 
 -- 9: instant 0, or a date above M
 unfoldable pub instantFault : ℕ → ℕ
@@ -66,11 +49,7 @@ equalOf a b = toldOf (firstOf (listFault a) (listFault b)) (every (agreeing (sig
 
 -- implication a to b: list, list
 unfoldable pub impliesOf : List ℕ → List ℕ → Verdict
-impliesOf a b =
-    cond
-    (eqb (firstOf (listFault a) (listFault b)) 0)
-    (verdictOf (signalOf a) (signalOf b) (laterLast a b))
-    (verdict.Refused (firstOf (listFault a) (listFault b)))
+impliesOf a b = verdictFor (firstOf (listFault a) (listFault b)) (firstFailing (signalOf a) (signalOf b) (laterLast a b))
 
 -- tidying into n words of output: 1, 2, 3, then 7 when the output is shorter than the answer
 unfoldable pub tidyingFault : List ℕ → ℕ → ℕ

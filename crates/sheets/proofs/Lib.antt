@@ -3,6 +3,7 @@ pub mod Truth
 pub mod Steps
 pub mod Walking
 pub mod Judging
+pub mod PlaceSays
 pub mod Locating
 pub mod Placing
 pub mod Filling

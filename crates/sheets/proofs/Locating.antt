@@ -9,10 +9,11 @@ use lib.ListN.{length, take, drop, length-drop}
 use borrow.Author.Tests.{eq-eqb, ne-eqb, eqb-true, eqb-false}
 use Rattle.sheets.proofs.Truth.{true-false}
 use Rattle.sheets.proofs.Judging.{sound, foundIn, found-known, Fronted, fronted}
+use Rattle.sheets.proofs.PlaceSays.{place-says}
 use Rattle.sheets.specs.Names.{same, among, wellNamed}
 use Rattle.sheets.specs.Bytes.{low16}
 use Rattle.sheets.specs.Reading.{nameAt, wordCount, signalSize, signalFault, signalsFault, frontFault, sheetFault, countOn, signalsOn, signalsFrom, names}
-use Rattle.sheets.specs.Calls.{placeFrom, placeOf, lookupFault, lookupOf, partAt}
+use Rattle.sheets.specs.Calls.{faultOfPlace, firstByte, byteCount, placeFor, placeFrom, placeOn, placeOf, lookupFault, lookupOf, partAt}
 use Rattle.sheets.specs.Walk.{Whole}
 use Rattle.sheets.specs.declared.Place.{Place}
 use Rattle.sheets.specs.declared.Place.the-variants.{At, Refused}
@@ -54,6 +55,10 @@ place-refused name at (suc n) rest h =
     go true again k = true-false k
     go false again k = again k
 
+found-place : (p : Place) → foundIn p ≡ true → At (firstByte p) (byteCount p) ≡ p
+found-place (At start count) e = refl
+found-place (Refused fault) e = true-false (sym e)
+
 module _ (sheet name : List ℕ) where
   pub place-bad-sheet : (sheetFault sheet ≡ 0 → ⊥) → Refused (sheetFault sheet) ≡ placeOf sheet name
   unfolding placeOf lookupFault firstOf
@@ -70,10 +75,9 @@ module _ (sheet name : List ℕ) where
         sym (rw (eq-eqb _ _ z, t)
         (go (among name (names (signalsFrom (countOn sheet) (drop 7 sheet)))) (found-known name 7 (countOn sheet) (drop 7 sheet))))
       where
-        go : (k : Bool) → foundIn (placeFrom name 7 (countOn sheet) (drop 7 sheet)) ≡ k
-            → cond (eqb (cond k 0 13) 0) (placeFrom name 7 (countOn sheet) (drop 7 sheet)) (Refused (cond k 0 13))
-            ≡ placeFrom name 7 (countOn sheet) (drop 7 sheet)
-        go true e = refl
+        go : (k : Bool) → foundIn (placeOn sheet name) ≡ k
+            → placeFor (cond k 0 13) (firstByte (placeOn sheet name)) (byteCount (placeOn sheet name)) ≡ placeOn sheet name
+        go true e = found-place (placeOn sheet name) e
         go false e = sym (place-refused name 7 (countOn sheet) (drop 7 sheet) e)
 
 -- a place that a lookup gives lies within the sheet
@@ -95,26 +99,6 @@ within-from name at (suc n) rest start count w e =
         let b : 4 * wordCount rest ≡ count = cc in
         (omega arith, omega (arith, w .0))
     go false again k = (omega (arith, again k .0), omega (arith, again k .1, w .0, length-drop (signalSize rest) rest))
-
-pub place-within : (sheet name : List ℕ) (start count : ℕ) → placeOf sheet name ≡ At start count
-    → (start ≤ length sheet) × (start + count ≤ length sheet)
-unfolding placeOf lookupFault firstOf
-place-within sheet name start count e = go (eqb (lookupFault sheet name) 0) refl e
-  where
-    go : (t : Bool) → eqb (lookupFault sheet name) 0 ≡ t
-        → cond t (placeFrom name 7 (countOn sheet) (drop 7 sheet)) (Refused (lookupFault sheet name)) ≡ At start count
-        → (start ≤ length sheet) × (start + count ≤ length sheet)
-    go true z k =
-        let f = both-none (sheetFault sheet) _ (eqb-true (lookupFault sheet name) 0 z) in
-        let w = within-from name 7 (countOn sheet) (drop 7 sheet) start count (sheet-whole sheet (f .0)) k in
-        let m = front-none sheet (f .0) .room in
-        (omega (arith, w .1, length-drop 7 sheet), omega (arith, w .1, length-drop 7 sheet))
-    go false z k = absurd (let q : _≡_ {A = Bool} false true = ap foundIn k in true-false (sym q))
-
--- the fault of a lookup
-abbrev pub faultAt : Place → ℕ
-faultAt (At start count) = 0
-faultAt (Refused fault) = fault
 
 -- a lookup without a fault
 pub record Found (sheet name : List ℕ) : Type 0 where
@@ -139,31 +123,43 @@ held-from : (sheet name : List ℕ) → among name (names (signalsOn sheet)) ≡
 unfolding signalsOn
 held-from sheet name h = h
 
-found-fault : (p : Place) → foundIn p ≡ true → faultAt p ≡ 0
-found-fault (At start count) e = refl
-found-fault (Refused fault) e = true-false (sym e)
-
-pub place-fault : (sheet name : List ℕ) → faultAt (placeOf sheet name) ≡ lookupFault sheet name
-unfolding placeOf
-place-fault sheet name = go (eqb (lookupFault sheet name) 0) refl
+pub place-within : (sheet name : List ℕ) (start count : ℕ) → placeOf sheet name ≡ At start count
+    → (start ≤ length sheet) × (start + count ≤ length sheet)
+unfolding placeOf lookupFault firstOf
+place-within sheet name start count e = go (eqb (lookupFault sheet name) 0) refl e
   where
     go : (t : Bool) → eqb (lookupFault sheet name) 0 ≡ t
-        → faultAt (cond t (placeFrom name 7 (countOn sheet) (drop 7 sheet)) (Refused (lookupFault sheet name))) ≡ lookupFault sheet name
-    go true z = held-fault (eqb-true (lookupFault sheet name) 0 z)
-      where
-        held-fault : lookupFault sheet name ≡ 0 → faultAt (placeFrom name 7 (countOn sheet) (drop 7 sheet)) ≡ lookupFault sheet name
-        held-fault l =
-            found-fault (placeFrom name 7 (countOn sheet) (drop 7 sheet)) (found-known name 7 (countOn sheet) (drop 7 sheet) ∙ held-from sheet name (lookup-none sheet name l .held)) ∙ sym l
-    go false z = refl
+        → cond t (At (firstByte (placeOn sheet name)) (byteCount (placeOn sheet name))) (Refused (lookupFault sheet name)) ≡ At start count
+        → (start ≤ length sheet) × (start + count ≤ length sheet)
+    go true z k =
+        let f = lookup-none sheet name (eqb-true (lookupFault sheet name) 0 z) in
+        let p = found-place (placeOn sheet name) (found-known name 7 (countOn sheet) (drop 7 sheet) ∙ held-from sheet name (f .held)) in
+        let w = within-from name 7 (countOn sheet) (drop 7 sheet) start count (sheet-whole sheet (f .fine)) (sym p ∙ k) in
+        let m = front-none sheet (f .fine) .room in
+        (omega (arith, w .1, length-drop 7 sheet), omega (arith, w .1, length-drop 7 sheet))
+    go false z k = absurd (let q : _≡_ {A = Bool} false true = ap foundIn k in true-false (sym q))
+
+pub place-fault : (sheet name : List ℕ) → faultOfPlace (placeOf sheet name) ≡ lookupFault sheet name
+unfolding placeOf
+place-fault sheet name = place-says .fault (lookupFault sheet name) _ _
 
 pub count-is : (sheet : List ℕ) (n : ℕ) → n ≡ low16 (drop 5 sheet) → n ≡ countOn sheet
 unfolding countOn
 count-is sheet n e = e
 
--- the part at the place that a lookup gives
+-- the part at the place that a lookup gives: its bytes, and where it lies in the sheet's memory
 pub part-is : (sheet name : List ℕ) (start count : ℕ) → placeOf sheet name ≡ At start count
     → take (start + count - start) (drop start sheet) ≡ lookupOf sheet name
 unfolding lookupOf
 part-is sheet name start count e =
     let k : start + count - start ≡ count = omega arith in
     rw k (sym (ap (partAt sheet) e))
+
+pub lies-at : (sheet name : List ℕ) (p : ℕ × ℕ) (place : Place) → placeOf sheet name ≡ place
+    → _≡_ {A = ℕ × ℕ} (p .0, firstByte place + p .1) (p .0, firstByte (placeOf sheet name) + p .1)
+lies-at sheet name p place e = sym (ap (λ (x : Place). (p .0, firstByte x + p .1)) e)
+
+pub part-none : (sheet name part : List ℕ) (fault : ℕ) → placeOf sheet name ≡ Refused fault → length part ≡ 0 → part ≡ lookupOf sheet name
+unfolding lookupOf
+part-none sheet name [] fault e k = sym (ap (partAt sheet) e)
+part-none sheet name (b ∷ bs) fault e k = absurd (omega arith)

@@ -1,9 +1,11 @@
 -- The calls on sheets, by document 01: begin, check, lookup with its sister, append.
 use Prim.Native.Nat.{ℕ, zero, suc, _+_, _*_}
+use mathlib.Core.Path.{_≡_}
 use mathlib.Core.Bool.{Bool, true, false, not, cond, _||_}
 use mathlib.Core.List.{List, [], _∷_, _++_}
 use lib.Dec.{leb, ltb, eqb}
 use lib.ListN.{length, take, drop}
+use denote.Ref.{RefT, now, ptr}
 use Rattle.signals.specs.Words.{listFault}
 use Rattle.sheets.specs.Names.{wellNamed, same, among}
 use Rattle.sheets.specs.Reading.{nameAt, wordCount, signalSize, sheetFault, countOn, signalsOn, names, Entry, entry}
@@ -21,25 +23,50 @@ unfoldable pub lookupFault : List ℕ → List ℕ → ℕ
 lookupFault sheet name =
     firstOf (sheetFault sheet) (cond (wellNamed name) (cond (among name (names (signalsOn sheet))) 0 13) 16)
 
--- where the words of the signal with this name stand among n signals, of which the first starts at this place
+-- Place. The fault number, 0 for none; the first byte and the number of bytes, 0 when refused.
+abbrev pub faultOfPlace : Place → ℕ
+faultOfPlace (At start count) = 0
+faultOfPlace (Refused fault) = fault
+
+abbrev pub firstByte : Place → ℕ
+firstByte (At start count) = start
+firstByte (Refused fault) = 0
+
+abbrev pub byteCount : Place → ℕ
+byteCount (At start count) = count
+byteCount (Refused fault) = 0
+
+-- the answer of a lookup with this fault (0 for none), this first byte and this number of bytes
+abbrev pub placeFor : ℕ → ℕ → ℕ → Place
+placeFor fault start count = cond (eqb fault 0) (At start count) (Refused fault)
+
+-- where the words of the signal with this name stand among n signals, of which the first starts at this place; 13 when none has it
 unfoldable pub placeFrom : List ℕ → ℕ → ℕ → List ℕ → Place
 placeFrom name at zero rest = Refused 13
 placeFrom name at (suc n) rest =
     cond (same (nameAt rest) name) (At (at + 10) (4 * wordCount rest))
     (placeFrom name (at + signalSize rest) n (drop (signalSize rest) rest))
 
--- the place of a signal's words on a sheet: the first byte and the number of bytes
-unfoldable pub placeOf : List ℕ → List ℕ → Place
-placeOf sheet name =
-    cond (eqb (lookupFault sheet name) 0) (placeFrom name 7 (countOn sheet) (drop 7 sheet)) (Refused (lookupFault sheet name))
+-- the place of a signal's words among all the signals of a sheet, which start at its byte 7
+abbrev pub placeOn : List ℕ → List ℕ → Place
+placeOn sheet name = placeFrom name 7 (countOn sheet) (drop 7 sheet)
 
+-- A lookup's place: the first byte and the number of bytes of the signal's words on the sheet.
+unfoldable pub placeOf : List ℕ → List ℕ → Place
+placeOf sheet name = placeFor (lookupFault sheet name) (firstByte (placeOn sheet name)) (byteCount (placeOn sheet name))
+
+-- the bytes of a sheet at a place, none when refused
 abbrev pub partAt : List ℕ → Place → List ℕ
-partAt sheet (At start count) = take count (drop start sheet)
-partAt sheet (Refused fault) = []
+partAt sheet place = take (byteCount place) (drop (firstByte place) sheet)
 
 -- Looking up a name gives the part of the sheet's bytes that is that signal's words; refused, an empty part.
 unfoldable pub lookupOf : List ℕ → List ℕ → List ℕ
 lookupOf sheet name = partAt sheet (placeOf sheet name)
+
+-- It is a part of the caller's own slice: it has those bytes, and lies as many bytes after the slice's beginning as the place says.
+abbrev pub LookedUp : RefT (List ℕ) → List ℕ → RefT (List ℕ) → Type 0
+LookedUp sheet name part =
+    (now part ≡ lookupOf (now sheet) name) × (ptr part ≡ (ptr sheet .0, firstByte (placeOf (now sheet) name) + ptr sheet .1))
 
 -- Appending writes the sheet with one signal appended.
 unfoldable pub appended : List ℕ → List ℕ → List ℕ → List ℕ

@@ -4,6 +4,7 @@ pub mod Bytes
 pub mod Reading
 pub mod Writing
 pub mod Calls
+pub mod PlaceSays
 pub mod Walk
 pub mod Theorems
 pub mod Sentences

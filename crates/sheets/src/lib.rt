@@ -8,7 +8,7 @@ ghost use Rattle.sheets.specs.Names.{same, zeros, letter, digit, letters
 ghost use Rattle.sheets.specs.Bytes.{low16, low32, bytes16, bytes32, wordBytes};
 ghost use Rattle.sheets.specs.Reading.{wordCount, signalSize, sheetWordsFault, signalFault, frontFault, sheetFault, signalsFrom, names, entry};
 ghost use Rattle.sheets.specs.Writing.{entryBytes, sheetBytes};
-ghost use Rattle.sheets.specs.Calls.{placeFrom, placeOf, lookupFault, lookupOf, beginFault, appended, appendFault};
+ghost use Rattle.sheets.specs.Calls.{placeFrom, placeOf, lookupFault, LookedUp, beginFault, appended, appendFault};
 ghost use Rattle.sheets.specs.Walk.{Whole};
 ghost use Rattle.slices.specs.Slices.{placed};
 ghost use Rattle.signals.specs.Words.{changesNothing};
@@ -349,14 +349,17 @@ pub fn locate(sheet: &[u8], name: &[u8]) -> Place
 
 // The part of the sheet that is the words of the signal with this name, empty when refused.
 pub fn lookup<'a>(sheet: &'a [u8], name: &[u8]) -> &'a [u8]
-    ensures { λ r. ⌜ now r ≡ lookupOf (now (sheet .entry)) (now (name .entry)) ⌝ }
+    ensures { λ r. ⌜ LookedUp (sheet .entry) (now (name .entry)) r ⌝ }
 {
     match locate(sheet, name) {
         Place::At { start, count } => {
             let end = start + count;
             &sheet[start..end]
         }
-        Place::Refused(_) => &sheet[..0],
+        Place::Refused(_) => {
+            let front = 0;
+            &sheet[front..front]
+        }
     }
 }
 

@@ -11,7 +11,7 @@ use Rattle.signals.specs.Signal.{Signal, refuted}
 use Rattle.signals.specs.Quantified.{Up, Down}
 use Rattle.signals.specs.Settled.{SettledFrom}
 use Rattle.signals.specs.Wording.{IsGap, IsInstant}
-use Rattle.signals.specs.Implication.{earliest, verdictOf, failsIn}
+use Rattle.signals.specs.Implication.{earliest, firstFailing, verdictOf, failsIn}
 use Rattle.signals.specs.Earliest.{Refutes, FirstRefutes, Judged, Earliest}
 use Rattle.signals.specs.declared.Verdict.the-variants.{Holds, FailsAt, FailsAfter}
 use Rattle.signals.proofs.Truth.{not-up, not-of, and-left, and-right, and-of, not-both}
@@ -116,7 +116,7 @@ Outcome f g n =
     (((t : ℕ) → Refutes f g t → ⊥) × (verdictOf f g n ≡ Holds)) ⊎ ((t : ℕ) × FirstRefutes f g t × (verdictOf f g n ≡ failsIn t))
 
 pub outcome : (f g : Signal) (n : ℕ) → SettledFrom f n → SettledFrom g n → Outcome f g n
-unfolding verdictOf
+unfolding firstFailing
 outcome f g n sf sg = go (leb e (gap n)) refl
   where
     e : ℕ

@@ -1,10 +1,12 @@
--- Document 01's numbers and values for each case of the answers.
-use Prim.Native.Nat.{ℕ, zero, suc, _+_, _/_}
+-- Document 01's number and values for each case of the answers, by one definition for each enum: what every case is read as (its fault
+-- number, 0 for none, and its values), and the one answer of a call with this fault number and these values. Contracts use the latter.
+use Prim.Native.Nat.{ℕ, _+_}
 use mathlib.Core.Bool.{Bool, true, false, cond}
-use mathlib.Core.List.{List, [], _∷_, _++_}
-use lib.Dec.{leb, ltb, eqb}
+use mathlib.Core.List.{List, _++_}
+use mathlib.Core.Option.{Option, none, some}
+use lib.Dec.{ltb, eqb}
 use lib.ListN.{length, drop}
-use Rattle.signals.specs.Moment.{M, isGap, tick}
+use Rattle.signals.specs.Moment.{M, isGap, tick, gap, instant}
 use Rattle.signals.specs.declared.Date.{Date}
 use Rattle.signals.specs.declared.Sum.{Sum}
 use Rattle.signals.specs.declared.Sum.the-variants as sum
@@ -19,13 +21,34 @@ use Rattle.signals.specs.declared.Told.the-variants as told
 unfoldable pub firstOf : ℕ → ℕ → ℕ
 firstOf f g = cond (eqb f 0) g f
 
--- Date plus length: 9 for a date above M, then 8 for a length above M, else the date, or the exact sum past M.
-abbrev pub sumOf : ℕ → ℕ → Sum
-sumOf d n =
-    cond (ltb M d) (sum.Refused 9)
-    (cond (ltb M n) (sum.Refused 8) (cond (ltb M (d + n)) (sum.PastM (d + n)) (sum.On (record { 0 = d + n }))))
+-- Sum. The fault number; the exact sum, 0 when refused; whether it is past M, so no date.
+abbrev pub faultOfSum : Sum → ℕ
+faultOfSum (sum.On date) = 0
+faultOfSum (sum.PastM total) = 0
+faultOfSum (sum.Refused f) = f
 
--- the fault number of a call that writes, 0 for none; its word count (for sheets, byte count), 0 when refused
+abbrev pub totalIn : Sum → ℕ
+totalIn (sum.On date) = date .0
+totalIn (sum.PastM total) = total
+totalIn (sum.Refused f) = 0
+
+abbrev pub pastM : Sum → Bool
+pastM (sum.On date) = false
+pastM (sum.PastM total) = true
+pastM (sum.Refused f) = false
+
+-- the answer of a sum with this fault (0 for none) and this exact sum: a date up to M
+abbrev pub sumFor : ℕ → ℕ → Sum
+sumFor fault total = cond (eqb fault 0) (cond (ltb M total) (sum.PastM total) (sum.On (record { 0 = total }))) (sum.Refused fault)
+
+-- Date plus length: 9 for a date above M, then 8 for a length above M.
+abbrev pub sumFault : ℕ → ℕ → ℕ
+sumFault d n = cond (ltb M d) 9 (cond (ltb M n) 8 0)
+
+abbrev pub sumOf : ℕ → ℕ → Sum
+sumOf d n = sumFor (sumFault d n) (d + n)
+
+-- Written. The fault number; the word count (for sheets, byte count), 0 when refused.
 abbrev pub faultIn : Written → ℕ
 faultIn (written.Count n) = 0
 faultIn (written.Refused f) = f
@@ -41,3 +64,49 @@ writtenOf fault words = cond (eqb fault 0) (written.Count (length words)) (writt
 -- the output after such a call: the words, those past the count being the old ones; as it was when refused
 unfoldable pub outputOf : ℕ → List ℕ → List ℕ → List ℕ
 outputOf fault words old = cond (eqb fault 0) (words ++ drop (length words) old) old
+
+-- Told. The fault number; the value, up for yes and down for no, down when refused.
+abbrev pub faultOfTold : Told → ℕ
+faultOfTold told.Yes = 0
+faultOfTold told.No = 0
+faultOfTold (told.Refused f) = f
+
+abbrev pub valueIn : Told → Bool
+valueIn told.Yes = true
+valueIn told.No = false
+valueIn (told.Refused f) = false
+
+-- yes for up, no for down
+abbrev pub toldValue : Bool → Told
+toldValue true = told.Yes
+toldValue false = told.No
+
+-- the answer of a question with this fault (0 for none) and this value
+unfoldable pub toldOf : ℕ → Bool → Told
+toldOf fault value = cond (eqb fault 0) (toldValue value) (told.Refused fault)
+
+-- Verdict. The fault number; the moment that fails first, none where the claim holds and when refused.
+abbrev pub faultOfVerdict : Verdict → ℕ
+faultOfVerdict verdict.Holds = 0
+faultOfVerdict (verdict.FailsAt k) = 0
+faultOfVerdict (verdict.FailsAfter k) = 0
+faultOfVerdict (verdict.Refused f) = f
+
+abbrev pub failsFirst : Verdict → Option ℕ
+failsFirst verdict.Holds = none
+failsFirst (verdict.FailsAt k) = some (instant k)
+failsFirst (verdict.FailsAfter k) = some (gap k)
+failsFirst (verdict.Refused f) = none
+
+-- the verdict of a claim whose earliest failing moment is t
+unfoldable pub failsIn : ℕ → Verdict
+failsIn t = cond (isGap t) (verdict.FailsAfter (tick t)) (verdict.FailsAt (tick t))
+
+-- the verdict where this moment fails first, or none does
+abbrev pub judgedBy : Option ℕ → Verdict
+judgedBy none = verdict.Holds
+judgedBy (some t) = failsIn t
+
+-- the answer of a claim with this fault (0 for none) where this moment fails first, or none does
+abbrev pub verdictFor : ℕ → Option ℕ → Verdict
+verdictFor fault first = cond (eqb fault 0) (judgedBy first) (verdict.Refused fault)

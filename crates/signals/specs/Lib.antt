@@ -4,6 +4,7 @@ pub mod Signal
 pub mod Words
 pub mod Answers
 pub mod Implication
+pub mod AnswersSay
 pub mod Quantified
 pub mod Wording
 pub mod Tables

@@ -1,9 +1,10 @@
 -- `capi::pack_place` meets its contract.
 use borrow.Author.Needs.{needs}
 use native.Mathlib.Omega.{arith}
-use Prim.Native.Nat.{_<_}
+use Prim.Native.Nat.{ℕ, _+_, _*_, _<_}
 use mathlib.Core.Path.{_≡_, sym, ap, subst, _∙_}
 use Rattle.sheets.specs.declared.Place.{Place}
+use Rattle.sheets.specs.declared.Place.the-variants.{At, Refused}
 use Rattle.capi.specs.Packing.{packPlace, SmallPlace}
 use Rattle.capi.proofs.pack_place.Statement.{statement}
 use Rattle.capi.proofs.pack_place.Tie as tie
@@ -26,13 +27,21 @@ cast-result c = search needs
 mul-result-2 : tie.Need-mul-result-2
 mul-result-2 c = let h : c .before .answer2 .given .0 .0 < 65536 = subst (λ (x : Place). SmallPlace x) (c .before .answer2 .given .1) (c .before .before .before .pre) in omega arith
 
-returns : tie.Need-returns
+found : (start count : ℕ) → 16777216 * start + count ≡ packPlace (At start count)
 unfolding packPlace
-returns c = sym (ap packPlace (c .before .answer .given .1))
+found start count = omega arith
+
+refused : (f : ℕ) → 281474976710656 * f ≡ packPlace (Refused f)
+unfolding packPlace
+refused f = omega arith
+
+returns : tie.Need-returns
+returns c =
+    let answer = c .before .answer in
+    found (answer .given .0 .0) (answer .given .0 .1 .0) ∙ sym (ap packPlace (answer .given .1))
 
 returns-2 : tie.Need-returns-2
-unfolding packPlace
-returns-2 c = sym (ap packPlace (c .before .answer2 .given .1))
+returns-2 c = refused (c .before .answer2 .given .0 .0) ∙ sym (ap packPlace (c .before .answer2 .given .1))
 
 pub pack-place-spec : {M : Type 1} → statement M
 pack-place-spec = tie.close (tie.spec enum-known-answer mul-result add-result enum-known-answer-2 cast-result mul-result-2 returns returns-2)

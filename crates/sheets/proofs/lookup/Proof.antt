@@ -1,10 +1,9 @@
 -- `sheets::lookup` meets its contract.
 use borrow.Author.Needs.{needs}
 use native.Mathlib.Omega.{arith}
-use mathlib.Core.Path.{sym, ap, _∙_}
-use denote.Ref.{now}
-use Rattle.sheets.specs.Calls.{lookupOf, partAt}
-use Rattle.sheets.proofs.Locating.{place-within, part-is}
+use mathlib.Core.Path.{sym, _∙_}
+use denote.Ref.{now, ptr}
+use Rattle.sheets.proofs.Locating.{place-within, part-is, lies-at, part-none}
 use Rattle.sheets.proofs.lookup.Statement.{statement}
 use Rattle.sheets.proofs.lookup.Tie as tie
 
@@ -33,23 +32,33 @@ part-result-end c =
 enum-told : tie.Need-enum-told
 enum-told c = search needs
 
-slice-aggregate-result : tie.Need-slice-aggregate-result
-slice-aggregate-result c = search needs
+sub-result-2 : tie.Need-sub-result-2
+sub-result-2 c = search needs
+
+part-result-start-2 : tie.Need-part-result-start-2
+part-result-start-2 c = search needs
+
+part-result-end-2 : tie.Need-part-result-end-2
+part-result-end-2 c = search needs
 
 returns : tie.Need-returns
 returns c =
     let args = c .before .before .before .before .before .before .before .args in
     let locate = c .before .before .before .before .locate in
     let start = c .before .before .start in
-    part-is (now (args .sheet)) (now (args .name)) (start .given .0 .0) (start .given .0 .1 .0) (sym (locate .ensures) ∙ start .given .1)
+    let found = sym (locate .ensures) ∙ start .given .1 in (
+      part-is (now (args .sheet)) (now (args .name)) (start .given .0 .0) (start .given .0 .1 .0) found,
+      lies-at (now (args .sheet)) (now (args .name)) (ptr (args .sheet)) _ found,
+    )
 
 returns-2 : tie.Need-returns-2
-unfolding lookupOf
 returns-2 c =
     let args = c .before .before .before .before .before .before .args in
     let locate = c .before .before .before .locate in
-    let enum-told = c .before .enum-told in
-    sym (ap (partAt (now (args .sheet))) (sym (locate .ensures) ∙ enum-told .given .1))
+    let none = sym (locate .ensures) ∙ c .before .enum-told .given .1 in (
+      part-none (now (args .sheet)) (now (args .name)) _ _ none (omega (arith, c .result2 .given .1)),
+      lies-at (now (args .sheet)) (now (args .name)) (ptr (args .sheet)) _ none,
+    )
 
 pub lookup-spec : {M : Type 1} → statement M
 lookup-spec =
@@ -62,6 +71,8 @@ lookup-spec =
     part-result-start
     part-result-end
     enum-told
-    slice-aggregate-result
+    sub-result-2
+    part-result-start-2
+    part-result-end-2
     returns
     returns-2)

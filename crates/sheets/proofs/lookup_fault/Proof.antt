@@ -2,7 +2,8 @@
 use borrow.Author.Needs.{needs}
 use mathlib.Core.Path.{sym, ap, _∙_}
 use denote.Ref.{now}
-use Rattle.sheets.proofs.Locating.{faultAt, place-fault}
+use Rattle.sheets.specs.Calls.{faultOfPlace}
+use Rattle.sheets.proofs.Locating.{place-fault}
 use Rattle.sheets.proofs.lookup_fault.Statement.{statement}
 use Rattle.sheets.proofs.lookup_fault.Tie as tie
 
@@ -19,14 +20,14 @@ returns : tie.Need-returns
 returns c =
     let args = c .before .before .before .before .before .args in
     let locate = c .before .before .locate in
-    sym (ap faultAt (c .enum-told .given .1)) ∙ ap faultAt (locate .ensures) ∙ place-fault (now (args .sheet)) (now (args .name))
+    sym (ap faultOfPlace (c .enum-told .given .1)) ∙ ap faultOfPlace (locate .ensures) ∙ place-fault (now (args .sheet)) (now (args .name))
 
 returns-2 : tie.Need-returns-2
 returns-2 c =
     let args = c .before .before .before .before .before .before .args in
     let locate = c .before .before .before .locate in
     let fault = c .before .fault in
-    sym (ap faultAt (fault .given .1)) ∙ ap faultAt (locate .ensures) ∙ place-fault (now (args .sheet)) (now (args .name))
+    sym (ap faultOfPlace (fault .given .1)) ∙ ap faultOfPlace (locate .ensures) ∙ place-fault (now (args .sheet)) (now (args .name))
 
 pub lookup-fault-spec : {M : Type 1} → statement M
 lookup-fault-spec =

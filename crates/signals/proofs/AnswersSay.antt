@@ -1,0 +1,172 @@
+-- Reading an answer and giving it are one definition of its cases.
+use Prim.Native.Nat.{ℕ, _≤_, _<_}
+use native.Mathlib.Omega.{arith}
+use mathlib.Core.Path.{_≡_, refl, sym, ap, subst}
+use mathlib.Core.Logic.{⊎-elim}
+use mathlib.Core.Bool.{Bool, true, false, cond}
+use mathlib.Core.List.{List}
+use mathlib.Core.Option.{Option, none, some}
+use lib.Dec.{eqb, ltb}
+use lib.ListN.{length}
+use borrow.Author.Tests.{eqb-true, eqb-false, ne-eqb, lt-ltb, le-ltb, ltb-true, ltb-false}
+use Rattle.signals.specs.Moment.{M, gap, instant}
+use Rattle.signals.specs.Answers.{faultOfSum, totalIn, pastM, sumFor, faultIn, countIn, writtenOf}
+use Rattle.signals.specs.Answers.{faultOfTold, valueIn, toldOf, faultOfVerdict, failsFirst, failsIn, judgedBy, verdictFor}
+use Rattle.signals.specs.AnswersSay.{GivenSum, GivenWritten, GivenTold, GivenVerdict, SumSays, WrittenSays, ToldSays, VerdictSays, AnswersSay}
+use Rattle.signals.specs.declared.Sum.{Sum}
+use Rattle.signals.specs.declared.Sum.the-variants as sum
+use Rattle.signals.specs.declared.Written.{Written}
+use Rattle.signals.specs.declared.Written.the-variants as written
+use Rattle.signals.specs.declared.Verdict.{Verdict}
+use Rattle.signals.specs.declared.Verdict.the-variants as verdict
+use Rattle.signals.specs.declared.Told.{Told}
+use Rattle.signals.specs.declared.Told.the-variants as told
+use Rattle.signals.proofs.Wording.{either}
+use Rattle.signals.proofs.Implication.{failsIn-gap, failsIn-instant}
+
+-- an answer by whether there is a fault
+pub by-fault : {A : Type 0} (P : ℕ → A → Type 0) (f : ℕ) (fine : A) (refused : ℕ → A) → P 0 fine → ((g : ℕ) → 1 ≤ g → P g (refused g))
+    → P f (cond (eqb f 0) fine (refused f))
+by-fault {A} P f fine refused p q = go (eqb f 0) refl
+  where
+    go : (t : Bool) → eqb f 0 ≡ t → P f (cond t fine (refused f))
+    go true e = subst (λ (g : ℕ). P g fine) (sym (eqb-true f 0 e)) p
+    go false e = q f (omega (arith, eqb-false f 0 e))
+
+pub is-fault : (f : ℕ) → 1 ≤ f → eqb f 0 ≡ false
+is-fault f l = ne-eqb f 0 (λ z. omega arith)
+
+-- a sum's
+sum-cases : (P : Sum → Type 0) (total : ℕ) → (M < total → P (sum.PastM total)) → (total ≤ M → P (sum.On (record { 0 = total })))
+    → P (cond (ltb M total) (sum.PastM total) (sum.On (record { 0 = total })))
+sum-cases P total past on = go (ltb M total) refl
+  where
+    go : (t : Bool) → ltb M total ≡ t → P (cond t (sum.PastM total) (sum.On (record { 0 = total })))
+    go true e = past (ltb-true M total e)
+    go false e = on (ltb-false M total e)
+
+sum-value : (total : ℕ) → (totalIn (sumFor 0 total) ≡ total) × (pastM (sumFor 0 total) ≡ ltb M total)
+sum-value total = go (ltb M total)
+  where
+    go : (t : Bool)
+        → (totalIn (cond t (sum.PastM total) (sum.On (record { 0 = total }))) ≡ total)
+        × (pastM (cond t (sum.PastM total) (sum.On (record { 0 = total }))) ≡ t)
+    go true = (refl, refl)
+    go false = (refl, refl)
+
+sum-every : (answer : Sum) → GivenSum answer → sumFor (faultOfSum answer) (totalIn answer) ≡ answer
+sum-every (sum.On date) h = rw (le-ltb M (date .0) h)
+sum-every (sum.PastM total) h = rw (lt-ltb M total h)
+sum-every (sum.Refused f) h = rw (is-fault f h)
+
+sumSays : SumSays
+sumSays =
+    record {
+      fault = λ f total. by-fault (λ g x. faultOfSum x ≡ g) f _ sum.Refused (sum-cases (λ x. faultOfSum x ≡ 0) total (λ l. refl) (λ l. refl)) (λ g l. refl);
+      value = sum-value;
+      refused = λ f total l. rw (is-fault f l) (refl, refl);
+      given = λ f total. by-fault (λ g x. GivenSum x) f _ sum.Refused (sum-cases GivenSum total (λ l. l) (λ l. l)) (λ g l. l);
+      every = sum-every;
+    }
+
+-- a writing call's
+module _ (words : List ℕ) where
+  written-fault : (f : ℕ) → faultIn (writtenOf f words) ≡ f
+  unfolding writtenOf
+  written-fault f = by-fault (λ g x. faultIn x ≡ g) f (written.Count (length words)) written.Refused refl (λ g l. refl)
+
+  written-value : countIn (writtenOf 0 words) ≡ length words
+  unfolding writtenOf
+  written-value = refl
+
+  written-refused : (f : ℕ) → 1 ≤ f → countIn (writtenOf f words) ≡ 0
+  unfolding writtenOf
+  written-refused f l = rw (is-fault f l)
+
+  written-given : (f : ℕ) → GivenWritten (writtenOf f words)
+  unfolding writtenOf
+  written-given f = by-fault (λ g x. GivenWritten x) f (written.Count (length words)) written.Refused tt (λ g l. l)
+
+  written-every : (answer : Written) → GivenWritten answer → length words ≡ countIn answer → writtenOf (faultIn answer) words ≡ answer
+  unfolding writtenOf
+  written-every (written.Count n) h e = ap written.Count e
+  written-every (written.Refused f) h e = rw (is-fault f h)
+
+writtenSays : WrittenSays
+writtenSays =
+    record {
+      fault = λ f words. written-fault words f;
+      value = written-value;
+      refused = λ f words. written-refused words f;
+      given = λ f words. written-given words f;
+      every = λ answer words. written-every words answer;
+    }
+
+-- a question's
+told-fault : (f : ℕ) (v : Bool) → faultOfTold (toldOf f v) ≡ f
+unfolding toldOf
+told-fault f true = by-fault (λ g x. faultOfTold x ≡ g) f told.Yes told.Refused refl (λ g l. refl)
+told-fault f false = by-fault (λ g x. faultOfTold x ≡ g) f told.No told.Refused refl (λ g l. refl)
+
+told-value : (v : Bool) → valueIn (toldOf 0 v) ≡ v
+unfolding toldOf
+told-value true = refl
+told-value false = refl
+
+told-refused : (f : ℕ) (v : Bool) → 1 ≤ f → valueIn (toldOf f v) ≡ false
+unfolding toldOf
+told-refused f v l = rw (is-fault f l)
+
+told-given : (f : ℕ) (v : Bool) → GivenTold (toldOf f v)
+unfolding toldOf
+told-given f true = by-fault (λ g x. GivenTold x) f told.Yes told.Refused tt (λ g l. l)
+told-given f false = by-fault (λ g x. GivenTold x) f told.No told.Refused tt (λ g l. l)
+
+told-every : (answer : Told) → GivenTold answer → toldOf (faultOfTold answer) (valueIn answer) ≡ answer
+unfolding toldOf
+told-every told.Yes h = refl
+told-every told.No h = refl
+told-every (told.Refused f) h = rw (is-fault f h)
+
+toldSays : ToldSays
+toldSays = record { fault = told-fault; value = told-value; refused = told-refused; given = told-given; every = told-every }
+
+-- a claim's
+fails-cases : (P : ℕ → Verdict → Type 0) → ((k : ℕ) → P (gap k) (verdict.FailsAfter k)) → ((k : ℕ) → 1 ≤ k → P (instant k) (verdict.FailsAt k))
+    → (t : ℕ) → P t (failsIn t)
+fails-cases P in-gap at-instant t =
+    ⊎-elim
+    (λ g. rw (g .1, failsIn-gap (g .0)) (in-gap (g .0)))
+    (λ i. rw (i .2, failsIn-instant (i .0) (i .1)) (at-instant (i .0) (i .1)))
+    (either t)
+
+verdict-none : (first : Option ℕ) → faultOfVerdict (judgedBy first) ≡ 0
+verdict-none none = refl
+verdict-none (some t) = fails-cases (λ t v. faultOfVerdict v ≡ 0) (λ k. refl) (λ k l. refl) t
+
+verdict-value : (first : Option ℕ) → failsFirst (judgedBy first) ≡ first
+verdict-value none = refl
+verdict-value (some t) = fails-cases (λ t v. failsFirst v ≡ some t) (λ k. refl) (λ k l. refl) t
+
+judged-given : (first : Option ℕ) → GivenVerdict (judgedBy first)
+judged-given none = tt
+judged-given (some t) = fails-cases (λ t v. GivenVerdict v) (λ k. tt) (λ k l. l) t
+
+verdict-every : (answer : Verdict) → GivenVerdict answer → verdictFor (faultOfVerdict answer) (failsFirst answer) ≡ answer
+verdict-every verdict.Holds h = refl
+verdict-every (verdict.FailsAt k) h = failsIn-instant k h
+verdict-every (verdict.FailsAfter k) h = failsIn-gap k
+verdict-every (verdict.Refused f) h = rw (is-fault f h)
+
+verdictSays : VerdictSays
+verdictSays =
+    record {
+      fault = λ f first. by-fault (λ g x. faultOfVerdict x ≡ g) f (judgedBy first) verdict.Refused (verdict-none first) (λ g l. refl);
+      value = verdict-value;
+      refused = λ f first l. rw (is-fault f l);
+      given = λ f first. by-fault (λ g x. GivenVerdict x) f (judgedBy first) verdict.Refused (judged-given first) (λ g l. l);
+      every = verdict-every;
+    }
+
+pub answersSay : AnswersSay
+answersSay = record { sum = sumSays; written = writtenSays; told = toldSays; verdict = verdictSays }
