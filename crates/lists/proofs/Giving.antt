@@ -1,19 +1,19 @@
 -- A call without a fault gives the one normal list of a signal, for every operation on lists; tidying.
-use Prim.Native.Nat.{ℕ, zero, suc, _≤_, _<_}
+use Prim.Native.Nat.{ℕ, zero, suc, _≤_}
 use native.Mathlib.Omega.{arith}
 use mathlib.Core.Path.{_≡_, refl, sym, _∙_, ap}
 use mathlib.Core.Bool.{Bool, true, false, cond}
-use mathlib.Core.List.{List, [], _∷_, _++_}
+use mathlib.Core.List.{List}
 use lib.Dec.{ltb, eqb}
-use lib.ListN.{length, getD, drop}
+use lib.ListN.{length}
 use borrow.Author.Tests.{eqb-true, ltb-false}
 use Rattle.signals.specs.Moment.{M}
 use Rattle.signals.specs.Signal.{Signal, num}
-use Rattle.signals.specs.Words.{dateOf, tidyFault, signalOf, lastDate, wordsOf, listOf}
+use Rattle.signals.specs.Words.{tidyFault, signalOf, lastDate, listOf}
 use Rattle.signals.specs.Settled.{Same}
 use Rattle.signals.specs.Normal.{Accepted}
 use Rattle.signals.specs.Tidying.{tidied}
-use Rattle.signals.specs.Answers.{faultIn, writtenOf, outputOf, firstOf}
+use Rattle.signals.specs.Answers.{faultIn, writtenOf, outputOf}
 use Rattle.signals.specs.declared.Written.{Written}
 use Rattle.signals.specs.declared.Written.the-variants as written
 use Rattle.signals.proofs.WordFacts.{date-bounds, num-le}
@@ -22,7 +22,7 @@ use Rattle.signals.proofs.Normal.{uniqueAccepted, lastDate-bound}
 use Rattle.signals.proofs.FirstFault.{both-none}
 use Rattle.signals.proofs.Tidying.{tidying}
 use Rattle.lists.specs.Questions.{tidyingFault}
-use Rattle.lists.specs.Giving.{WithinM, Gives, CallOfTidying, TidyingGives}
+use Rattle.lists.specs.Giving.{WithinM, Gives, TidyingGives}
 
 -- the number that an answer says is the call's fault
 pub fault-said : (fault : ℕ) (words : List ℕ) → faultIn (writtenOf fault words) ≡ fault

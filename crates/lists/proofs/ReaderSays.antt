@@ -2,7 +2,7 @@
 use Prim.Native.Nat.{ℕ, zero, suc, _+_, _-_, _≤_, _<_}
 use native.Mathlib.Omega.{arith}
 use native.Mathlib.Decide.{decLe}
-use mathlib.Core.Path.{_≡_, refl, sym, _∙_}
+use mathlib.Core.Path.{_≡_, sym}
 use mathlib.Core.List.{List, [], _∷_}
 use mathlib.Core.Logic.{_↔_}
 use lib.ListN.{length, getD, drop}
@@ -16,7 +16,7 @@ use Rattle.signals.proofs.Operand.{At, at-take, at-end, at-pass, next-later}
 use Rattle.signals.proofs.Normal.{acceptedNormal, accepted-start}
 use Rattle.lists.specs.Giving.{WithinM}
 use Rattle.lists.specs.Questions.{countBy, datedBy}
-use Rattle.lists.specs.Reading.{NEVER, nextDate, stepPast}
+use Rattle.lists.specs.Reading.{NEVER, nextDate}
 use Rattle.lists.specs.ReaderSays.{PastDate, Says, ReaderSays}
 use Rattle.lists.proofs.Searching.{next-in, next-none, seek-start, count-passed, none-left, pass-count}
 

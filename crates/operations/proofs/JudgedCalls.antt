@@ -1,18 +1,16 @@
 -- Faults in their order: what a call answers when the first judgement refuses it, and when it passes.
 use Prim.Native.Nat.{ℕ, _≤_, _<_}
 use native.Mathlib.Omega.{arith}
-use native.Mathlib.Decide.{ℕ-discrete}
-use mathlib.Core.Path.{_≡_, refl, sym, _∙_, ap}
-use mathlib.Core.Bool.{Bool, true, false, cond}
+use mathlib.Core.Path.{_≡_, sym, _∙_}
+use mathlib.Core.Bool.{true, false}
 use mathlib.Core.List.{List}
-use lib.Dec.{ltb, eqb}
 use lib.ListN.{length}
 use borrow.Author.Tests.{lt-ltb, le-ltb, lt-leb, le-leb, ne-eqb}
 use Rattle.signals.specs.Words.{listFault}
 use Rattle.signals.specs.Answers.{writtenOf, outputOf}
 use Rattle.signals.specs.declared.Written.{Written}
 use Rattle.signals.specs.declared.Written.the-variants.{Refused}
-use Rattle.operations.specs.Calls.{pairFault, changesAfterM}
+use Rattle.operations.specs.Calls.{pairFault}
 use Rattle.operations.specs.Slots.{begins, builtAnswer, slotAnswer, slotAfter, CallInSlot}
 use Rattle.operations.specs.declared.SlotAnswer.{SlotAnswer}
 use Rattle.operations.specs.declared.SlotAnswer.the-variants.{Stands, TooLong, TooLate, NotBegun}

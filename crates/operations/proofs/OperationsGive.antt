@@ -6,7 +6,7 @@ use mathlib.Core.Path.{_≡_}
 use mathlib.Core.List.{List}
 use lib.ListN.{length, getD}
 use Rattle.signals.specs.Moment.{M}
-use Rattle.signals.specs.Signal.{Signal, Table, NOT, connective, rising, falling, SR, RS, TON, TOF}
+use Rattle.signals.specs.Signal.{Signal, NOT, connective, rising, falling, SR, RS, TON, TOF}
 use Rattle.signals.specs.Words.{dateOf, signalOf, lastDate, listOf}
 use Rattle.signals.specs.Settled.{SettledFrom}
 use Rattle.signals.specs.Answers.{faultIn, writtenOf, outputOf}
@@ -16,7 +16,7 @@ use Rattle.signals.proofs.Settling.{settling}
 use Rattle.lists.specs.Giving.{WithinM, Gives}
 use Rattle.lists.proofs.Giving.{no-fault, gives}
 use Rattle.operations.specs.Calls.{exactOfOne, exactOfTwo, exactOfDelay, faultOfOne, faultOfTwo, faultOfDelay}
-use Rattle.operations.specs.CallFaults.{Breaks5, Breaks6, Breaks7, AnswerFaults}
+use Rattle.operations.specs.CallFaults.{Breaks6, AnswerFaults}
 use Rattle.operations.specs.OperationsGive.{OneGives, TwoGive, DelayGives, OperationsGive}
 use Rattle.operations.proofs.CallFaults.{callFaultsExact}
 
