@@ -6,13 +6,13 @@ use mathlib.Core.Bool.{Bool, true, false, cond, _&&_, _||_}
 use mathlib.Core.List.{List, [], _∷_}
 use lib.Dec.{ltb}
 use lib.ListN.{length}
-use borrow.Author.Tests.{le-ltb, ltb-false}
+use borrow.Author.Tests.{ltb-false}
 use Rattle.signals.specs.Signal.{Signal, NOT, rising, falling, SR, RS, TON, TOF, AND, OR, connective, cell}
 use Rattle.signals.specs.Words.{signalOf, lastDate, listOf, listFault}
 use Rattle.signals.specs.Settled.{SettledFrom, Same}
 use Rattle.signals.proofs.Settling.{settling, settled-later}
 use Rattle.signals.proofs.Normal.{accepted-settled, acceptedNormal}
-use Rattle.operations.specs.Calls.{exactOfOne, exactOfTwo, exactOfDelay, answerFault, changesAfterM}
+use Rattle.operations.specs.Calls.{exactOfOne, exactOfTwo, exactOfDelay, changesAfterM}
 use Rattle.formulas.specs.Tree.{Tree, Unary, Binary, unary, binary, invert, rise, fall, ton, tof, and, or, sr, rs, applyUnary, applyBinary}
 use Rattle.laws.proofs.Consequences.{one-list}
 use Rattle.sheets.specs.Reading.{sheetFault}
@@ -95,13 +95,3 @@ module _ (sheet : List ℕ) (ok : sheetFault sheet ≡ 0) where
       size : (b : Bool) → ltb 256 (length (exactOn sheet t)) ≡ b → _≡_ {A = ℕ} (cond b 5 (cond (changesAfterM (exactOn sheet t)) 6 0)) 0 → length (exactOn sheet t) ≤ 256
       size true e z = absurd (omega arith)
       size false e z = ltb-false 256 (length (exactOn sheet t)) e
-
--- in a slot of 256 words or more only 5 and 6 are met
-pub slot-part : (exact : List ℕ) (n : ℕ) → 256 ≤ n → answerFault exact n ≡ partFault exact
-unfolding answerFault partFault
-slot-part exact n h = go (ltb 256 (length exact)) refl (changesAfterM exact)
-  where
-    go : (b : Bool) → ltb 256 (length exact) ≡ b → (c : Bool) → _≡_ {A = ℕ} (cond b 5 (cond c 6 (cond (ltb n (length exact)) 7 0))) (cond b 5 (cond c 6 0))
-    go true e c = refl
-    go false e true = refl
-    go false e false = let k = ltb-false 256 (length exact) e in rw (le-ltb n (length exact) (omega arith))

@@ -8,11 +8,15 @@ use lib.ListN.{length, take, drop, getD, set}
 use lib.Seq.{paste}
 use Rattle.signals.specs.Answers.{writtenOf, verdictFor}
 use Rattle.signals.specs.declared.Written.{Written}
+use Rattle.signals.specs.declared.Written.the-variants as written
 use Rattle.signals.specs.declared.Verdict.{Verdict}
 use Rattle.signals.specs.Moment.{M}
 use Rattle.signals.specs.Signal.{Table, tableOf, NOT, rising, falling, SR, RS, TON, TOF, connective}
 use Rattle.signals.specs.Words.{listFault}
 use Rattle.operations.specs.Calls.{exactOfOne, exactOfTwo, exactOfDelay}
+use Rattle.operations.specs.Slots.{builtAnswer}
+use Rattle.operations.specs.declared.SlotAnswer.{SlotAnswer}
+use Rattle.operations.specs.declared.SlotAnswer.the-variants.{Stands, TooLong, TooLate, NotBegun}
 use Rattle.formulas.specs.Tree.{Tree, Leaf, Unary, Binary, leaf, unary, binary, down, up, name, invert, rise, fall, ton, tof, and, or, sr, rs}
 use Rattle.formulas.specs.Code.{Part, operand, one, two, ticksOf, top, code}
 use Rattle.formulas.specs.Formula.{nameAt, partOf, codeOf, formulaTree}
@@ -122,7 +126,19 @@ pub record Loaded (sheet : List ℕ) (l : Leaf) (old work : List ℕ) (at count 
   pub count-is : count ≡ length (exactOn sheet (leaf l))
   pub work-is : work ≡ paste old at (exactOn sheet (leaf l)) count
 
--- an operation's answer in a buffer of 256 words or more: 5 or 6, or its words
+-- an operation's answer in a buffer of 256 words or more
+pub record Given (exact buffer : List ℕ) (answer : SlotAnswer) : Type 0 where
+  pub answer-is : answer ≡ builtAnswer exact
+  pub stands : partFault exact ≡ 0 → take (length exact) buffer ≡ exact
+
+-- document 01's number for each case of it: 5 or 6, or the word count; one that did not begin, which is not met, has no words
+abbrev pub partAnswer : SlotAnswer → Written
+partAnswer (Stands n) = written.Count n
+partAnswer TooLong = written.Refused 5
+partAnswer TooLate = written.Refused 6
+partAnswer NotBegun = written.Count 0
+
+-- the part's answer: 5 or 6, or its words
 pub record Applied (exact buffer : List ℕ) (answer : Written) : Type 0 where
   pub answer-is : answer ≡ writtenOf (partFault exact) exact
   pub stands : partFault exact ≡ 0 → take (length exact) buffer ≡ exact

@@ -11,7 +11,7 @@ ghost use Rattle.signals.specs.Moment.{M};
 ghost use Rattle.signals.specs.Words.{listFault};
 ghost use Rattle.formulas.specs.Tree.{Tree};
 ghost use Rattle.formulas.specs.Code.{ticksOf, operand, one, two, code};
-ghost use Rattle.evaluation.specs.Machine.{leafOf, unaryOf, binaryOf, leafKnown, Loaded, Applied, unaryExact, binaryExact, Room, Ready, Steps, Plan, partsIn, WorkedOut, partFound, allFound, Prepared, Coded, runFault, judgeFault, InSlot, ClaimOn};
+ghost use Rattle.evaluation.specs.Machine.{leafOf, unaryOf, binaryOf, leafKnown, Loaded, Given, partAnswer, unaryExact, binaryExact, Room, Ready, Steps, Plan, partsIn, WorkedOut, partFound, allFound, Prepared, Coded, runFault, judgeFault, InSlot, ClaimOn};
 ghost use Rattle.evaluation.specs.Work.{firstFault, firstClaimFault};
 ghost use Rattle.signals.specs.Answers.{writtenOf, outputOf, verdictFor};
 ghost use Rattle.calls.specs.Calls.{roomFault, wordsOn, callAnswer, callOutput, claimFails, claimAnswer};
@@ -19,6 +19,7 @@ ghost use Rattle.formulas.specs.Formula.{formulaTree};
 ghost use Rattle.laws.specs.Rewriting.{parts};
 ghost use Rattle.calls.specs.OnSheet.{exactOn};
 ghost use Rattle.calls.specs.Calls.{partsFault, workingFault};
+use operations::SlotAnswer;
 use signals::Length;
 use signals::Verdict;
 use signals::Written;
@@ -123,9 +124,9 @@ const AND: [[bool; 2]; 2] = [[false, false], [false, true]];
 const OR: [[bool; 2]; 2] = [[false, true], [true, true]];
 
 // A part of one operand, worked out in a buffer.
-fn apply_unary(code: u64, a: &[u32], buffer: &mut [u32]) -> Written
+fn apply_unary(code: u64, a: &[u32], buffer: &mut [u32]) -> SlotAnswer
     requires { ⌜ (256 ≤ length (now buffer)) × (listFault (now a) ≡ 0) × (ticksOf (unaryOf (code % 16) (code / 16)) ≤ M) ⌝ }
-    ensures { λ r. ⌜ Applied (unaryExact (unaryOf (code % 16) (code / 16)) (now (a .entry))) (now (buffer .exit)) r ⌝ }
+    ensures { λ r. ⌜ Given (unaryExact (unaryOf (code % 16) (code / 16)) (now (a .entry))) (now (buffer .exit)) r ⌝ }
 {
     let kind = code % 16;
     if kind == formulas::kind::NOT {
@@ -145,9 +146,9 @@ fn apply_unary(code: u64, a: &[u32], buffer: &mut [u32]) -> Written
 }
 
 // A part of two operands, worked out in a buffer.
-fn apply_binary(code: u64, a: &[u32], b: &[u32], buffer: &mut [u32]) -> Written
+fn apply_binary(code: u64, a: &[u32], b: &[u32], buffer: &mut [u32]) -> SlotAnswer
     requires { ⌜ (256 ≤ length (now buffer)) × (listFault (now a) ≡ 0) × (listFault (now b) ≡ 0) ⌝ }
-    ensures { λ r. ⌜ Applied (binaryExact (binaryOf (code % 16)) (now (a .entry)) (now (b .entry))) (now (buffer .exit)) r ⌝ }
+    ensures { λ r. ⌜ Given (binaryExact (binaryOf (code % 16)) (now (a .entry)) (now (b .entry))) (now (buffer .exit)) r ⌝ }
 {
     let kind = code % 16;
     if kind == formulas::kind::AND {
@@ -160,6 +161,18 @@ fn apply_binary(code: u64, a: &[u32], b: &[u32], buffer: &mut [u32]) -> Written
         return operations::sr_in(a, b, buffer);
     }
     operations::rs_in(a, b, buffer)
+}
+
+// A part's answer from what its call in the buffer gives: 5, 6, or its word count. The calls made here all begin.
+fn part_answer(given: SlotAnswer) -> Written
+    ensures { λ r. ⌜ r ≡ partAnswer given ⌝ }
+{
+    match given {
+        SlotAnswer::Stands(count) => Written::Count(count),
+        SlotAnswer::TooLong => Written::Refused(5),
+        SlotAnswer::TooLate => Written::Refused(6),
+        SlotAnswer::NotBegun => Written::Count(0),
+    }
 }
 
 // A leaf's list pushed onto the stack.
@@ -201,7 +214,7 @@ fn on_one(
     let top = height - 1;
     let at = (base + top) * 256;
     let end = at + counts[top];
-    let answer = apply_unary(code, &work[at..end], buffer);
+    let answer = part_answer(apply_unary(code, &work[at..end], buffer));
     match answer {
         Written::Count(count) => {
             put_list(work, at, buffer, count);
@@ -239,7 +252,7 @@ fn on_two(
     let above = (base + second) * 256;
     let last = above + counts[second];
     let w = &work[..];
-    let answer = apply_binary(code, &w[at..end], &w[above..last], buffer);
+    let answer = part_answer(apply_binary(code, &w[at..end], &w[above..last], buffer));
     match answer {
         Written::Count(total) => {
             put_list(work, at, buffer, total);

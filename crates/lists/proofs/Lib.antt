@@ -1,6 +1,7 @@
 pub mod Judging
 pub mod ReadingFacts
 pub mod Searching
+pub mod ReaderSays
 pub mod Telling
 pub mod Stretches
 pub mod Watching
@@ -8,5 +9,6 @@ pub mod Verdicts
 pub mod Equality
 pub mod Implication
 pub mod Keepings
+pub mod Giving
 pub mod Apart
 pub mod Above

@@ -65,7 +65,7 @@ seek-start (h ∷ ws) k z =
     record { last = 0; below = omega arith; on = accepted-start (h ∷ ws) z; counted = omega arith }
 
 -- one more word passed
-count-passed : (l : List ℕ) (k p n : ℕ) → p < length l → dateOf (getD l p 0) ≤ k → n ≡ p + countBy k (drop p l) → n ≡ (p + 1) + countBy k (drop (p + 1) l)
+pub count-passed : (l : List ℕ) (k p n : ℕ) → p < length l → dateOf (getD l p 0) ≤ k → n ≡ p + countBy k (drop p l) → n ≡ (p + 1) + countBy k (drop (p + 1) l)
 count-passed l k p n h le e =
     let c : countBy k (drop p l) ≡ suc (countBy k (drop (p + 1) l)) =
     rw (words-left l p h) (count-one k (getD l p 0) (drop (p + 1) l) le) in
@@ -90,11 +90,11 @@ pub record Found (l : List ℕ) (k : ℕ) (r : Step) : Type 0 where
   pub at : r .at ≡ signalOf l (instant k)
   pub after : r .after ≡ signalOf l (gap k)
 
-none-left : (l : List ℕ) (k p : ℕ) → At (signalOf l) l p k → datedBy k l ≡ p + countBy k (drop p l) → p ≡ datedBy k l
+pub none-left : (l : List ℕ) (k p : ℕ) → At (signalOf l) l p k → datedBy k l ≡ p + countBy k (drop p l) → p ≡ datedBy k l
 none-left l k p a e = let c : countBy k (drop p l) ≡ 0 = count-none k k (drop p l) (omega arith) (a .ahead .rises) in omega arith
 
 -- passing date k itself
-pass-count : (l : List ℕ) (k p n : ℕ) → n ≡ p + countBy k (drop p l) → n ≡ passedDate l p k + countBy k (drop (passedDate l p k) l)
+pub pass-count : (l : List ℕ) (k p n : ℕ) → n ≡ p + countBy k (drop p l) → n ≡ passedDate l p k + countBy k (drop (passedDate l p k) l)
 unfolding passedDate isNext
 pass-count l k p n e = go (isNext l p k) refl
   where

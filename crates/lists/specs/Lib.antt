@@ -5,3 +5,5 @@ pub mod Finding
 pub mod Equality
 pub mod Keeping
 pub mod Implication
+pub mod Giving
+pub mod ReaderSays

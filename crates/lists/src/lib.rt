@@ -9,9 +9,9 @@ ghost use Rattle.signals.specs.Signal.{num};
 ghost use Rattle.signals.specs.Moment.{gap, instant};
 ghost use Rattle.signals.specs.Words.{signalOf, word, datesFault, tidyFault};
 ghost use Rattle.signals.specs.Tidying.{tidied};
-ghost use Rattle.signals.specs.Answers.{writtenOf, outputOf};
 ghost use Rattle.lists.specs.Reading.{nextDate, stepPast, headFault};
-ghost use Rattle.lists.specs.Questions.{datedBy, valueAtOf, valueInOf, equalOf, impliesOf, tidyingFault};
+ghost use Rattle.lists.specs.Questions.{datedBy, valueAtOf, valueInOf, equalOf, impliesOf};
+ghost use Rattle.lists.specs.Giving.{CallOfTidying};
 ghost use Rattle.lists.specs.Finding.{shown, shows, inStretch, verdictIn, Near, FirstFrom};
 ghost use Rattle.lists.specs.Keeping.{entryOf, putIn, overlay};
 ghost use Rattle.signals.specs.Answers.{firstOf, toldValue};
@@ -467,7 +467,7 @@ fn keep_words(list: &[u32], out: &mut [u32]) -> usize
 
 // Tidying: counted first, so that nothing is written when the output is too short.
 pub fn tidy(list: &[u32], out: &mut [u32]) -> Written
-    ensures { λ r. ⌜ (r ≡ writtenOf (tidyingFault (now (list .entry)) (length (now (out .entry)))) (tidied (now (list .entry)))) × (now (out .exit) ≡ outputOf (tidyingFault (now (list .entry)) (length (now (out .entry)))) (tidied (now (list .entry))) (now (out .entry))) ⌝ }
+    ensures { λ r. ⌜ CallOfTidying (now (list .entry)) (now (out .entry)) r (now (out .exit)) ⌝ }
 {
     let fault = tidy_fault(list);
     if fault != 0 {

@@ -111,7 +111,7 @@ settled-still : (s : Signal) (n d : ℕ) → SettledFrom s n → n < d → Chang
 settled-still s n d h l (inl c) = c (h (instant d) (omega arith) ∙ sym (h (gap (d - 1)) (omega arith)))
 settled-still s n d h l (inr c) = c (h (gap d) (omega arith) ∙ sym (h (gap (d - 1)) (omega arith)))
 
-pub head-date : (v : Bool) → dateOf (num v) ≡ 0
+head-date : (v : Bool) → dateOf (num v) ≡ 0
 unfolding dateOf
 head-date true = refl
 head-date false = refl

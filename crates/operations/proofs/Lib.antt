@@ -10,6 +10,7 @@ pub mod OneOperand
 pub mod CallFaults
 pub mod LateWords
 pub mod NeverMet
+pub mod OperationsGive
 pub mod DelayCases
 pub mod DelaySignals
 pub mod DelayTiming

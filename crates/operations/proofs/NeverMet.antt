@@ -1,5 +1,5 @@
 -- NOT and edges never meet 5, and no operation without a length meets 6.
-use Prim.Native.Nat.{ℕ, zero, suc, _+_, _-_, _%_, _≤_, _<_, max}
+use Prim.Native.Nat.{ℕ, _+_, _-_, _%_, _≤_, _<_, max}
 use native.Mathlib.Omega.{arith}
 use mathlib.Core.Path.{_≡_, refl, sym, _∙_, ap}
 use mathlib.Core.Logic.{_⊎_, inl, inr}
@@ -16,13 +16,13 @@ use Rattle.signals.specs.Normal.{Accepted}
 use Rattle.signals.proofs.Truth.{down-of, not-both}
 use Rattle.signals.proofs.Agreement.{rising-up, falling-up}
 use Rattle.signals.proofs.WordFacts.{date-le}
-use Rattle.signals.proofs.Scan.{Held, scan-to, scan-settled, scan-dates}
+use Rattle.signals.proofs.Scan.{Held, scan-to, scan-settled}
 use Rattle.signals.proofs.Operand.{Ahead, pass-word, words-rise, value-none}
 use Rattle.signals.proofs.Normal.{last-le, start, acceptedNormal, lastDate-bound}
+use Rattle.lists.proofs.Giving.{within}
 use Rattle.operations.specs.Calls.{exactOfOne, exactOfTwo, faultOfOne, faultOfTwo}
 use Rattle.operations.specs.CallFaults.{Breaks6, Words32, NeverLonger, NeverMet}
 use Rattle.operations.proofs.CallFaults.{callFaultsExact}
-use Rattle.operations.proofs.LateWords.{head-date}
 
 -- g keeps the value that it has in gap k for as long as f does
 abbrev Follows : Signal → Signal → Type 0
@@ -104,9 +104,7 @@ falling-follows f k t l h =
 
 -- a list up to a date up to M has no late word
 on-time : (s : Signal) (n : ℕ) → n ≤ M → ¬ Breaks6 (listOf s n)
-unfolding listOf
-on-time s n h (zero, l, m) = omega (arith, head-date (s 0))
-on-time s n h (suc i, l, m) = omega (arith, scan-dates s n 0 i (omega arith) .1)
+on-time s n h (i, l, m) = omega (arith, within s n h i l)
 
 last-32 : (a : List ℕ) → Words32 a → lastDate a ≤ M
 last-32 a h = lastDate-bound M a (λ i l. date-le (getD a i 0) (h i l))

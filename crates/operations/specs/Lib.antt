@@ -4,4 +4,5 @@ pub mod Building
 pub mod Merging
 pub mod Slots
 pub mod CallFaults
+pub mod OperationsGive
 pub mod Delay

@@ -10,6 +10,7 @@ ghost use Rattle.operations.specs.Building.{Built};
 ghost use Rattle.operations.specs.Delay.{dateIn, pending, reached, risen, timerNext, firstTimer, upcomingDate, onLevel, delayOf};
 ghost use Rattle.signals.specs.Answers.{firstOf};
 use super::Made;
+use super::SlotAnswer;
 use signals::Date;
 use signals::Length;
 use signals::M;
@@ -197,15 +198,15 @@ fn delay(level: bool, waits: bool, d: Length, f: &[u32], out: &mut [u32]) -> Wri
 }
 
 // The same in a slot that is lent.
-fn delay_in(level: bool, waits: bool, d: Length, f: &[u32], slot: &mut [u32]) -> Written
+fn delay_in(level: bool, waits: bool, d: Length, f: &[u32], slot: &mut [u32]) -> SlotAnswer
     ensures { λ r. ⌜ CallInSlot (firstOf (listFault (now (f .entry))) (lengthFault (d .0))) (exactOfDelay (delayOf level waits (d .0)) (d .0) (now (f .entry))) (now (slot .entry)) r (now (slot .exit)) ⌝ }
 {
     let fault = delay_fault(d, f);
     if fault != 0 {
-        return Written::Refused(fault);
+        return SlotAnswer::NotBegun;
     }
     if slot.len() < 256 {
-        return Written::Refused(7);
+        return SlotAnswer::NotBegun;
     }
     let made = run(level, waits, d, f, slot);
     super::finish(made)
@@ -226,14 +227,14 @@ pub fn tof(d: Length, f: &[u32], out: &mut [u32]) -> Written
 }
 
 // TON(d,f) in a slot that is lent.
-pub fn ton_in(d: Length, f: &[u32], slot: &mut [u32]) -> Written
+pub fn ton_in(d: Length, f: &[u32], slot: &mut [u32]) -> SlotAnswer
     ensures { λ r. ⌜ CallInSlot (firstOf (listFault (now (f .entry))) (lengthFault (d .0))) (exactOfDelay (TON (d .0)) (d .0) (now (f .entry))) (now (slot .entry)) r (now (slot .exit)) ⌝ }
 {
     delay_in(true, true, d, f, slot)
 }
 
 // TOF(d,f) in a slot that is lent.
-pub fn tof_in(d: Length, f: &[u32], slot: &mut [u32]) -> Written
+pub fn tof_in(d: Length, f: &[u32], slot: &mut [u32]) -> SlotAnswer
     ensures { λ r. ⌜ CallInSlot (firstOf (listFault (now (f .entry))) (lengthFault (d .0))) (exactOfDelay (TOF (d .0)) (d .0) (now (f .entry))) (now (slot .entry)) r (now (slot .exit)) ⌝ }
 {
     delay_in(false, false, d, f, slot)

@@ -16,7 +16,7 @@ ghost use Rattle.operations.specs.Calls.{
   CallOfOne,
   CallOfTwo,
 };
-ghost use Rattle.operations.specs.Slots.{CallInSlot};
+ghost use Rattle.operations.specs.Slots.{builtAnswer, CallInSlot};
 ghost use Rattle.operations.specs.Building.{idle, emitted, emittedIn, begun, Built};
 ghost use Rattle.operations.specs.Merging.{latchFirst, latchShown, firstShown, dateShown, merged};
 use lists::Step;
@@ -331,18 +331,27 @@ fn pair_fault(a: &[u32], b: &[u32]) -> u32
     lists::list_fault(b)
 }
 
-// The answer in a slot of 256 words or more, judged (5, 6).
-fn finish(made: Made) -> Written
-    ensures { λ r. ⌜ ((exact old slot : List ℕ) → 256 ≤ length old → Built exact old slot made → r ≡ writtenOf (answerFault exact (length old)) exact) ⌝ }
+// What a call in a lent slot gives: the answer's words, counted, stand in the slot; or it is over 256 words, or changes after M;
+// or the call did not begin, for a fault of an operand or of the length, or for a slot under 256 words.
+pub enum SlotAnswer {
+    Stands(usize),
+    TooLong,
+    TooLate,
+    NotBegun,
+}
+
+// The answer built in a slot, judged.
+fn finish(made: Made) -> SlotAnswer
+    ensures { λ r. ⌜ ((exact old slot : List ℕ) → Built exact old slot made → r ≡ builtAnswer exact) ⌝ }
 {
     let count = made.count;
     if 256 < count {
-        return Written::Refused(5);
+        return SlotAnswer::TooLong;
     }
     if made.late {
-        return Written::Refused(6);
+        return SlotAnswer::TooLate;
     }
-    Written::Count(count)
+    SlotAnswer::Stands(count)
 }
 
 // A merge of two lists that are judged first, its answer delivered to an output.
@@ -371,15 +380,15 @@ fn operate_in(
     a: &[u32],
     b: &[u32],
     slot: &mut [u32],
-) -> Written
+) -> SlotAnswer
     ensures { λ r. ⌜ CallInSlot (pairFault (now (a .entry)) (now (b .entry))) (exactOfTwo (merged operation table) (now (a .entry)) (now (b .entry))) (now (slot .entry)) r (now (slot .exit)) ⌝ }
 {
     let fault = pair_fault(a, b);
     if fault != 0 {
-        return Written::Refused(fault);
+        return SlotAnswer::NotBegun;
     }
     if slot.len() < 256 {
-        return Written::Refused(7);
+        return SlotAnswer::NotBegun;
     }
     let made = merge(operation, table, a, b, slot);
     finish(made)
@@ -435,40 +444,40 @@ pub fn rs(s: &[u32], r: &[u32], out: &mut [u32]) -> Written
 
 // The calls that the evaluator makes, in a slot of 256 words or more that it lends: no entry points, since the slot is scratch.
 
-pub fn not_in(a: &[u32], slot: &mut [u32]) -> Written
+pub fn not_in(a: &[u32], slot: &mut [u32]) -> SlotAnswer
     ensures { λ r. ⌜ CallInSlot (listFault (now (a .entry))) (exactOfOne NOT (now (a .entry))) (now (slot .entry)) r (now (slot .exit)) ⌝ }
 {
     let none = [0u32; 1];
     operate_in(Operation::Connective, INVERT, a, &none, slot)
 }
 
-pub fn connective_in(table: [[bool; 2]; 2], a: &[u32], b: &[u32], slot: &mut [u32]) -> Written
+pub fn connective_in(table: [[bool; 2]; 2], a: &[u32], b: &[u32], slot: &mut [u32]) -> SlotAnswer
     ensures { λ r. ⌜ CallInSlot (pairFault (now (a .entry)) (now (b .entry))) (exactOfTwo (connective table) (now (a .entry)) (now (b .entry))) (now (slot .entry)) r (now (slot .exit)) ⌝ }
 {
     operate_in(Operation::Connective, table, a, b, slot)
 }
 
-pub fn rising_in(a: &[u32], slot: &mut [u32]) -> Written
+pub fn rising_in(a: &[u32], slot: &mut [u32]) -> SlotAnswer
     ensures { λ r. ⌜ CallInSlot (listFault (now (a .entry))) (exactOfOne rising (now (a .entry))) (now (slot .entry)) r (now (slot .exit)) ⌝ }
 {
     let none = [0u32; 1];
     operate_in(Operation::Rising, INVERT, a, &none, slot)
 }
 
-pub fn falling_in(a: &[u32], slot: &mut [u32]) -> Written
+pub fn falling_in(a: &[u32], slot: &mut [u32]) -> SlotAnswer
     ensures { λ r. ⌜ CallInSlot (listFault (now (a .entry))) (exactOfOne falling (now (a .entry))) (now (slot .entry)) r (now (slot .exit)) ⌝ }
 {
     let none = [0u32; 1];
     operate_in(Operation::Falling, INVERT, a, &none, slot)
 }
 
-pub fn sr_in(s: &[u32], r: &[u32], slot: &mut [u32]) -> Written
+pub fn sr_in(s: &[u32], r: &[u32], slot: &mut [u32]) -> SlotAnswer
     ensures { λ v. ⌜ CallInSlot (pairFault (now (s .entry)) (now (r .entry))) (exactOfTwo SR (now (s .entry)) (now (r .entry))) (now (slot .entry)) v (now (slot .exit)) ⌝ }
 {
     operate_in(Operation::SetWins, INVERT, s, r, slot)
 }
 
-pub fn rs_in(s: &[u32], r: &[u32], slot: &mut [u32]) -> Written
+pub fn rs_in(s: &[u32], r: &[u32], slot: &mut [u32]) -> SlotAnswer
     ensures { λ v. ⌜ CallInSlot (pairFault (now (s .entry)) (now (r .entry))) (exactOfTwo RS (now (s .entry)) (now (r .entry))) (now (slot .entry)) v (now (slot .exit)) ⌝ }
 {
     operate_in(Operation::ResetWins, INVERT, s, r, slot)

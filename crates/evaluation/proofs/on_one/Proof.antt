@@ -2,6 +2,7 @@
 use native.Mathlib.Omega.{arith}
 use mathlib.Core.Path.{_≡_, refl, sym, _∙_}
 use Rattle.evaluation.proofs.Stepping.{OneTop, one-top, one-fits, one-accepted, answer-short, one-counted, one-refused}
+use Rattle.evaluation.proofs.Applying.{part-done}
 use borrow.Author.Needs.{needs}
 use Rattle.evaluation.proofs.on_one.Statement.{statement}
 use Rattle.evaluation.proofs.on_one.Tie as tie
@@ -39,14 +40,17 @@ part-apply-unary-end c = omega (arith, one-fits _ _ _ _ _ (c .before .before .be
 apply-unary-requires : tie.Need-apply-unary-requires
 apply-unary-requires c κs = (c .before .before .before .before .before .before .before .pre .0 .wide, one-accepted _ _ _ _ _ (c .before .before .before .before .before .before .before .pre .0) _ _ (c .before .before .before .before .before .before .before .pre .1 .2), c .before .before .before .before .before .before .before .pre .1 .2 .known)
 
+part-answer-requires : tie.Need-part-answer-requires
+part-answer-requires c κs = search needs
+
 enum-known-answer : tie.Need-enum-known-answer
 enum-known-answer c = search needs
 
 put-list-requires : tie.Need-put-list-requires
 put-list-requires c κs =
-    let short = answer-short _ _ _ _ (c .before .before .before .before .before .before .before .apply-unary .ensures) (c .before .before .before .answer .given .1) in
-    let fits = one-fits _ _ _ _ _ (c .before .before .before .before .before .before .before .before .before .before .before .before .before .before .before .pre .0) _ _ (c .before .before .before .before .before .before .before .before .before .before .before .before .before .before .before .pre .1 .2) in
-    (omega (arith, c .before .before .before .before .before .before .before .before .before .before .before .before .before .before .before .pre .0 .low, c .before .before .before .before .before .before .before .before .before .before .before .before .before .before .before .pre .0 .few, c .before .before .before .before .before .before .before .before .before .before .before .before .before .before .before .pre .0 .slots), omega (arith, c .before .before .before .before .before .before .before .before .before .before .before .before .before .before .before .pre .0 .wide, c .before .before .before .before .before .before .before .apply-unary .kept .1 .1 .0))
+    let short = answer-short _ _ _ _ (part-done _ _ _ _ (c .before .before .before .before .before .before .before .before .apply-unary .ensures) (c .before .before .before .before .before .part-answer .ensures)) (c .before .before .before .answer .given .1) in
+    let fits = one-fits _ _ _ _ _ (c .before .before .before .before .before .before .before .before .before .before .before .before .before .before .before .before .pre .0) _ _ (c .before .before .before .before .before .before .before .before .before .before .before .before .before .before .before .before .pre .1 .2) in
+    (omega (arith, c .before .before .before .before .before .before .before .before .before .before .before .before .before .before .before .before .pre .0 .low, c .before .before .before .before .before .before .before .before .before .before .before .before .before .before .before .before .pre .0 .few, c .before .before .before .before .before .before .before .before .before .before .before .before .before .before .before .before .pre .0 .slots), omega (arith, c .before .before .before .before .before .before .before .before .before .before .before .before .before .before .before .before .pre .0 .wide, c .before .before .before .before .before .before .before .before .apply-unary .kept .1 .1 .0))
 
 enum-known-answer-2 : tie.Need-enum-known-answer-2
 enum-known-answer-2 c = search needs
@@ -60,7 +64,7 @@ same-length-2 c = search needs
 returns : tie.Need-returns
 returns c =
     λ sheet ok stack tall stacked enough known.
-    one-counted sheet ok (c .before .before .before .before .before .before .before .before .before .before .before .before .before .before .before .before .before .before .args .work .now) _ (c .before .before .before .before .before .before .before .before .before .before .before .before .before .before .before .before .before .before .args .counts .now) _ _ (record { low = c .before .before .before .before .before .before .before .before .before .before .before .before .before .before .before .before .before .before .pre .0 .low; few = c .before .before .before .before .before .before .before .before .before .before .before .before .before .before .before .before .before .before .pre .0 .few; slots = c .before .before .before .before .before .before .before .before .before .before .before .before .before .before .before .before .before .before .pre .0 .slots; wide = omega (arith, c .before .before .before .before .before .before .before .before .before .before .before .before .before .before .before .before .before .before .pre .0 .wide, c .before .before .before .before .before .before .before .before .before .before .apply-unary .kept .1 .1 .0); counted = c .before .before .before .before .before .before .before .before .before .before .before .before .before .before .before .before .before .before .pre .0 .counted }) _ stack tall stacked enough _ refl _ (c .before .before .before .before .before .before .before .before .before .before .apply-unary .ensures) _ (c .before .before .before .before .before .before .answer .given .1) _ (c .before .before .put-list .ensures)
+    one-counted sheet ok (c .before .before .before .before .before .before .before .before .before .before .before .before .before .before .before .before .before .before .before .args .work .now) _ (c .before .before .before .before .before .before .before .before .before .before .before .before .before .before .before .before .before .before .before .args .counts .now) _ _ (record { low = c .before .before .before .before .before .before .before .before .before .before .before .before .before .before .before .before .before .before .before .pre .0 .low; few = c .before .before .before .before .before .before .before .before .before .before .before .before .before .before .before .before .before .before .before .pre .0 .few; slots = c .before .before .before .before .before .before .before .before .before .before .before .before .before .before .before .before .before .before .before .pre .0 .slots; wide = omega (arith, c .before .before .before .before .before .before .before .before .before .before .before .before .before .before .before .before .before .before .before .pre .0 .wide, c .before .before .before .before .before .before .before .before .before .before .before .apply-unary .kept .1 .1 .0); counted = c .before .before .before .before .before .before .before .before .before .before .before .before .before .before .before .before .before .before .before .pre .0 .counted }) _ stack tall stacked enough _ refl _ (part-done _ _ _ _ (c .before .before .before .before .before .before .before .before .before .before .before .apply-unary .ensures) (c .before .before .before .before .before .before .before .before .part-answer .ensures)) _ (c .before .before .before .before .before .before .answer .given .1) _ (c .before .before .put-list .ensures)
 
 same-length-3 : tie.Need-same-length-3
 same-length-3 c = search needs
@@ -71,7 +75,7 @@ same-length-4 c = search needs
 returns-2 : tie.Need-returns-2
 returns-2 c =
     λ sheet ok stack tall stacked enough known.
-    one-refused sheet ok (c .before .before .before .before .before .before .before .before .before .before .before .before .before .args .work .now) _ (c .before .before .before .before .before .before .before .before .before .before .before .before .before .args .counts .now) _ _ (record { low = c .before .before .before .before .before .before .before .before .before .before .before .before .before .pre .0 .low; few = c .before .before .before .before .before .before .before .before .before .before .before .before .before .pre .0 .few; slots = c .before .before .before .before .before .before .before .before .before .before .before .before .before .pre .0 .slots; wide = omega (arith, c .before .before .before .before .before .before .before .before .before .before .before .before .before .pre .0 .wide, c .before .before .before .before .before .apply-unary .kept .1 .1 .0); counted = c .before .before .before .before .before .before .before .before .before .before .before .before .before .pre .0 .counted }) _ stack tall stacked enough _ refl _ (c .before .before .before .before .before .apply-unary .ensures) _ (c .before .answer2 .given .1) _ refl
+    one-refused sheet ok (c .before .before .before .before .before .before .before .before .before .before .before .before .before .before .args .work .now) _ (c .before .before .before .before .before .before .before .before .before .before .before .before .before .before .args .counts .now) _ _ (record { low = c .before .before .before .before .before .before .before .before .before .before .before .before .before .before .pre .0 .low; few = c .before .before .before .before .before .before .before .before .before .before .before .before .before .before .pre .0 .few; slots = c .before .before .before .before .before .before .before .before .before .before .before .before .before .before .pre .0 .slots; wide = omega (arith, c .before .before .before .before .before .before .before .before .before .before .before .before .before .before .pre .0 .wide, c .before .before .before .before .before .before .apply-unary .kept .1 .1 .0); counted = c .before .before .before .before .before .before .before .before .before .before .before .before .before .before .pre .0 .counted }) _ stack tall stacked enough _ refl _ (part-done _ _ _ _ (c .before .before .before .before .before .before .apply-unary .ensures) (c .before .before .before .part-answer .ensures)) _ (c .before .answer2 .given .1) _ refl
 
 pub on-one-spec : {M : Type 1} → statement M
 on-one-spec =
@@ -88,6 +92,7 @@ on-one-spec =
     part-apply-unary-start
     part-apply-unary-end
     apply-unary-requires
+    part-answer-requires
     enum-known-answer
     put-list-requires
     enum-known-answer-2

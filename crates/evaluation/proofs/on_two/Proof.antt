@@ -2,6 +2,7 @@
 use native.Mathlib.Omega.{arith}
 use mathlib.Core.Path.{_≡_, refl, sym, _∙_}
 use Rattle.evaluation.proofs.Stepping.{two-fits, two-accepted, answer-short, two-counted, two-refused}
+use Rattle.evaluation.proofs.Applying.{part-done}
 use borrow.Author.Needs.{needs}
 use Rattle.evaluation.proofs.on_two.Statement.{statement}
 use Rattle.evaluation.proofs.on_two.Tie as tie
@@ -69,13 +70,16 @@ part-apply-binary-end-2 c = omega (arith, two-fits _ _ _ _ _ (c .before .before 
 apply-binary-requires : tie.Need-apply-binary-requires
 apply-binary-requires c κs = let a = two-accepted _ _ _ _ _ (c .before .before .before .before .before .before .before .before .before .pre .0) _ _ (c .before .before .before .before .before .before .before .before .before .pre .1 .2) in (c .before .before .before .before .before .before .before .before .before .pre .0 .wide, a .0, a .1)
 
+part-answer-requires : tie.Need-part-answer-requires
+part-answer-requires c κs = search needs
+
 enum-known-answer : tie.Need-enum-known-answer
 enum-known-answer c = search needs
 
 put-list-requires : tie.Need-put-list-requires
-put-list-requires c κs = let short = answer-short _ _ _ _ (c .before .before .before .before .before .before .before .apply-binary .ensures) (c .before .before .before .answer .given .1) in
-    let fits = two-fits _ _ _ _ _ (c .before .before .before .before .before .before .before .before .before .before .before .before .before .before .before .before .before .pre .0) _ _ (c .before .before .before .before .before .before .before .before .before .before .before .before .before .before .before .before .before .pre .1 .2) in
-    (omega (arith, c .before .before .before .before .before .before .before .before .before .before .before .before .before .before .before .before .before .pre .0 .low, c .before .before .before .before .before .before .before .before .before .before .before .before .before .before .before .before .before .pre .0 .few, c .before .before .before .before .before .before .before .before .before .before .before .before .before .before .before .before .before .pre .0 .slots), omega (arith, c .before .before .before .before .before .before .before .before .before .before .before .before .before .before .before .before .before .pre .0 .wide, c .before .before .before .before .before .before .before .apply-binary .kept .1 .1 .1 .0))
+put-list-requires c κs = let short = answer-short _ _ _ _ (part-done _ _ _ _ (c .before .before .before .before .before .before .before .before .apply-binary .ensures) (c .before .before .before .before .before .part-answer .ensures)) (c .before .before .before .answer .given .1) in
+    let fits = two-fits _ _ _ _ _ (c .before .before .before .before .before .before .before .before .before .before .before .before .before .before .before .before .before .before .pre .0) _ _ (c .before .before .before .before .before .before .before .before .before .before .before .before .before .before .before .before .before .before .pre .1 .2) in
+    (omega (arith, c .before .before .before .before .before .before .before .before .before .before .before .before .before .before .before .before .before .before .pre .0 .low, c .before .before .before .before .before .before .before .before .before .before .before .before .before .before .before .before .before .before .pre .0 .few, c .before .before .before .before .before .before .before .before .before .before .before .before .before .before .before .before .before .before .pre .0 .slots), omega (arith, c .before .before .before .before .before .before .before .before .before .before .before .before .before .before .before .before .before .before .pre .0 .wide, c .before .before .before .before .before .before .before .before .apply-binary .kept .1 .1 .1 .0))
 
 enum-known-answer-2 : tie.Need-enum-known-answer-2
 enum-known-answer-2 c = search needs
@@ -87,7 +91,7 @@ same-length-2 : tie.Need-same-length-2
 same-length-2 c = search needs
 
 returns : tie.Need-returns
-returns c = λ sheet ok stack tall stacked enough known. two-counted sheet ok (c .before .before .before .before .before .before .before .before .before .before .before .before .before .before .before .before .before .before .before .before .args .work .now) _ (c .before .before .before .before .before .before .before .before .before .before .before .before .before .before .before .before .before .before .before .before .args .counts .now) _ _ (record { low = c .before .before .before .before .before .before .before .before .before .before .before .before .before .before .before .before .before .before .before .before .pre .0 .low; few = c .before .before .before .before .before .before .before .before .before .before .before .before .before .before .before .before .before .before .before .before .pre .0 .few; slots = c .before .before .before .before .before .before .before .before .before .before .before .before .before .before .before .before .before .before .before .before .pre .0 .slots; wide = omega (arith, c .before .before .before .before .before .before .before .before .before .before .before .before .before .before .before .before .before .before .before .before .pre .0 .wide, c .before .before .before .before .before .before .before .before .before .before .apply-binary .kept .1 .1 .1 .0); counted = c .before .before .before .before .before .before .before .before .before .before .before .before .before .before .before .before .before .before .before .before .pre .0 .counted }) _ stack tall stacked enough _ _ refl refl _ (c .before .before .before .before .before .before .before .before .before .before .apply-binary .ensures) _ (c .before .before .before .before .before .before .answer .given .1) _ (c .before .before .put-list .ensures)
+returns c = λ sheet ok stack tall stacked enough known. two-counted sheet ok (c .before .before .before .before .before .before .before .before .before .before .before .before .before .before .before .before .before .before .before .before .before .args .work .now) _ (c .before .before .before .before .before .before .before .before .before .before .before .before .before .before .before .before .before .before .before .before .before .args .counts .now) _ _ (record { low = c .before .before .before .before .before .before .before .before .before .before .before .before .before .before .before .before .before .before .before .before .before .pre .0 .low; few = c .before .before .before .before .before .before .before .before .before .before .before .before .before .before .before .before .before .before .before .before .before .pre .0 .few; slots = c .before .before .before .before .before .before .before .before .before .before .before .before .before .before .before .before .before .before .before .before .before .pre .0 .slots; wide = omega (arith, c .before .before .before .before .before .before .before .before .before .before .before .before .before .before .before .before .before .before .before .before .before .pre .0 .wide, c .before .before .before .before .before .before .before .before .before .before .before .apply-binary .kept .1 .1 .1 .0); counted = c .before .before .before .before .before .before .before .before .before .before .before .before .before .before .before .before .before .before .before .before .before .pre .0 .counted }) _ stack tall stacked enough _ _ refl refl _ (part-done _ _ _ _ (c .before .before .before .before .before .before .before .before .before .before .before .apply-binary .ensures) (c .before .before .before .before .before .before .before .before .part-answer .ensures)) _ (c .before .before .before .before .before .before .answer .given .1) _ (c .before .before .put-list .ensures)
 
 same-length-3 : tie.Need-same-length-3
 same-length-3 c = search needs
@@ -96,7 +100,7 @@ same-length-4 : tie.Need-same-length-4
 same-length-4 c = search needs
 
 returns-2 : tie.Need-returns-2
-returns-2 c = λ sheet ok stack tall stacked enough known. two-refused sheet ok (c .before .before .before .before .before .before .before .before .before .before .before .before .before .before .before .args .work .now) _ (c .before .before .before .before .before .before .before .before .before .before .before .before .before .before .before .args .counts .now) _ _ (record { low = c .before .before .before .before .before .before .before .before .before .before .before .before .before .before .before .pre .0 .low; few = c .before .before .before .before .before .before .before .before .before .before .before .before .before .before .before .pre .0 .few; slots = c .before .before .before .before .before .before .before .before .before .before .before .before .before .before .before .pre .0 .slots; wide = omega (arith, c .before .before .before .before .before .before .before .before .before .before .before .before .before .before .before .pre .0 .wide, c .before .before .before .before .before .apply-binary .kept .1 .1 .1 .0); counted = c .before .before .before .before .before .before .before .before .before .before .before .before .before .before .before .pre .0 .counted }) _ stack tall stacked enough _ _ refl refl _ (c .before .before .before .before .before .apply-binary .ensures) _ (c .before .answer2 .given .1) _ refl
+returns-2 c = λ sheet ok stack tall stacked enough known. two-refused sheet ok (c .before .before .before .before .before .before .before .before .before .before .before .before .before .before .before .before .args .work .now) _ (c .before .before .before .before .before .before .before .before .before .before .before .before .before .before .before .before .args .counts .now) _ _ (record { low = c .before .before .before .before .before .before .before .before .before .before .before .before .before .before .before .before .pre .0 .low; few = c .before .before .before .before .before .before .before .before .before .before .before .before .before .before .before .before .pre .0 .few; slots = c .before .before .before .before .before .before .before .before .before .before .before .before .before .before .before .before .pre .0 .slots; wide = omega (arith, c .before .before .before .before .before .before .before .before .before .before .before .before .before .before .before .before .pre .0 .wide, c .before .before .before .before .before .before .apply-binary .kept .1 .1 .1 .0); counted = c .before .before .before .before .before .before .before .before .before .before .before .before .before .before .before .before .pre .0 .counted }) _ stack tall stacked enough _ _ refl refl _ (part-done _ _ _ _ (c .before .before .before .before .before .before .apply-binary .ensures) (c .before .before .before .part-answer .ensures)) _ (c .before .answer2 .given .1) _ refl
 
 pub on-two-spec : {M : Type 1} → statement M
 on-two-spec =
@@ -123,6 +127,7 @@ on-two-spec =
     part-apply-binary-start-2
     part-apply-binary-end-2
     apply-binary-requires
+    part-answer-requires
     enum-known-answer
     put-list-requires
     enum-known-answer-2

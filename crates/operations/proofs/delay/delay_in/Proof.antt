@@ -27,7 +27,7 @@ same-length c = search needs
 
 returns-3 : tie.Need-returns-3
 returns-3 c = slot-built _ _ _ _ _ _ (sym (c .before .before .before .before .before .before .before .delay-fault .ensures) ∙ c .before .before .before .before .before .before .if1 .left) (c .before .before .before .before .before .if2 .left) (c .before .before .before .run .ensures)
-    (c .finish .ensures _ _ _ (c .before .before .before .before .before .if2 .left) (c .before .before .before .run .ensures))
+    (c .finish .ensures _ _ _ (c .before .before .before .run .ensures))
 
 pub delay-in-spec : {M : Type 1} → statement M
 delay-in-spec =
