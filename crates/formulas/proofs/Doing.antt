@@ -11,8 +11,7 @@ use lib.Seq.{take-suc-set}
 use borrow.Author.Tests.{eqb-true}
 use Rattle.formulas.specs.Grammar.{isDigit}
 use Rattle.formulas.specs.Reader.{State, next, bad, stepped, expect, put, passLength}
-use Rattle.formulas.specs.Marks.{viewOf, nextMark, movedMark, expectMark, lengthMark, putMark, putCode, Ready, Done}
-use Rattle.formulas.specs.declared.mark.Mark.{Mark}
+use Rattle.formulas.specs.Marks.{Mark, viewOf, nextMark, movedMark, expectMark, lengthMark, putMark, putCode, Ready, Done}
 use Rattle.formulas.proofs.Bytes.{by-cond, never}
 use Rattle.formulas.proofs.Standing.{state-eq}
 use Rattle.formulas.proofs.Carried.{both-ways}

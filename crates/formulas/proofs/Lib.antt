@@ -14,6 +14,7 @@ pub mod Segments
 pub mod Writing
 pub mod Carried
 pub mod Coding
+pub mod Lending
 pub mod Marking
 pub mod Doing
 pub mod LeafPaths

@@ -12,8 +12,7 @@ use Rattle.signals.specs.Moment.{M}
 use Rattle.formulas.specs.Grammar.{value, valueFrom}
 use Rattle.formulas.specs.Reader.{run, valueBetween}
 use Rattle.formulas.specs.Formula.{capped}
-use Rattle.formulas.specs.Marks.{nextMark}
-use Rattle.formulas.specs.declared.mark.Mark.{Mark}
+use Rattle.formulas.specs.Marks.{Mark, nextMark}
 use Rattle.formulas.proofs.Writing.{value-more}
 
 -- a byte above 0 is next: all is well and the end is not reached

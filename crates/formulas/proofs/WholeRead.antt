@@ -2,27 +2,47 @@
 use Prim.Native.Nat.{ℕ, _+_, _*_, _≤_, _<_}
 use native.Mathlib.Omega.{arith}
 use native.Mathlib.Decide.{decLt}
-use mathlib.Core.Path.{_≡_, refl, sym, ap, _∙_}
+use mathlib.Core.Path.{_≡_, refl, sym, ap, _∙_, subst}
 use mathlib.Core.Bool.{Bool, true, false, cond, not, _&&_, _||_}
-use mathlib.Core.List.{List}
+use mathlib.Core.List.{List, [], _∷_}
 use lib.Dec.{ltb, eqb}
-use lib.ListN.{length, take, length-map}
-use lib.Seq.{length-take-le, sets}
+use lib.ListN.{length, take, drop, length-map}
+use lib.Seq.{length-take-le, take-append-seam, sets, length-sets}
 use borrow.Author.Tests.{eq-eqb, ne-eqb, lt-ltb, le-ltb}
 use Rattle.signals.specs.Moment.{M}
 use Rattle.signals.specs.Answers.{writtenOf}
 use Rattle.signals.specs.declared.Written.the-variants as written
 use Rattle.formulas.specs.Reader.{State, readText}
 use Rattle.formulas.specs.Formula.{spelled, coded, capped, partOf, accepted, partsOf, depthOf, longestOf, formulaFault, codeOf, codeAfter}
-use Rattle.formulas.specs.Marks.{viewOf, Ready, SumRead, markFault}
-use Rattle.formulas.specs.declared.mark.Mark.{Mark}
+use Rattle.formulas.specs.Marks.{Mark, markOf, viewOf, Ready, SumRead, Begun, markFault}
 use Rattle.formulas.proofs.Coding.{coded-run, cutPart}
+use Rattle.formulas.proofs.Storing.{sets-front}
 
 abbrev pub first : Mark
 first = record { ok = true; at = 0; parts = 0; deepest = 0; longest = 0 }
 
 pub ready-first : (text old : List ℕ) → length text ≤ 1024 → length old ≡ 1024 → Ready text old first 0
 ready-first text old h r = record { short = h; room = r; within = omega arith; fewer = omega arith; opened = omega arith }
+
+-- a text that was laid on a page is the page's front
+laid : (text blank : List ℕ) {page : List ℕ} → page ≡ sets blank 0 text → length text ≤ length blank → take (length text) page ≡ text
+laid text blank e h = rw (e, sets-front text blank h) (take-append-seam text (drop (length text) blank))
+
+-- at the first byte, the words of the mark and a page with the text on it
+abbrev begin : List ℕ
+begin = 1 ∷ 0 ∷ 0 ∷ 0 ∷ 0 ∷ []
+
+pub begun : (text blank : List ℕ) {page words : List ℕ} → page ≡ sets blank 0 text → length blank ≡ 1024 → length text ≤ 1024 → length words ≡ 1024 → Begun page (length text) words begin 0
+unfolding markOf
+begun text blank {page} {words} e b h w = (
+  record { whole = ap length e ∙ length-sets blank 0 text ∙ b; first = h; five = refl },
+  subst (λ (t : List ℕ). Ready t words first 0) (sym (laid text blank e (omega arith))) (ready-first text words h w),
+)
+
+pub as-laid : (text blank : List ℕ) {page old new : List ℕ} {m : Mark} → page ≡ sets blank 0 text → length blank ≡ 1024 → length text ≤ 1024 →
+    SumRead (take (length text) page) 0 (markOf begin) old new m → SumRead text 0 first old new m
+unfolding markOf
+as-laid text blank {page} {old} {new} {m} e b h d = subst (λ (t : List ℕ). SumRead t 0 first old new m) (laid text blank e (omega arith)) d
 
 capped-over : (n : ℕ) → ltb M (capped n) ≡ ltb M n
 unfolding capped

@@ -9,7 +9,27 @@ use Rattle.signals.specs.Moment.{M}
 use Rattle.formulas.specs.Grammar.{isDigit, isNameByte}
 use Rattle.formulas.specs.Formula.{coded}
 use Rattle.formulas.specs.Reader.{State, run, leafAt, sumAt, sumsAt, productAt, productsAt, factorAt, latchAt, timerAt}
-use Rattle.formulas.specs.declared.mark.Mark.{Mark}
+
+-- whether all is well, the bytes passed, the parts put out, and the largest depth and length of a part
+pub record Mark : Type 0 where
+  pub ok : Bool
+  pub at : ℕ
+  pub parts : ℕ
+  pub deepest : ℕ
+  pub longest : ℕ
+
+-- the mark that five words hold
+unfoldable pub markOf : List ℕ → Mark
+markOf m = record { ok = eqb (getD m 0 0) 1; at = getD m 1 0; parts = getD m 2 0; deepest = getD m 3 0; longest = getD m 4 0 }
+
+abbrev pub Marked : List ℕ → Mark → Type 0
+Marked m x = (length m ≡ 5) × (markOf m ≡ x)
+
+-- a text lent as the first bytes of 1,024, and the words of a mark
+pub record Lent (page : List ℕ) (bytes : ℕ) (m : List ℕ) : Type 0 where
+  pub whole : length page ≡ 1024
+  pub first : bytes ≤ 1024
+  pub five : length m ≡ 5
 
 -- the state that a mark and the code words put out are
 abbrev pub viewOf : Mark → List ℕ → State ℕ
@@ -83,6 +103,13 @@ LatchRead text kind deep m old new r = Done (λ n. latchAt coded text n kind dee
 
 abbrev pub TimerRead : List ℕ → ℕ → ℕ → Mark → List ℕ → List ℕ → Mark → Type 0
 TimerRead text kind deep m old new r = Done (λ n. timerAt coded text n kind deep) 5 text m old new r
+
+-- the same where the text and the marks are lent
+abbrev pub Begun : List ℕ → ℕ → List ℕ → List ℕ → ℕ → Type 0
+Begun page bytes code m deep = (Lent page bytes m) × (Ready (take bytes page) code (markOf m) deep)
+
+abbrev pub Left : (Mark → List ℕ → List ℕ → Mark → Type 0) → List ℕ → List ℕ → List ℕ → List ℕ → Type 0
+Left R m old new r = (length r ≡ 5) × (R (markOf m) old new (markOf r))
 
 -- the fault of a text of so many bytes whose reading ended at the mark
 unfoldable pub markFault : Mark → ℕ → ℕ

@@ -9,44 +9,55 @@ ghost use lib.ListN.{length, take};
 ghost use lib.Seq.{sets};
 ghost use Rattle.signals.specs.Answers.{writtenOf};
 ghost use Rattle.formulas.specs.Formula.{formulaFault, codeOf, codeAfter};
-ghost use Rattle.formulas.specs.Marks.{markFault};
-use mark::Mark;
+ghost use Rattle.formulas.specs.Marks.{markOf, markFault};
+use mark::AT;
+use mark::DEEPEST;
+use mark::LONGEST;
+use mark::OK;
+use mark::PARTS;
 use signals::Written;
 
-// The most bytes that a formula has, the most parts and the largest depth.
-const BYTES: usize = 1024;
+// The most bytes that a formula has, the most parts, the largest depth, and M, the largest length.
+const MOST_BYTES: usize = 1024;
 
-const PARTS: usize = 32;
+const MOST_PARTS: usize = 32;
 
-const DEPTH: usize = 16;
+const MOST_DEPTH: usize = 16;
 
-// M, the largest length.
-const LONGEST: usize = signals::M as usize;
+const MOST_LENGTH: usize = signals::M as usize;
 
 // The fault of a text of so many bytes that was read up to the mark: 11, 8, 12, 0 for none.
-fn fault_of(m: Mark, bytes: usize) -> u32
-    ensures { λ r. ⌜ r ≡ markFault m bytes ⌝ }
+fn fault_of(m: &[usize; 5], bytes: usize) -> u32
+    ensures { λ r. ⌜ r ≡ markFault (markOf (now (m .entry))) bytes ⌝ }
 {
-    let at = m.at;
-    let parts = m.parts;
-    let deepest = m.deepest;
-    let longest = m.longest;
-    if m.ok {
-        if at < bytes {
+    if m[OK] == 1 {
+        if m[AT] < bytes {
             return 11;
         }
-        if LONGEST < longest {
+        if MOST_LENGTH < m[LONGEST] {
             return 8;
         }
-        if PARTS < parts {
+        if MOST_PARTS < m[PARTS] {
             return 12;
         }
-        if DEPTH < deepest {
+        if MOST_DEPTH < m[DEEPEST] {
             return 12;
         }
         return 0;
     }
     11
+}
+
+// Copies the text to the front of the page.
+fn lay(text: &[u8], page: &mut [u8; 1024])
+    requires { ⌜ length (now text) ≤ 1024 ⌝ }
+    ensures { λ _. ⌜ now (page .exit) ≡ sets (now (page .entry)) 0 (now (text .entry)) ⌝ }
+{
+    let mut i = 0;
+    while i < text.len() {
+        page[i] = text[i];
+        i += 1;
+    }
 }
 
 // Copies the first words.
@@ -69,21 +80,18 @@ pub fn read(text: &[u8], code: &mut [u64; 32]) -> Written
     if bytes == 0 {
         return Written::Refused(10);
     }
-    if BYTES < bytes {
+    if MOST_BYTES < bytes {
         return Written::Refused(10);
     }
+    let mut page = [0u8; 1024];
+    lay(text, &mut page);
     let mut words = [0u64; 1024];
-    let start = Mark {
-        ok: true,
-        at: 0,
-        parts: 0,
-        deepest: 0,
-        longest: 0,
-    };
-    let m = reader::sum(text, &mut words, start, 0);
-    let fault = fault_of(m, bytes);
+    let mut m = [0usize; 5];
+    m[OK] = 1;
+    reader::sum(&page, bytes, &mut words, &mut m, 0);
+    let fault = fault_of(&m, bytes);
     if fault == 0 {
-        let parts = m.parts;
+        let parts = m[PARTS];
         copy(&words, parts, code);
         return Written::Count(parts);
     }

@@ -1,13 +1,13 @@
 // Sum, product and factor readers that call each other: the rest of a chain, a latch and a timer are readers of their own.
-ghost use mathlib.Core.Path.{_≡_};
 ghost use Prim.Native.Nat.{_+_, _<_};
-ghost use Rattle.formulas.specs.Marks.{Ready, LeafRead, SumRead, SumsRead, ProductRead, ProductsRead, FactorRead, LatchRead, TimerRead};
+ghost use lib.ListN.{take};
+ghost use Rattle.formulas.specs.Marks.{Begun, Left, LeafRead, SumRead, SumsRead, ProductRead, ProductsRead, FactorRead, LatchRead, TimerRead};
 use crate::kind;
-use crate::mark::Mark;
-use crate::mark::bad;
+use crate::mark::AT;
 use crate::mark::expect;
+use crate::mark::fail;
 use crate::mark::is_lower;
-use crate::mark::moved;
+use crate::mark::move_to;
 use crate::mark::next;
 use crate::mark::pass_length;
 use crate::mark::prefix_kind;
@@ -16,136 +16,182 @@ use crate::mark::run_end;
 use crate::mark::ticks;
 
 // 0, 1 or a name.
-fn leaf(text: &[u8], code: &mut [u64; 1024], m: Mark, deep: usize) -> Mark
-    requires { ⌜ Ready (now text) (now code) m deep ⌝ }
-    ensures { λ r. ⌜ LeafRead (now (text .entry)) deep m (now (code .entry)) (now (code .exit)) r ⌝ }
+fn leaf(text: &[u8; 1024], bytes: usize, code: &mut [u64; 1024], m: &mut [usize; 5], deep: usize)
+    requires { ⌜ Begun (now text) bytes (now code) (now m) deep ⌝ }
+    ensures { λ _. ⌜ Left (LeafRead (take bytes (now (text .entry))) deep) (now (m .entry)) (now (code .entry)) (now (code .exit)) (now (m .exit)) ⌝ }
 {
-    let at = m.at;
-    let b = next(text, m);
+    let at = m[AT];
+    let b = next(text, bytes, m);
     if b == b'0' {
-        return put(code, moved(m, at + 1), kind::DOWN, deep, 0);
+        move_to(m, at + 1);
+        put(code, m, kind::DOWN, deep, 0);
+        return;
     }
     if b == b'1' {
-        return put(code, moved(m, at + 1), kind::UP, deep, 0);
+        move_to(m, at + 1);
+        put(code, m, kind::UP, deep, 0);
+        return;
     }
     if is_lower(b) {
-        let end = run_end(text, at, true);
+        let end = run_end(text, bytes, at, true);
         let count = end - at;
         if count <= 8 {
             let word = (at as u64 * 16 + count as u64) * 16 + kind::NAME;
-            return put(code, moved(m, end), word, deep, 0);
+            move_to(m, end);
+            put(code, m, word, deep, 0);
+            return;
         }
-        return bad(m);
+        fail(m);
+        return;
     }
-    bad(m)
+    fail(m);
 }
 
 // sum = product {"+" product}
-pub(crate) fn sum(text: &[u8], code: &mut [u64; 1024], m: Mark, deep: usize) -> Mark
-    requires { ⌜ Ready (now text) (now code) m deep ⌝ }
-    ensures { λ r. ⌜ SumRead (now (text .entry)) deep m (now (code .entry)) (now (code .exit)) r ⌝ }
+pub(crate) fn sum(
+    text: &[u8; 1024],
+    bytes: usize,
+    code: &mut [u64; 1024],
+    m: &mut [usize; 5],
+    deep: usize,
+)
+    requires { ⌜ Begun (now text) bytes (now code) (now m) deep ⌝ }
+    ensures { λ _. ⌜ Left (SumRead (take bytes (now (text .entry))) deep) (now (m .entry)) (now (code .entry)) (now (code .exit)) (now (m .exit)) ⌝ }
 {
-    let first = product(text, code, m, deep);
-    sums(text, code, first, deep)
+    product(text, bytes, code, m, deep);
+    sums(text, bytes, code, m, deep);
 }
 
 // {"+" product}
-fn sums(text: &[u8], code: &mut [u64; 1024], m: Mark, deep: usize) -> Mark
-    requires { ⌜ Ready (now text) (now code) m deep ⌝ }
-    ensures { λ r. ⌜ SumsRead (now (text .entry)) deep m (now (code .entry)) (now (code .exit)) r ⌝ }
+fn sums(text: &[u8; 1024], bytes: usize, code: &mut [u64; 1024], m: &mut [usize; 5], deep: usize)
+    requires { ⌜ Begun (now text) bytes (now code) (now m) deep ⌝ }
+    ensures { λ _. ⌜ Left (SumsRead (take bytes (now (text .entry))) deep) (now (m .entry)) (now (code .entry)) (now (code .exit)) (now (m .exit)) ⌝ }
 {
-    if next(text, m) == b'+' {
-        let at = m.at;
-        let operand = product(text, code, moved(m, at + 1), deep);
-        let both = put(code, operand, kind::OR, deep, 0);
-        return sums(text, code, both, deep);
+    if next(text, bytes, m) == b'+' {
+        let at = m[AT];
+        move_to(m, at + 1);
+        product(text, bytes, code, m, deep);
+        put(code, m, kind::OR, deep, 0);
+        sums(text, bytes, code, m, deep);
     }
-    m
 }
 
 // product = factor {"." factor}
-fn product(text: &[u8], code: &mut [u64; 1024], m: Mark, deep: usize) -> Mark
-    requires { ⌜ Ready (now text) (now code) m deep ⌝ }
-    ensures { λ r. ⌜ ProductRead (now (text .entry)) deep m (now (code .entry)) (now (code .exit)) r ⌝ }
+fn product(text: &[u8; 1024], bytes: usize, code: &mut [u64; 1024], m: &mut [usize; 5], deep: usize)
+    requires { ⌜ Begun (now text) bytes (now code) (now m) deep ⌝ }
+    ensures { λ _. ⌜ Left (ProductRead (take bytes (now (text .entry))) deep) (now (m .entry)) (now (code .entry)) (now (code .exit)) (now (m .exit)) ⌝ }
 {
-    let first = factor(text, code, m, deep);
-    products(text, code, first, deep)
+    factor(text, bytes, code, m, deep);
+    products(text, bytes, code, m, deep);
 }
 
 // {"." factor}
-fn products(text: &[u8], code: &mut [u64; 1024], m: Mark, deep: usize) -> Mark
-    requires { ⌜ Ready (now text) (now code) m deep ⌝ }
-    ensures { λ r. ⌜ ProductsRead (now (text .entry)) deep m (now (code .entry)) (now (code .exit)) r ⌝ }
+fn products(
+    text: &[u8; 1024],
+    bytes: usize,
+    code: &mut [u64; 1024],
+    m: &mut [usize; 5],
+    deep: usize,
+)
+    requires { ⌜ Begun (now text) bytes (now code) (now m) deep ⌝ }
+    ensures { λ _. ⌜ Left (ProductsRead (take bytes (now (text .entry))) deep) (now (m .entry)) (now (code .entry)) (now (code .exit)) (now (m .exit)) ⌝ }
 {
-    if next(text, m) == b'.' {
-        let at = m.at;
-        let operand = factor(text, code, moved(m, at + 1), deep);
-        let both = put(code, operand, kind::AND, deep, 0);
-        return products(text, code, both, deep);
+    if next(text, bytes, m) == b'.' {
+        let at = m[AT];
+        move_to(m, at + 1);
+        factor(text, bytes, code, m, deep);
+        put(code, m, kind::AND, deep, 0);
+        products(text, bytes, code, m, deep);
     }
-    m
 }
 
 // factor = "!" factor, "^" factor, "~" factor, "(" sum ")", "0", "1", name, or a block
-fn factor(text: &[u8], code: &mut [u64; 1024], m: Mark, deep: usize) -> Mark
-    requires { ⌜ Ready (now text) (now code) m deep ⌝ }
-    ensures { λ r. ⌜ FactorRead (now (text .entry)) deep m (now (code .entry)) (now (code .exit)) r ⌝ }
+fn factor(text: &[u8; 1024], bytes: usize, code: &mut [u64; 1024], m: &mut [usize; 5], deep: usize)
+    requires { ⌜ Begun (now text) bytes (now code) (now m) deep ⌝ }
+    ensures { λ _. ⌜ Left (FactorRead (take bytes (now (text .entry))) deep) (now (m .entry)) (now (code .entry)) (now (code .exit)) (now (m .exit)) ⌝ }
 {
-    let at = m.at;
-    let b = next(text, m);
+    let at = m[AT];
+    let b = next(text, bytes, m);
     let prefix = prefix_kind(b);
     if 0 < prefix {
-        let operand = factor(text, code, moved(m, at + 1), deep + 1);
-        return put(code, operand, prefix, deep, 0);
+        move_to(m, at + 1);
+        factor(text, bytes, code, m, deep + 1);
+        put(code, m, prefix, deep, 0);
+        return;
     }
     if b == b'(' {
-        let inner = sum(text, code, moved(m, at + 1), deep + 1);
-        return expect(text, inner, b')');
+        move_to(m, at + 1);
+        sum(text, bytes, code, m, deep + 1);
+        expect(text, bytes, m, b')');
+        return;
     }
     if b == b'S' {
-        let named = expect(text, moved(m, at + 1), b'R');
-        return latch(text, code, named, kind::SR, deep);
+        move_to(m, at + 1);
+        expect(text, bytes, m, b'R');
+        latch(text, bytes, code, m, kind::SR, deep);
+        return;
     }
     if b == b'R' {
-        let named = expect(text, moved(m, at + 1), b'S');
-        return latch(text, code, named, kind::RS, deep);
+        move_to(m, at + 1);
+        expect(text, bytes, m, b'S');
+        latch(text, bytes, code, m, kind::RS, deep);
+        return;
     }
     if b == b'T' {
-        let letters = expect(text, moved(m, at + 1), b'O');
-        if next(text, letters) == b'N' {
-            let end = letters.at;
-            return timer(text, code, moved(letters, end + 1), kind::TON, deep);
+        move_to(m, at + 1);
+        expect(text, bytes, m, b'O');
+        if next(text, bytes, m) == b'N' {
+            let end = m[AT];
+            move_to(m, end + 1);
+            timer(text, bytes, code, m, kind::TON, deep);
+            return;
         }
-        let named = expect(text, letters, b'F');
-        return timer(text, code, named, kind::TOF, deep);
+        expect(text, bytes, m, b'F');
+        timer(text, bytes, code, m, kind::TOF, deep);
+        return;
     }
-    leaf(text, code, m, deep)
+    leaf(text, bytes, code, m, deep);
 }
 
 // (sum,sum), after SR or RS
-fn latch(text: &[u8], code: &mut [u64; 1024], m: Mark, part: u64, deep: usize) -> Mark
-    requires { ⌜ Ready (now text) (now code) m (deep + 1) ⌝ }
-    ensures { λ r. ⌜ LatchRead (now (text .entry)) part deep m (now (code .entry)) (now (code .exit)) r ⌝ }
+fn latch(
+    text: &[u8; 1024],
+    bytes: usize,
+    code: &mut [u64; 1024],
+    m: &mut [usize; 5],
+    part: u64,
+    deep: usize,
+)
+    requires { ⌜ Begun (now text) bytes (now code) (now m) (deep + 1) ⌝ }
+    ensures { λ _. ⌜ Left (LatchRead (take bytes (now (text .entry))) part deep) (now (m .entry)) (now (code .entry)) (now (code .exit)) (now (m .exit)) ⌝ }
 {
-    let first = sum(text, code, expect(text, m, b'('), deep + 1);
-    let second = sum(text, code, expect(text, first, b','), deep + 1);
-    put(code, expect(text, second, b')'), part, deep, 0)
+    expect(text, bytes, m, b'(');
+    sum(text, bytes, code, m, deep + 1);
+    expect(text, bytes, m, b',');
+    sum(text, bytes, code, m, deep + 1);
+    expect(text, bytes, m, b')');
+    put(code, m, part, deep, 0);
 }
 
 // (length,sum), after TON or TOF
-fn timer(text: &[u8], code: &mut [u64; 1024], m: Mark, part: u64, deep: usize) -> Mark
-    requires { ⌜ (Ready (now text) (now code) m (deep + 1)) × (part < 16) ⌝ }
-    ensures { λ r. ⌜ TimerRead (now (text .entry)) part deep m (now (code .entry)) (now (code .exit)) r ⌝ }
+fn timer(
+    text: &[u8; 1024],
+    bytes: usize,
+    code: &mut [u64; 1024],
+    m: &mut [usize; 5],
+    part: u64,
+    deep: usize,
+)
+    requires { ⌜ (Begun (now text) bytes (now code) (now m) (deep + 1)) × (part < 16) ⌝ }
+    ensures { λ _. ⌜ Left (TimerRead (take bytes (now (text .entry))) part deep) (now (m .entry)) (now (code .entry)) (now (code .exit)) (now (m .exit)) ⌝ }
 {
-    let opened = expect(text, m, b'(');
-    let passed = pass_length(text, opened);
-    let n = ticks(text, opened.at, passed.at);
-    let operand = sum(text, code, expect(text, passed, b','), deep + 1);
-    put(
-        code,
-        expect(text, operand, b')'),
-        n as u64 * 16 + part,
-        deep,
-        n,
-    )
+    expect(text, bytes, m, b'(');
+    let from = m[AT];
+    pass_length(text, bytes, m);
+    let to = m[AT];
+    let n = ticks(text, from, to);
+    expect(text, bytes, m, b',');
+    sum(text, bytes, code, m, deep + 1);
+    expect(text, bytes, m, b')');
+    put(code, m, n as u64 * 16 + part, deep, n);
 }

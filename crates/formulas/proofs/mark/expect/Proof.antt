@@ -2,8 +2,10 @@
 use borrow.Author.Needs.{needs}
 use borrow.Author.Tests.{eq-eqb, ne-eqb}
 use native.Mathlib.Omega.{arith}
-use mathlib.Core.Path.{sym, _∙_}
-use Rattle.formulas.specs.Marks.{nextMark, expectMark}
+use mathlib.Core.Path.{sym, ap, _∙_}
+use lib.ListN.{take}
+use lib.Seq.{length-take-le}
+use Rattle.formulas.specs.Marks.{Mark, markOf, nextMark, expectMark, movedMark}
 use Rattle.formulas.proofs.Marking.{inside}
 use Rattle.formulas.proofs.mark.expect.Statement.{statement}
 use Rattle.formulas.proofs.mark.expect.Tie as tie
@@ -11,29 +13,38 @@ use Rattle.formulas.proofs.mark.expect.Tie as tie
 next-requires : tie.Need-next-requires
 next-requires c κs = search needs
 
-add-moved : tie.Need-add-moved
-add-moved c =
-    let a = c .before .before .before .args in
-    let i = inside (a .text .now) (a .m) (a .b) (sym (c .before .next .ensures) ∙ c .if1 .taken) (c .before .before .before .pre) in
-    omega (arith, i .before, c .before .before .before .good)
+element-copy-out-at : tie.Need-element-copy-out-at
+element-copy-out-at c = search needs
 
-moved-requires : tie.Need-moved-requires
-moved-requires c κs = search needs
+add-move-to : tie.Need-add-move-to
+unfolding markOf
+add-move-to c =
+    let n = c .before .before .before in
+    let s = n .before .before in
+    let a = s .args in
+    let l = length-take-le (a .bytes) (a .text .now) (omega (arith, s .pre .0 .whole, s .pre .0 .first)) in
+    let i = inside (take (a .bytes) (a .text .now)) (markOf (a .m .now)) (a .b) (sym (n .next .ensures) ∙ c .before .before .if1 .taken) (s .pre .1) in
+    omega (arith, i .before, l, s .pre .0 .first)
+
+move-to-requires : tie.Need-move-to-requires
+move-to-requires c κs = search needs
 
 returns : tie.Need-returns
-unfolding expectMark
+unfolding expectMark markOf
 returns c =
-    let a = c .before .before .before .before .args in
-    rw (eq-eqb (nextMark (a .text .now) (a .m)) (a .b) (sym (c .before .before .next .ensures) ∙ c .before .if1 .taken)) (c .moved .ensures)
+    let n = c .before .before .before .before in
+    let a = n .before .before .args in
+    rw (eq-eqb (nextMark (take (a .bytes) (a .text .now)) (markOf (a .m .now))) (a .b) (sym (n .next .ensures) ∙ c .before .before .before .if1 .taken)) (c .move-to .ensures)
 
-bad-requires : tie.Need-bad-requires
-bad-requires c κs = search needs
+fail-requires : tie.Need-fail-requires
+fail-requires c κs = search needs
 
 returns-2 : tie.Need-returns-2
 unfolding expectMark
 returns-2 c =
-    let a = c .before .before .before .before .args in
-    rw (ne-eqb (nextMark (a .text .now) (a .m)) (a .b) (λ e. c .before .if1 .left (c .before .before .next .ensures ∙ e))) (c .bad .ensures)
+    let n = c .before .before .before in
+    let a = n .before .before .args in
+    rw (ne-eqb (nextMark (take (a .bytes) (a .text .now)) (markOf (a .m .now))) (a .b) (λ e. c .before .before .if1 .left (n .next .ensures ∙ e))) (c .fail .ensures)
 
 pub expect-spec : {M : Type 1} → statement M
-expect-spec = tie.close (tie.spec next-requires add-moved moved-requires returns bad-requires returns-2)
+expect-spec = tie.close (tie.spec next-requires element-copy-out-at add-move-to move-to-requires returns fail-requires returns-2)

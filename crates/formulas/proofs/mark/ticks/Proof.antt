@@ -18,16 +18,16 @@ abbrev μ-loop : tie.MeasureT-loop
 μ-loop text from to n₀ i₀ n i = to - i
 
 loop-holds : tie.Need-loop-holds Inv-loop μ-loop
-loop-holds c = (omega arith, c .before .pre .0, value-none (c .before .args .text .now) (c .before .args .from))
+loop-holds c = (omega arith, c .pre .1, value-none (c .args .text .now) (c .args .from))
 
 mul-more : tie.Need-mul-more Inv-loop μ-loop
 mul-more c =
     let n = c .before .loop .n in
-    let a = c .before .before .before .args in
+    let a = c .before .before .args in
     omega (arith, capped-most n (valueBetween (a .text .now) (a .from) (c .before .loop .i)) (c .before .loop .inv .2))
 
-shared-slice-read-digit : tie.Need-shared-slice-read-digit Inv-loop μ-loop
-shared-slice-read-digit c = omega arith
+element-copy-out-digit : tie.Need-element-copy-out-digit Inv-loop μ-loop
+element-copy-out-digit c = omega (arith, c .loop-test .taken, c .before .before .pre .2)
 
 digit-requires : tie.Need-digit-requires Inv-loop μ-loop
 digit-requires c κs = search needs
@@ -35,16 +35,15 @@ digit-requires c κs = search needs
 add-more : tie.Need-add-more Inv-loop μ-loop
 add-more c =
     let l = c .before .before .before .loop in
-    let a = c .before .before .before .before .before .args in
+    let a = c .before .before .before .before .args in
     omega (
       arith,
       capped-most (l .n) (valueBetween (a .text .now) (a .from) (l .i)) (l .inv .2),
-      c .digit .ensures,
-      c .before .shared-slice-known2 .given (l .i),
+      c .digit .ensures .1,
     )
 
 add-i : tie.Need-add-i Inv-loop μ-loop
-add-i c = omega (arith, c .before .before .before .before .before .before .good, c .before .before .before .before .before .before .pre)
+add-i c = omega (arith, c .before .before .before .before .before .good, c .before .before .before .before .before .pre)
 
 loop-less : tie.Need-loop-less Inv-loop μ-loop
 loop-less c = omega arith
@@ -52,10 +51,10 @@ loop-less c = omega arith
 loop-again : tie.Need-loop-again Inv-loop μ-loop
 loop-again c =
     let l = c .before .before .before .before .loop in
-    let a = c .before .before .before .before .before .before .args in
+    let a = c .before .before .before .before .before .args in
     let d = c .before .digit .result in
     let v = valueBetween (a .text .now) (a .from) (l .i) in
-    let e : valueBetween (a .text .now) (a .from) (l .i + 1) ≡ v * 10 + d = value-next (a .text .now) (a .from) (l .i) (l .inv .0) (omega arith) ∙ ap (λ (x : ℕ). v * 10 + x) (sym (c .before .digit .ensures)) in
+    let e : valueBetween (a .text .now) (a .from) (l .i + 1) ≡ v * 10 + d = value-next (a .text .now) (a .from) (l .i) (l .inv .0) (omega (arith, c .before .before .before .loop-test .taken, c .before .before .before .before .before .pre)) ∙ ap (λ (x : ℕ). v * 10 + x) (sym (c .before .digit .ensures .0)) in
     let f : capped (l .n * 10 + d) ≡ capped (valueBetween (a .text .now) (a .from) (l .i + 1)) = capped-next (l .n) v d (l .inv .2) ∙ ap capped (sym e) in (
       omega arith,
       omega arith,
@@ -65,9 +64,9 @@ loop-again c =
 returns : tie.Need-returns Inv-loop μ-loop
 returns c =
     let l = c .before .loop in
-    let a = c .before .before .before .args in
+    let a = c .before .before .args in
     let e : l .i ≡ a .to = omega arith in
     l .inv .2 ∙ ap (λ (x : ℕ). capped (valueBetween (a .text .now) (a .from) x)) e
 
 pub ticks-spec : {M : Type 1} → statement M
-ticks-spec = tie.close (tie.spec Inv-loop μ-loop loop-holds mul-more shared-slice-read-digit digit-requires add-more add-i loop-less loop-again returns)
+ticks-spec = tie.close (tie.spec Inv-loop μ-loop loop-holds mul-more element-copy-out-digit digit-requires add-more add-i loop-less loop-again returns)

@@ -4,10 +4,12 @@ use Prim.Native.Nat.{ℕ, _+_, _*_, _-_, _<_}
 use native.Mathlib.Omega.{arith}
 use borrow.Author.Tests.{ne-eqb}
 use mathlib.Core.Path.{sym, ap, _∙_}
-use lib.ListN.{length}
+use lib.ListN.{length, take}
 use borrow.Author.Needs.{needs}
-use Rattle.formulas.specs.declared.mark.Mark.{Mark}
+use Rattle.formulas.specs.Formula.{capped}
+use Rattle.formulas.specs.Marks.{Mark, markOf}
 use Rattle.formulas.proofs.Marking.{capped-most}
+use Rattle.formulas.proofs.Lending.{lent-on, text-long, value-front}
 use Rattle.formulas.proofs.Doing.{passed, inner-needs}
 use Rattle.formulas.proofs.ReaderPaths as paths
 use Rattle.formulas.proofs.ReaderChains as chains
@@ -36,7 +38,7 @@ use Rattle.formulas.proofs.reader.timer.Reads as timer
 use Rattle.formulas.proofs.reader.timer.Kinds as timer-kinds
 use Rattle.formulas.proofs.reader.+factor+latch+product+products+sum+sums+timer.Lts-timer as timer-lts
 use Rattle.formulas.proofs.mark.expect.Reads as expect-reads
-use Rattle.formulas.proofs.mark.moved.Reads as moved-reads
+use Rattle.formulas.proofs.mark.move_to.Reads as move-to-reads
 use Rattle.formulas.proofs.mark.next.Reads as next-reads
 use Rattle.formulas.proofs.mark.pass_length.Reads as pass-length-reads
 use Rattle.formulas.proofs.mark.prefix_kind.Reads as prefix-kind-reads
@@ -46,72 +48,72 @@ use Rattle.formulas.proofs.reader.leaf.Reads as leaf-reads
 use Rattle.formulas.proofs.reader.+factor+latch+product+products+sum+sums+timer.{statement}
 use Rattle.formulas.proofs.reader.+factor+latch+product+products+sum+sums+timer.Tie.{close}
 
-abbrev μ-factor : Measures 2 factor-kinds.ps ℕ
-μ-factor κs a = 5 * (length (a .0 .now) - a .1 .1 .0 .at) + a .1 .1 .1 .0 + 2
+abbrev μ-factor : Measures 3 factor-kinds.ps ℕ
+μ-factor κs a = 5 * (length (take (a .1 .0) (a .0 .now)) - markOf (a .1 .1 .1 .0 .now) .at) + a .1 .1 .1 .1 .0 + 2
 
-abbrev μ-latch : Measures 2 latch-kinds.ps ℕ
-μ-latch κs a = 5 * (length (a .0 .now) - a .1 .1 .0 .at) + a .1 .1 .1 .1 .0 + 6
+abbrev μ-latch : Measures 3 latch-kinds.ps ℕ
+μ-latch κs a = 5 * (length (take (a .1 .0) (a .0 .now)) - markOf (a .1 .1 .1 .0 .now) .at) + a .1 .1 .1 .1 .1 .0 + 6
 
-abbrev μ-product : Measures 2 product-kinds.ps ℕ
-μ-product κs a = 5 * (length (a .0 .now) - a .1 .1 .0 .at) + a .1 .1 .1 .0 + 3
+abbrev μ-product : Measures 3 product-kinds.ps ℕ
+μ-product κs a = 5 * (length (take (a .1 .0) (a .0 .now)) - markOf (a .1 .1 .1 .0 .now) .at) + a .1 .1 .1 .1 .0 + 3
 
-abbrev μ-products : Measures 2 products-kinds.ps ℕ
-μ-products κs a = 5 * (length (a .0 .now) - a .1 .1 .0 .at) + a .1 .1 .1 .0 + 1
+abbrev μ-products : Measures 3 products-kinds.ps ℕ
+μ-products κs a = 5 * (length (take (a .1 .0) (a .0 .now)) - markOf (a .1 .1 .1 .0 .now) .at) + a .1 .1 .1 .1 .0 + 1
 
-abbrev μ-sum : Measures 2 sum-kinds.ps ℕ
-μ-sum κs a = 5 * (length (a .0 .now) - a .1 .1 .0 .at) + a .1 .1 .1 .0 + 4
+abbrev μ-sum : Measures 3 sum-kinds.ps ℕ
+μ-sum κs a = 5 * (length (take (a .1 .0) (a .0 .now)) - markOf (a .1 .1 .1 .0 .now) .at) + a .1 .1 .1 .1 .0 + 4
 
-abbrev μ-sums : Measures 2 sums-kinds.ps ℕ
-μ-sums κs a = 5 * (length (a .0 .now) - a .1 .1 .0 .at) + a .1 .1 .1 .0 + 1
+abbrev μ-sums : Measures 3 sums-kinds.ps ℕ
+μ-sums κs a = 5 * (length (take (a .1 .0) (a .0 .now)) - markOf (a .1 .1 .1 .0 .now) .at) + a .1 .1 .1 .1 .0 + 1
 
-abbrev μ-timer : Measures 2 timer-kinds.ps ℕ
-μ-timer κs a = 5 * (length (a .0 .now) - a .1 .1 .0 .at) + a .1 .1 .1 .1 .0 + 6
+abbrev μ-timer : Measures 3 timer-kinds.ps ℕ
+μ-timer κs a = 5 * (length (take (a .1 .0) (a .0 .now)) - markOf (a .1 .1 .1 .0 .now) .at) + a .1 .1 .1 .1 .1 .0 + 6
 
-abbrev factor-at : ℕ → In 2 factor-kinds.ps
-factor-at t = and 2 factor-kinds.ps (is 2 factor-kinds.ps μ-factor t) factor.Pre
+abbrev factor-at : ℕ → In 3 factor-kinds.ps
+factor-at t = and 3 factor-kinds.ps (is 3 factor-kinds.ps μ-factor t) factor.Pre
 
-abbrev factor-below : ℕ → In 2 factor-kinds.ps
-factor-below t = and 2 factor-kinds.ps (falls 2 factor-kinds.ps _<_ μ-factor t) factor.Pre
+abbrev factor-below : ℕ → In 3 factor-kinds.ps
+factor-below t = and 3 factor-kinds.ps (falls 3 factor-kinds.ps _<_ μ-factor t) factor.Pre
 
-abbrev latch-at : ℕ → In 2 latch-kinds.ps
-latch-at t = and 2 latch-kinds.ps (is 2 latch-kinds.ps μ-latch t) latch.Pre
+abbrev latch-at : ℕ → In 3 latch-kinds.ps
+latch-at t = and 3 latch-kinds.ps (is 3 latch-kinds.ps μ-latch t) latch.Pre
 
-abbrev latch-below : ℕ → In 2 latch-kinds.ps
-latch-below t = and 2 latch-kinds.ps (falls 2 latch-kinds.ps _<_ μ-latch t) latch.Pre
+abbrev latch-below : ℕ → In 3 latch-kinds.ps
+latch-below t = and 3 latch-kinds.ps (falls 3 latch-kinds.ps _<_ μ-latch t) latch.Pre
 
-abbrev product-at : ℕ → In 2 product-kinds.ps
-product-at t = and 2 product-kinds.ps (is 2 product-kinds.ps μ-product t) product.Pre
+abbrev product-at : ℕ → In 3 product-kinds.ps
+product-at t = and 3 product-kinds.ps (is 3 product-kinds.ps μ-product t) product.Pre
 
-abbrev product-below : ℕ → In 2 product-kinds.ps
-product-below t = and 2 product-kinds.ps (falls 2 product-kinds.ps _<_ μ-product t) product.Pre
+abbrev product-below : ℕ → In 3 product-kinds.ps
+product-below t = and 3 product-kinds.ps (falls 3 product-kinds.ps _<_ μ-product t) product.Pre
 
-abbrev products-at : ℕ → In 2 products-kinds.ps
-products-at t = and 2 products-kinds.ps (is 2 products-kinds.ps μ-products t) products.Pre
+abbrev products-at : ℕ → In 3 products-kinds.ps
+products-at t = and 3 products-kinds.ps (is 3 products-kinds.ps μ-products t) products.Pre
 
-abbrev products-below : ℕ → In 2 products-kinds.ps
+abbrev products-below : ℕ → In 3 products-kinds.ps
 products-below t =
-    and 2 products-kinds.ps (falls 2 products-kinds.ps _<_ μ-products t) products.Pre
+    and 3 products-kinds.ps (falls 3 products-kinds.ps _<_ μ-products t) products.Pre
 
-abbrev sum-at : ℕ → In 2 sum-kinds.ps
-sum-at t = and 2 sum-kinds.ps (is 2 sum-kinds.ps μ-sum t) sum.Pre
+abbrev sum-at : ℕ → In 3 sum-kinds.ps
+sum-at t = and 3 sum-kinds.ps (is 3 sum-kinds.ps μ-sum t) sum.Pre
 
-abbrev sum-below : ℕ → In 2 sum-kinds.ps
-sum-below t = and 2 sum-kinds.ps (falls 2 sum-kinds.ps _<_ μ-sum t) sum.Pre
+abbrev sum-below : ℕ → In 3 sum-kinds.ps
+sum-below t = and 3 sum-kinds.ps (falls 3 sum-kinds.ps _<_ μ-sum t) sum.Pre
 
-abbrev sums-at : ℕ → In 2 sums-kinds.ps
-sums-at t = and 2 sums-kinds.ps (is 2 sums-kinds.ps μ-sums t) sums.Pre
+abbrev sums-at : ℕ → In 3 sums-kinds.ps
+sums-at t = and 3 sums-kinds.ps (is 3 sums-kinds.ps μ-sums t) sums.Pre
 
-abbrev sums-below : ℕ → In 2 sums-kinds.ps
-sums-below t = and 2 sums-kinds.ps (falls 2 sums-kinds.ps _<_ μ-sums t) sums.Pre
+abbrev sums-below : ℕ → In 3 sums-kinds.ps
+sums-below t = and 3 sums-kinds.ps (falls 3 sums-kinds.ps _<_ μ-sums t) sums.Pre
 
-abbrev timer-at : ℕ → In 2 timer-kinds.ps
-timer-at t = and 2 timer-kinds.ps (is 2 timer-kinds.ps μ-timer t) timer.Pre
+abbrev timer-at : ℕ → In 3 timer-kinds.ps
+timer-at t = and 3 timer-kinds.ps (is 3 timer-kinds.ps μ-timer t) timer.Pre
 
-abbrev timer-below : ℕ → In 2 timer-kinds.ps
-timer-below t = and 2 timer-kinds.ps (falls 2 timer-kinds.ps _<_ μ-timer t) timer.Pre
+abbrev timer-below : ℕ → In 3 timer-kinds.ps
+timer-below t = and 3 timer-kinds.ps (falls 3 timer-kinds.ps _<_ μ-timer t) timer.Pre
 
 abbrev factor-calls : ℕ → factor-lts.Claims
-factor-calls t = (next-reads.Asked, next-reads.Learnt, prefix-kind-reads.Asked, prefix-kind-reads.Learnt, moved-reads.Asked, moved-reads.Learnt, factor-below t, factor.Post, put-reads.Asked, put-reads.Learnt, sum-below t, sum.Post, expect-reads.Asked, expect-reads.Learnt, latch-below t, latch.Post, timer-below t, timer.Post, leaf-reads.Asked, leaf-reads.Learnt)
+factor-calls t = (next-reads.Asked, next-reads.Learnt, prefix-kind-reads.Asked, prefix-kind-reads.Learnt, move-to-reads.Asked, move-to-reads.Learnt, factor-below t, factor.Post, put-reads.Asked, put-reads.Learnt, sum-below t, sum.Post, expect-reads.Asked, expect-reads.Learnt, latch-below t, latch.Post, timer-below t, timer.Post, leaf-reads.Asked, leaf-reads.Learnt)
 
 abbrev latch-calls : ℕ → latch-lts.Claims
 latch-calls t = (expect-reads.Asked, expect-reads.Learnt, sum-below t, sum.Post, put-reads.Asked, put-reads.Learnt)
@@ -120,286 +122,401 @@ abbrev product-calls : ℕ → product-lts.Claims
 product-calls t = (factor-below t, factor.Post, products-below t, products.Post)
 
 abbrev products-calls : ℕ → products-lts.Claims
-products-calls t = (next-reads.Asked, next-reads.Learnt, moved-reads.Asked, moved-reads.Learnt, factor-below t, factor.Post, put-reads.Asked, put-reads.Learnt, products-below t, products.Post)
+products-calls t = (next-reads.Asked, next-reads.Learnt, move-to-reads.Asked, move-to-reads.Learnt, factor-below t, factor.Post, put-reads.Asked, put-reads.Learnt, products-below t, products.Post)
 
 abbrev sum-calls : ℕ → sum-lts.Claims
 sum-calls t = (product-below t, product.Post, sums-below t, sums.Post)
 
 abbrev sums-calls : ℕ → sums-lts.Claims
-sums-calls t = (next-reads.Asked, next-reads.Learnt, moved-reads.Asked, moved-reads.Learnt, product-below t, product.Post, put-reads.Asked, put-reads.Learnt, sums-below t, sums.Post)
+sums-calls t = (next-reads.Asked, next-reads.Learnt, move-to-reads.Asked, move-to-reads.Learnt, product-below t, product.Post, put-reads.Asked, put-reads.Learnt, sums-below t, sums.Post)
 
 abbrev timer-calls : ℕ → timer-lts.Claims
 timer-calls t = (expect-reads.Asked, expect-reads.Learnt, pass-length-reads.Asked, pass-length-reads.Learnt, ticks-reads.Asked, ticks-reads.Learnt, sum-below t, sum.Post, put-reads.Asked, put-reads.Learnt)
 
-factor-add-moved : (t : ℕ) → factor-lts.Need-add-moved (factor-calls t) (factor-at t) factor.Post
-factor-add-moved t c = let g = c .before .before .before .before .before .pre .1 in omega (arith, g .within, g .short)
-
-factor-add-factor : (t : ℕ) → factor-lts.Need-add-factor (factor-calls t) (factor-at t) factor.Post
-factor-add-factor t c = let g = c .before .before .before .before .before .before .pre .1 in omega (arith, g .opened, g .within, g .short)
-
 -- past the byte b at the front of a factor, at x
 abbrev Factor-step : (t : ℕ) → factor-lts.Start (factor-calls t) (factor-at t) factor.Post → ℕ → Mark → Type 0
-Factor-step t s b x = paths.Step (s .args .text .now) (s .args .code .now) (s .args .m) (s .args .deep) 2 t b x
+Factor-step t s b x = paths.Step (take (s .args .bytes) (s .args .text .now)) (s .args .code .now) (markOf (s .args .m .now)) (s .args .deep) 2 t b x
 
-prefix-step : (t : ℕ) (c : factor-lts.After-moved (factor-calls t) (factor-at t) factor.Post) → Factor-step t (c .before .before .before .before .before .before) (c .before .before .before .before .next .result) (c .moved .result)
-prefix-step t c = paths.step (c .before .before .before .before .before .before .pre) (sym (c .before .before .before .before .next .ensures)) (paths.prefix-above _ _ (c .before .before .before .prefix-kind .ensures) (c .before .before .if1 .taken)) (c .moved .ensures)
+factor-add-move-to : (t : ℕ) → factor-lts.Need-add-move-to (factor-calls t) (factor-at t) factor.Post
+unfolding markOf
+factor-add-move-to t c =
+    let g = c .before .before .before .before .before .before .pre .1 .1 in omega (arith, g .within, g .short)
+
+factor-add-factor : (t : ℕ) → factor-lts.Need-add-factor (factor-calls t) (factor-at t) factor.Post
+factor-add-factor t c =
+    let g = c .before .before .before .before .before .before .before .before .before .pre .1 .1 in omega (arith, g .opened, g .within, g .short)
+
+prefix-step : (t : ℕ) (c : factor-lts.After-move-to (factor-calls t) (factor-at t) factor.Post) → Factor-step t (c .before .before .before .before .before .before .before) (c .before .before .before .before .next .result) (markOf (c .move-to .last .0))
+unfolding markOf
+prefix-step t c = paths.step (c .before .before .before .before .before .before .before .pre .0, c .before .before .before .before .before .before .before .pre .1 .1) (sym (c .before .before .before .before .next .ensures)) (paths.prefix-above _ _ (c .before .before .before .prefix-kind .ensures) (c .before .before .if1 .taken)) (c .move-to .ensures .1)
 
 factor-factor-requires : (t : ℕ) → factor-lts.Need-factor-requires (factor-calls t) (factor-at t) factor.Post
-factor-factor-requires t c κs = paths.deeper-needs (prefix-step t c) (omega arith)
+factor-factor-requires t c κs =
+    let n = paths.deeper-needs (prefix-step t (c .before .before)) {level = 2} (omega arith) in (n .0, (lent-on (c .before .before .before .before .before .before .before .before .before .pre .1 .0) (c .before .before .move-to .ensures .0), n .1))
 
 factor-put-requires : (t : ℕ) → factor-lts.Need-put-requires (factor-calls t) (factor-at t) factor.Post
-factor-put-requires t c κs = paths.prefix-needs (prefix-step t (c .before .before)) (c .before .factor .ensures)
+factor-put-requires t c κs =
+    let n = paths.prefix-needs (prefix-step t (c .before .before .before .before .before)) (c .before .before .factor .ensures .1) in (c .before .before .factor .ensures .0, n .0, n .1)
 
 factor-returns : (t : ℕ) → factor-lts.Need-returns (factor-calls t) (factor-at t) factor.Post
 factor-returns t c =
-    paths.prefix-path (prefix-step t (c .before .before .before)) _ (c .before .before .before .before .before .before .prefix-kind .ensures) (c .before .before .before .before .before .if1 .taken) (c .before .before .factor .ensures) (c .put .ensures)
+    (c .put .ensures .0 .0, paths.prefix-path (prefix-step t (c .before .before .before .before .before .before)) _ (c .before .before .before .before .before .before .before .before .before .prefix-kind .ensures) (c .before .before .before .before .before .before .before .before .if1 .taken) (c .before .before .before .factor .ensures .1) (c .put .ensures .0 .1, c .put .ensures .1))
 
-factor-add-moved-2 : (t : ℕ) → factor-lts.Need-add-moved-2 (factor-calls t) (factor-at t) factor.Post
-factor-add-moved-2 t c = let g = c .before .before .before .before .before .before .pre .1 in omega (arith, g .within, g .short)
+factor-add-move-to-2 : (t : ℕ) → factor-lts.Need-add-move-to-2 (factor-calls t) (factor-at t) factor.Post
+unfolding markOf
+factor-add-move-to-2 t c =
+    let g = c .before .before .before .before .before .before .before .pre .1 .1 in omega (arith, g .within, g .short)
 
 factor-add-sum : (t : ℕ) → factor-lts.Need-add-sum (factor-calls t) (factor-at t) factor.Post
-factor-add-sum t c = let g = c .before .before .before .before .before .before .before .pre .1 in omega (arith, g .opened, g .within, g .short)
+factor-add-sum t c =
+    let g = c .before .before .before .before .before .before .before .before .before .before .pre .1 .1 in omega (arith, g .opened, g .within, g .short)
 
-bracket-step : (t : ℕ) (c : factor-lts.After-moved2 (factor-calls t) (factor-at t) factor.Post) → Factor-step t (c .before .before .before .before .before .before .before) 40 (c .moved2 .result)
-bracket-step t c = paths.step (c .before .before .before .before .before .before .before .pre) (sym (c .before .before .before .before .before .next .ensures) ∙ c .before .before .if2 .taken) (omega arith) (c .moved2 .ensures)
+bracket-step : (t : ℕ) (c : factor-lts.After-move-to2 (factor-calls t) (factor-at t) factor.Post) → Factor-step t (c .before .before .before .before .before .before .before .before) 40 (markOf (c .move-to2 .last .0))
+unfolding markOf
+bracket-step t c = paths.step (c .before .before .before .before .before .before .before .before .pre .0, c .before .before .before .before .before .before .before .before .pre .1 .1) (sym (c .before .before .before .before .before .next .ensures) ∙ c .before .before .if2 .taken) (omega arith) (c .move-to2 .ensures .1)
 
 factor-sum-requires : (t : ℕ) → factor-lts.Need-sum-requires (factor-calls t) (factor-at t) factor.Post
-factor-sum-requires t c κs = paths.deeper-needs (bracket-step t c) (omega arith)
+factor-sum-requires t c κs =
+    let n = paths.deeper-needs (bracket-step t (c .before .before)) {level = 4} (omega arith) in (n .0, (lent-on (c .before .before .before .before .before .before .before .before .before .before .pre .1 .0) (c .before .before .move-to2 .ensures .0), n .1))
+
+factor-expect-requires : (t : ℕ) → factor-lts.Need-expect-requires (factor-calls t) (factor-at t) factor.Post
+factor-expect-requires t c κs = (lent-on (c .before .before .before .before .before .before .before .before .before .before .before .before .pre .1 .0) (c .before .sum .ensures .0), omega arith)
 
 factor-returns-2 : (t : ℕ) → factor-lts.Need-returns-2 (factor-calls t) (factor-at t) factor.Post
-factor-returns-2 t c = paths.brackets-path (bracket-step t (c .before .before)) (c .before .sum .ensures) (c .expect .ensures)
+factor-returns-2 t c =
+    (c .expect .ensures .0, paths.brackets-path (bracket-step t (c .before .before .before .before .before)) (c .before .before .sum .ensures .1) (c .expect .ensures .1))
 
-factor-add-moved-3 : (t : ℕ) → factor-lts.Need-add-moved-3 (factor-calls t) (factor-at t) factor.Post
-factor-add-moved-3 t c = let g = c .before .before .before .before .before .before .pre .1 in omega (arith, g .within, g .short)
+factor-add-move-to-3 : (t : ℕ) → factor-lts.Need-add-move-to-3 (factor-calls t) (factor-at t) factor.Post
+unfolding markOf
+factor-add-move-to-3 t c =
+    let g = c .before .before .before .before .before .before .before .before .pre .1 .1 in omega (arith, g .within, g .short)
 
-sr-step : (t : ℕ) (c : factor-lts.After-moved3 (factor-calls t) (factor-at t) factor.Post) → Factor-step t (c .before .before .before .before .before .before .before) 83 (c .moved3 .result)
-sr-step t c = paths.step (c .before .before .before .before .before .before .before .pre) (sym (c .before .before .before .before .before .next .ensures) ∙ c .before .if3 .taken) (omega arith) (c .moved3 .ensures)
+sr-step : (t : ℕ) (c : factor-lts.After-move-to3 (factor-calls t) (factor-at t) factor.Post) → Factor-step t (c .before .before .before .before .before .before .before .before .before) 83 (markOf (c .move-to3 .last .0))
+unfolding markOf
+sr-step t c = paths.step (c .before .before .before .before .before .before .before .before .before .pre .0, c .before .before .before .before .before .before .before .before .before .pre .1 .1) (sym (c .before .before .before .before .before .before .next .ensures) ∙ c .before .before .if3 .taken) (omega arith) (c .move-to3 .ensures .1)
+
+factor-expect-requires-2 : (t : ℕ) → factor-lts.Need-expect-requires-2 (factor-calls t) (factor-at t) factor.Post
+factor-expect-requires-2 t c κs = (lent-on (c .before .before .before .before .before .before .before .before .before .before .pre .1 .0) (c .before .move-to3 .ensures .0), omega arith)
 
 factor-latch-requires : (t : ℕ) → factor-lts.Need-latch-requires (factor-calls t) (factor-at t) factor.Post
 factor-latch-requires t c κs =
-    let k = sr-step t (c .before .before) in
-    paths.block-needs k (paths.letter k 82 (omega arith) (c .before .expect2 .ensures))
+    let k = sr-step t (c .before .before .before .before) in
+    let n = paths.block-needs k (paths.letter k 82 (omega arith) (c .before .before .expect2 .ensures .1)) in
+    (n .0, (lent-on (c .before .before .before .before .before .before .before .before .before .before .before .before .before .pre .1 .0) (c .before .before .expect2 .ensures .0), n .1))
 
 factor-returns-3 : (t : ℕ) → factor-lts.Need-returns-3 (factor-calls t) (factor-at t) factor.Post
 factor-returns-3 t c =
-    let k = sr-step t (c .before .before .before) in
-    paths.block-path k (paths.letter k 82 (omega arith) (c .before .before .expect2 .ensures)) (c .latch .ensures) (paths.latch-is k sr-latch)
+    let k = sr-step t (c .before .before .before .before .before) in
+    (c .latch .ensures .0, paths.block-path k (paths.letter k 82 (omega arith) (c .before .before .before .expect2 .ensures .1)) (c .latch .ensures .1) (paths.latch-is k sr-latch))
 
-factor-add-moved-4 : (t : ℕ) → factor-lts.Need-add-moved-4 (factor-calls t) (factor-at t) factor.Post
-factor-add-moved-4 t c = let g = c .before .before .before .before .before .before .before .pre .1 in omega (arith, g .within, g .short)
+factor-add-move-to-4 : (t : ℕ) → factor-lts.Need-add-move-to-4 (factor-calls t) (factor-at t) factor.Post
+unfolding markOf
+factor-add-move-to-4 t c =
+    let g = c .before .before .before .before .before .before .before .before .before .pre .1 .1 in omega (arith, g .within, g .short)
 
-rs-step : (t : ℕ) (c : factor-lts.After-moved4 (factor-calls t) (factor-at t) factor.Post) → Factor-step t (c .before .before .before .before .before .before .before .before) 82 (c .moved4 .result)
-rs-step t c = paths.step (c .before .before .before .before .before .before .before .before .pre) (sym (c .before .before .before .before .before .before .next .ensures) ∙ c .before .if4 .taken) (omega arith) (c .moved4 .ensures)
+rs-step : (t : ℕ) (c : factor-lts.After-move-to4 (factor-calls t) (factor-at t) factor.Post) → Factor-step t (c .before .before .before .before .before .before .before .before .before .before) 82 (markOf (c .move-to4 .last .0))
+unfolding markOf
+rs-step t c = paths.step (c .before .before .before .before .before .before .before .before .before .before .pre .0, c .before .before .before .before .before .before .before .before .before .before .pre .1 .1) (sym (c .before .before .before .before .before .before .before .next .ensures) ∙ c .before .before .if4 .taken) (omega arith) (c .move-to4 .ensures .1)
+
+factor-expect-requires-3 : (t : ℕ) → factor-lts.Need-expect-requires-3 (factor-calls t) (factor-at t) factor.Post
+factor-expect-requires-3 t c κs = (lent-on (c .before .before .before .before .before .before .before .before .before .before .before .pre .1 .0) (c .before .move-to4 .ensures .0), omega arith)
 
 factor-latch-requires-2 : (t : ℕ) → factor-lts.Need-latch-requires-2 (factor-calls t) (factor-at t) factor.Post
 factor-latch-requires-2 t c κs =
-    let k = rs-step t (c .before .before) in
-    paths.block-needs k (paths.letter k 83 (omega arith) (c .before .expect3 .ensures))
+    let k = rs-step t (c .before .before .before .before) in
+    let n = paths.block-needs k (paths.letter k 83 (omega arith) (c .before .before .expect3 .ensures .1)) in
+    (n .0, (lent-on (c .before .before .before .before .before .before .before .before .before .before .before .before .before .before .pre .1 .0) (c .before .before .expect3 .ensures .0), n .1))
 
 factor-returns-4 : (t : ℕ) → factor-lts.Need-returns-4 (factor-calls t) (factor-at t) factor.Post
 factor-returns-4 t c =
-    let k = rs-step t (c .before .before .before) in
-    paths.block-path k (paths.letter k 83 (omega arith) (c .before .before .expect3 .ensures)) (c .latch2 .ensures) (paths.latch-is k rs-latch)
+    let k = rs-step t (c .before .before .before .before .before) in
+    (c .latch2 .ensures .0, paths.block-path k (paths.letter k 83 (omega arith) (c .before .before .before .expect3 .ensures .1)) (c .latch2 .ensures .1) (paths.latch-is k rs-latch))
 
-factor-add-moved-5 : (t : ℕ) → factor-lts.Need-add-moved-5 (factor-calls t) (factor-at t) factor.Post
-factor-add-moved-5 t c = let g = c .before .before .before .before .before .before .before .before .pre .1 in omega (arith, g .within, g .short)
+factor-add-move-to-5 : (t : ℕ) → factor-lts.Need-add-move-to-5 (factor-calls t) (factor-at t) factor.Post
+unfolding markOf
+factor-add-move-to-5 t c =
+    let g = c .before .before .before .before .before .before .before .before .before .before .pre .1 .1 in omega (arith, g .within, g .short)
 
-t-step : (t : ℕ) (c : factor-lts.After-moved5 (factor-calls t) (factor-at t) factor.Post) → Factor-step t (c .before .before .before .before .before .before .before .before .before) 84 (c .moved5 .result)
-t-step t c = paths.step (c .before .before .before .before .before .before .before .before .before .pre) (sym (c .before .before .before .before .before .before .before .next .ensures) ∙ c .before .if5 .taken) (omega arith) (c .moved5 .ensures)
+t-step : (t : ℕ) (c : factor-lts.After-move-to5 (factor-calls t) (factor-at t) factor.Post) → Factor-step t (c .before .before .before .before .before .before .before .before .before .before .before) 84 (markOf (c .move-to5 .last .0))
+unfolding markOf
+t-step t c = paths.step (c .before .before .before .before .before .before .before .before .before .before .before .pre .0, c .before .before .before .before .before .before .before .before .before .before .before .pre .1 .1) (sym (c .before .before .before .before .before .before .before .before .next .ensures) ∙ c .before .before .if5 .taken) (omega arith) (c .move-to5 .ensures .1)
 
-factor-add-moved-6 : (t : ℕ) → factor-lts.Need-add-moved-6 (factor-calls t) (factor-at t) factor.Post
-factor-add-moved-6 t c =
-    let k = t-step t (c .before .before .before .before) in
-    omega (arith, paths.letter k 79 (omega arith) (c .before .before .before .expect4 .ensures) .done .within, k .ready .short)
+factor-expect-requires-4 : (t : ℕ) → factor-lts.Need-expect-requires-4 (factor-calls t) (factor-at t) factor.Post
+factor-expect-requires-4 t c κs = (lent-on (c .before .before .before .before .before .before .before .before .before .before .before .before .pre .1 .0) (c .before .move-to5 .ensures .0), omega arith)
+
+factor-next-requires-2 : (t : ℕ) → factor-lts.Need-next-requires-2 (factor-calls t) (factor-at t) factor.Post
+factor-next-requires-2 t c κs = (c .before .before .before .before .before .before .before .before .before .before .before .before .before .before .pre .1 .0 .whole, c .before .before .before .before .before .before .before .before .before .before .before .before .before .before .pre .1 .0 .first)
+
+factor-add-move-to-6 : (t : ℕ) → factor-lts.Need-add-move-to-6 (factor-calls t) (factor-at t) factor.Post
+unfolding markOf
+factor-add-move-to-6 t c =
+    let k = t-step t (c .before .before .before .before .before .before .before) in
+    omega (arith, paths.letter k 79 (omega arith) (c .before .before .before .before .before .expect4 .ensures .1) .done .within, k .ready .short)
+
+factor-move-to-requires-6 : (t : ℕ) → factor-lts.Need-move-to-requires-6 (factor-calls t) (factor-at t) factor.Post
+factor-move-to-requires-6 t c κs = c .before .before .before .before .before .expect4 .ensures .0
 
 factor-timer-requires : (t : ℕ) → factor-lts.Need-timer-requires (factor-calls t) (factor-at t) factor.Post
+unfolding markOf
 factor-timer-requires t c κs =
-    let k = t-step t (c .before .before .before .before .before) in
-    let w = sym (c .before .before .before .next2 .ensures) ∙ c .before .before .if6 .taken in
-    let b = paths.block-needs k (paths.ton-letters k (c .before .before .before .before .expect4 .ensures) w (c .moved6 .ensures)) in
-    (b .0, (b .1, omega arith))
+    let k = t-step t (c .before .before .before .before .before .before .before .before .before .before) in
+    let w = sym (c .before .before .before .before .before .before .next2 .ensures) ∙ c .before .before .before .before .before .if6 .taken in
+    let b = paths.block-needs k (paths.ton-letters k (c .before .before .before .before .before .before .before .before .expect4 .ensures .1) w (c .before .before .move-to6 .ensures .1)) in
+    (b .0, ((lent-on (c .before .before .before .before .before .before .before .before .before .before .before .before .before .before .before .before .before .before .before .before .before .pre .1 .0) (c .before .before .move-to6 .ensures .0), b .1), omega arith))
 
 factor-returns-5 : (t : ℕ) → factor-lts.Need-returns-5 (factor-calls t) (factor-at t) factor.Post
+unfolding markOf
 factor-returns-5 t c =
-    let k = t-step t (c .before .before .before .before .before .before) in
-    let w = sym (c .before .before .before .before .next2 .ensures) ∙ c .before .before .before .if6 .taken in
-    let o = c .before .before .before .before .before .expect4 .ensures in
-    paths.block-path k (paths.ton-letters k o w (c .before .moved6 .ensures)) (c .timer .ensures) (paths.ton-is k o w)
+    let k = t-step t (c .before .before .before .before .before .before .before .before .before .before .before) in
+    let w = sym (c .before .before .before .before .before .before .before .next2 .ensures) ∙ c .before .before .before .before .before .before .if6 .taken in
+    let o = c .before .before .before .before .before .before .before .before .before .expect4 .ensures .1 in
+    (c .timer .ensures .0, paths.block-path k (paths.ton-letters k o w (c .before .before .before .move-to6 .ensures .1)) (c .timer .ensures .1) (paths.ton-is k o w))
+
+factor-expect-requires-5 : (t : ℕ) → factor-lts.Need-expect-requires-5 (factor-calls t) (factor-at t) factor.Post
+factor-expect-requires-5 t c κs = (lent-on (c .before .before .before .before .before .before .before .before .before .before .before .before .before .before .before .before .before .pre .1 .0) (c .before .before .before .before .expect4 .ensures .0), omega arith)
 
 factor-timer-requires-2 : (t : ℕ) → factor-lts.Need-timer-requires-2 (factor-calls t) (factor-at t) factor.Post
 factor-timer-requires-2 t c κs =
-    let k = t-step t (c .before .before .before .before .before) in
-    let b = paths.block-needs k (paths.tof-letters k (c .before .before .before .before .expect4 .ensures) (c .before .expect5 .ensures)) in
-    (b .0, (b .1, omega arith))
+    let k = t-step t (c .before .before .before .before .before .before .before .before .before) in
+    let b = paths.block-needs k (paths.tof-letters k (c .before .before .before .before .before .before .before .expect4 .ensures .1) (c .before .before .expect5 .ensures .1)) in
+    (b .0, ((lent-on (c .before .before .before .before .before .before .before .before .before .before .before .before .before .before .before .before .before .before .before .before .pre .1 .0) (c .before .before .expect5 .ensures .0), b .1), omega arith))
 
 factor-returns-6 : (t : ℕ) → factor-lts.Need-returns-6 (factor-calls t) (factor-at t) factor.Post
 factor-returns-6 t c =
-    let k = t-step t (c .before .before .before .before .before .before) in
-    let w = ne-eqb _ _ (λ h. c .before .before .before .if6 .left (c .before .before .before .before .next2 .ensures ∙ h)) in
-    let o = c .before .before .before .before .before .expect4 .ensures in
-    paths.block-path k (paths.tof-letters k o (c .before .before .expect5 .ensures)) (c .timer2 .ensures) (paths.tof-is k o w)
+    let k = t-step t (c .before .before .before .before .before .before .before .before .before .before) in
+    let w = ne-eqb _ _ (λ h. c .before .before .before .before .before .if6 .left (c .before .before .before .before .before .before .next2 .ensures ∙ h)) in
+    let o = c .before .before .before .before .before .before .before .before .expect4 .ensures .1 in
+    (c .timer2 .ensures .0, paths.block-path k (paths.tof-letters k o (c .before .before .before .expect5 .ensures .1)) (c .timer2 .ensures .1) (paths.tof-is k o w))
 
 factor-leaf-requires : (t : ℕ) → factor-lts.Need-leaf-requires (factor-calls t) (factor-at t) factor.Post
-factor-leaf-requires t c κs = c .before .before .before .before .before .before .before .before .before .pre .1
+factor-leaf-requires t c κs = c .before .before .before .before .before .before .before .before .before .before .before .pre .1
 
 factor-returns-7 : (t : ℕ) → factor-lts.Need-returns-7 (factor-calls t) (factor-at t) factor.Post
 factor-returns-7 t c =
-    let n = c .before .before .before .before .before .before .before .before in
-    let b = n .next .result in
-    paths.leaf-path (n .before .before .pre .1) b _ (sym (n .next .ensures)) (c .before .before .before .before .before .before .before .prefix-kind .ensures) (c .before .before .before .before .before .before .if1 .left)
-    (ne-eqb b 40 (c .before .before .before .before .before .if2 .left)) (ne-eqb b 83 (c .before .before .before .before .if3 .left)) (ne-eqb b 82 (c .before .before .before .if4 .left)) (ne-eqb b 84 (c .before .before .if5 .left)) (c .leaf .ensures)
+    let b = c .before .before .before .before .before .before .before .before .before .next .result in (
+      c .leaf .ensures .0,
+      paths.leaf-path (c .before .before .before .before .before .before .before .before .before .before .before .before .pre .1 .1) b _ (sym (c .before .before .before .before .before .before .before .before .before .next .ensures)) (c .before .before .before .before .before .before .before .before .prefix-kind .ensures) (c .before .before .before .before .before .before .before .if1 .left)
+          (ne-eqb b 40 (c .before .before .before .before .before .before .if2 .left)) (ne-eqb b 83 (c .before .before .before .before .before .if3 .left)) (ne-eqb b 82 (c .before .before .before .before .if4 .left)) (ne-eqb b 84 (c .before .before .before .if5 .left)) (c .leaf .ensures .1),
+    )
+
+latch-expect-requires : (t : ℕ) → latch-lts.Need-expect-requires (latch-calls t) (latch-at t) latch.Post
+latch-expect-requires t c κs = (c .before .pre .1 .0, omega arith)
 
 latch-add-sum : (t : ℕ) → latch-lts.Need-add-sum (latch-calls t) (latch-at t) latch.Post
-latch-add-sum t c = let g = c .before .before .before .pre .1 in omega (arith, g .opened, g .within, g .short)
+latch-add-sum t c =
+    let g = c .before .before .before .before .pre .1 .1 in omega (arith, g .opened, g .within, g .short)
 
 latch-sum-requires : (t : ℕ) → latch-lts.Need-sum-requires (latch-calls t) (latch-at t) latch.Post
 latch-sum-requires t c κs =
-    let s = c .before .before .before in
-    inner-needs (s .args .deep) (s .pre .1) (paths.opened (s .args .deep) (s .pre .1) (c .expect .ensures)) (s .pre .0)
+    let s = c .before .before .before .before in
+    let n = inner-needs (s .args .deep) (s .pre .1 .1) (paths.opened (s .args .deep) (s .pre .1 .1) (c .before .before .expect .ensures .1)) (s .pre .0) in
+    (n .0, (lent-on (c .before .before .before .before .pre .1 .0) (c .before .before .expect .ensures .0), n .1))
+
+latch-expect-requires-2 : (t : ℕ) → latch-lts.Need-expect-requires-2 (latch-calls t) (latch-at t) latch.Post
+latch-expect-requires-2 t c κs = (lent-on (c .before .before .before .before .before .before .pre .1 .0) (c .before .sum .ensures .0), omega arith)
 
 latch-add-sum-2 : (t : ℕ) → latch-lts.Need-add-sum-2 (latch-calls t) (latch-at t) latch.Post
-latch-add-sum-2 t c = let g = c .before .before .before .before .before .before .pre .1 in omega (arith, g .opened, g .within, g .short)
+latch-add-sum-2 t c =
+    let g = c .before .before .before .before .before .before .before .before .before .pre .1 .1 in omega (arith, g .opened, g .within, g .short)
 
 latch-sum-requires-2 : (t : ℕ) → latch-lts.Need-sum-requires-2 (latch-calls t) (latch-at t) latch.Post
 latch-sum-requires-2 t c κs =
-    let s = c .before .before .before .before .before .before in
-    inner-needs (s .args .deep) (s .pre .1) (paths.parted (s .args .deep) (s .pre .1) (c .before .before .before .expect .ensures) (c .before .before .sum .ensures) (c .expect2 .ensures)) (s .pre .0)
+    let s = c .before .before .before .before .before .before .before .before .before in
+    let n = inner-needs (s .args .deep) (s .pre .1 .1) (paths.parted (s .args .deep) (s .pre .1 .1) (c .before .before .before .before .before .before .before .expect .ensures .1) (c .before .before .before .before .sum .ensures .1) (c .before .before .expect2 .ensures .1)) (s .pre .0) in
+    (n .0, (lent-on (c .before .before .before .before .before .before .before .before .before .pre .1 .0) (c .before .before .expect2 .ensures .0), n .1))
+
+latch-expect-requires-3 : (t : ℕ) → latch-lts.Need-expect-requires-3 (latch-calls t) (latch-at t) latch.Post
+latch-expect-requires-3 t c κs = (lent-on (c .before .before .before .before .before .before .before .before .before .before .before .pre .1 .0) (c .before .sum2 .ensures .0), omega arith)
 
 latch-put-requires : (t : ℕ) → latch-lts.Need-put-requires (latch-calls t) (latch-at t) latch.Post
 latch-put-requires t c κs =
-    let s = c .before .before .before .before .before .before .before .before .before in
-    paths.latch-needs (s .args .deep) (s .pre .1) (c .before .before .before .before .before .before .expect .ensures) (c .before .before .before .before .before .sum .ensures) (c .before .before .before .expect2 .ensures) (c .before .before .sum2 .ensures) (c .expect3 .ensures)
+    let s = c .before .before .before .before .before .before .before .before .before .before .before .before .before .before in
+    let n = paths.latch-needs (s .args .deep) (s .pre .1 .1) (c .before .before .before .before .before .before .before .before .before .before .before .before .expect .ensures .1) (c .before .before .before .before .before .before .before .before .before .sum .ensures .1) (c .before .before .before .before .before .before .before .expect2 .ensures .1) (c .before .before .before .before .sum2 .ensures .1) (c .before .before .expect3 .ensures .1) in
+    (c .before .before .expect3 .ensures .0, n .0, n .1)
 
 latch-returns : (t : ℕ) → latch-lts.Need-returns (latch-calls t) (latch-at t) latch.Post
 latch-returns t c =
-    let s = c .before .before .before .before .before .before .before .before .before .before in
-    paths.latch-path (s .args .deep) (s .pre .1) (c .before .before .before .before .before .before .before .expect .ensures) (c .before .before .before .before .before .before .sum .ensures) (c .before .before .before .before .expect2 .ensures) (c .before .before .before .sum2 .ensures)
-    (c .before .expect3 .ensures) (s .args .part) (c .put .ensures .1) (c .put .ensures .0)
+    let s = c .before .before .before .before .before .before .before .before .before .before .before .before .before .before .before in (
+      c .put .ensures .0 .0,
+      paths.latch-path (s .args .deep) (s .pre .1 .1) (c .before .before .before .before .before .before .before .before .before .before .before .before .before .expect .ensures .1) (c .before .before .before .before .before .before .before .before .before .before .sum .ensures .1) (c .before .before .before .before .before .before .before .before .expect2 .ensures .1) (c .before .before .before .before .before .sum2 .ensures .1)
+          (c .before .before .before .expect3 .ensures .1) (s .args .part) (c .put .ensures .1) (c .put .ensures .0 .1),
+    )
 
 product-factor-requires : (t : ℕ) → product-lts.Need-factor-requires (product-calls t) (product-at t) product.Post
-product-factor-requires t c κs = chains.first-needs times (c .before .before .pre .1) (c .before .before .pre .0)
+product-factor-requires t c κs =
+    let n = chains.first-needs times (c .before .before .pre .1 .1) (c .before .before .pre .0) in (n .0, (c .before .before .pre .1 .0, n .1))
 
 product-products-requires : (t : ℕ) → product-lts.Need-products-requires (product-calls t) (product-at t) product.Post
-product-products-requires t c κs = chains.after-first times (c .before .before .before .before .pre .1) (c .before .before .before .before .pre .0) (c .before .factor .ensures)
+product-products-requires t c κs =
+    let n = chains.after-first times (c .before .before .before .before .before .pre .1 .1) (c .before .before .before .before .before .pre .0) (c .before .before .factor .ensures .1) in (n .0, (lent-on (c .before .before .before .before .before .pre .1 .0) (c .before .before .factor .ensures .0), n .1))
 
 product-returns : (t : ℕ) → product-lts.Need-returns (product-calls t) (product-at t) product.Post
-product-returns t c = chains.whole-path times (c .before .before .before .before .before .pre .1) (c .before .before .factor .ensures) (c .products .ensures)
+product-returns t c =
+    (c .products .ensures .0, chains.whole-path times (c .before .before .before .before .before .before .pre .1 .1) (c .before .before .before .factor .ensures .1) (c .products .ensures .1))
 
-products-add-moved : (t : ℕ) → products-lts.Need-add-moved (products-calls t) (products-at t) products.Post
-products-add-moved t c = let g = c .before .before .before .before .pre .1 in omega (arith, g .within, g .short)
+products-add-move-to : (t : ℕ) → products-lts.Need-add-move-to (products-calls t) (products-at t) products.Post
+unfolding markOf
+products-add-move-to t c =
+    let g = c .before .before .before .before .before .pre .1 .1 in omega (arith, g .within, g .short)
 
 -- past the byte b at the front of the rest of a chain, at x
 abbrev Products-step : (t : ℕ) → products-lts.Start (products-calls t) (products-at t) products.Post → ℕ → Mark → Type 0
-Products-step t s b x = paths.Step (s .args .text .now) (s .args .code .now) (s .args .m) (s .args .deep) 1 t b x
+Products-step t s b x = paths.Step (take (s .args .bytes) (s .args .text .now)) (s .args .code .now) (markOf (s .args .m .now)) (s .args .deep) 1 t b x
 
-times-step : (t : ℕ) (c : products-lts.After-moved (products-calls t) (products-at t) products.Post) → Products-step t (c .before .before .before .before .before) 46 (c .moved .result)
-times-step t c = paths.step (c .before .before .before .before .before .pre) (sym (c .before .before .before .next .ensures) ∙ c .before .before .if1 .taken) (omega arith) (c .moved .ensures)
+times-step : (t : ℕ) (c : products-lts.After-move-to (products-calls t) (products-at t) products.Post) → Products-step t (c .before .before .before .before .before .before) 46 (markOf (c .move-to .last .0))
+unfolding markOf
+times-step t c = paths.step (c .before .before .before .before .before .before .pre .0, c .before .before .before .before .before .before .pre .1 .1) (sym (c .before .before .before .before .next .ensures) ∙ c .before .before .before .if1 .taken) (omega arith) (c .move-to .ensures .1)
 
 products-factor-requires : (t : ℕ) → products-lts.Need-factor-requires (products-calls t) (products-at t) products.Post
-products-factor-requires t c κs = chains.operand-needs times (times-step t c)
+products-factor-requires t c κs =
+    let n = chains.operand-needs times (times-step t (c .before .before)) in (n .0, (lent-on (c .before .before .before .before .before .before .before .before .pre .1 .0) (c .before .before .move-to .ensures .0), n .1))
 
 products-put-requires : (t : ℕ) → products-lts.Need-put-requires (products-calls t) (products-at t) products.Post
-products-put-requires t c κs = chains.operator-needs times (times-step t (c .before .before)) (c .before .factor .ensures)
+products-put-requires t c κs =
+    let n = chains.operator-needs times (times-step t (c .before .before .before .before .before)) (c .before .before .factor .ensures .1) in (c .before .before .factor .ensures .0, n .0, n .1)
 
 products-products-requires : (t : ℕ) → products-lts.Need-products-requires (products-calls t) (products-at t) products.Post
-products-products-requires t c κs = chains.rest-needs times (times-step t (c .before .before .before .before)) (c .before .before .before .factor .ensures) (c .before .put .ensures)
+products-products-requires t c κs =
+    let n = chains.rest-needs times (times-step t (c .before .before .before .before .before .before .before .before)) (c .before .before .before .before .before .factor .ensures .1) (c .before .before .put .ensures .0 .1, c .before .before .put .ensures .1) in
+    (n .0, (lent-on (c .before .before .before .before .before .before .before .before .before .before .before .before .before .before .pre .1 .0) (c .before .before .put .ensures .0 .0), n .1))
 
 products-returns : (t : ℕ) → products-lts.Need-returns (products-calls t) (products-at t) products.Post
-products-returns t c = chains.rest-path times (times-step t (c .before .before .before .before .before)) (c .before .before .before .before .factor .ensures) (c .before .before .put .ensures) (c .products .ensures)
+products-returns t c =
+    (c .products .ensures .0, chains.rest-path times (times-step t (c .before .before .before .before .before .before .before .before .before)) (c .before .before .before .before .before .before .factor .ensures .1) (c .before .before .before .put .ensures .0 .1, c .before .before .before .put .ensures .1) (c .products .ensures .1))
 
 products-returns-2 : (t : ℕ) → products-lts.Need-returns-2 (products-calls t) (products-at t) products.Post
-products-returns-2 t c = chains.rest-end times (c .before .before .before .pre .1) (ne-eqb _ _ (λ h. c .if1 .left (c .before .next .ensures ∙ h)))
+products-returns-2 t c =
+    (c .before .before .before .pre .1 .0 .five, chains.rest-end times (c .before .before .before .pre .1 .1) (ne-eqb _ _ (λ h. c .if1 .left (c .before .next .ensures ∙ h))))
 
 sum-product-requires : (t : ℕ) → sum-lts.Need-product-requires (sum-calls t) (sum-at t) sum.Post
-sum-product-requires t c κs = chains.first-needs plus (c .before .before .pre .1) (c .before .before .pre .0)
+sum-product-requires t c κs =
+    let n = chains.first-needs plus (c .before .before .pre .1 .1) (c .before .before .pre .0) in (n .0, (c .before .before .pre .1 .0, n .1))
 
 sum-sums-requires : (t : ℕ) → sum-lts.Need-sums-requires (sum-calls t) (sum-at t) sum.Post
-sum-sums-requires t c κs = chains.after-first plus (c .before .before .before .before .pre .1) (c .before .before .before .before .pre .0) (c .before .product .ensures)
+sum-sums-requires t c κs =
+    let n = chains.after-first plus (c .before .before .before .before .before .pre .1 .1) (c .before .before .before .before .before .pre .0) (c .before .before .product .ensures .1) in (n .0, (lent-on (c .before .before .before .before .before .pre .1 .0) (c .before .before .product .ensures .0), n .1))
 
 sum-returns : (t : ℕ) → sum-lts.Need-returns (sum-calls t) (sum-at t) sum.Post
-sum-returns t c = chains.whole-path plus (c .before .before .before .before .before .pre .1) (c .before .before .product .ensures) (c .sums .ensures)
+sum-returns t c =
+    (c .sums .ensures .0, chains.whole-path plus (c .before .before .before .before .before .before .pre .1 .1) (c .before .before .before .product .ensures .1) (c .sums .ensures .1))
 
-sums-add-moved : (t : ℕ) → sums-lts.Need-add-moved (sums-calls t) (sums-at t) sums.Post
-sums-add-moved t c = let g = c .before .before .before .before .pre .1 in omega (arith, g .within, g .short)
+sums-add-move-to : (t : ℕ) → sums-lts.Need-add-move-to (sums-calls t) (sums-at t) sums.Post
+unfolding markOf
+sums-add-move-to t c =
+    let g = c .before .before .before .before .before .pre .1 .1 in omega (arith, g .within, g .short)
 
 -- past the byte b at the front of the rest of a chain, at x
 abbrev Sums-step : (t : ℕ) → sums-lts.Start (sums-calls t) (sums-at t) sums.Post → ℕ → Mark → Type 0
-Sums-step t s b x = paths.Step (s .args .text .now) (s .args .code .now) (s .args .m) (s .args .deep) 1 t b x
+Sums-step t s b x = paths.Step (take (s .args .bytes) (s .args .text .now)) (s .args .code .now) (markOf (s .args .m .now)) (s .args .deep) 1 t b x
 
-plus-step : (t : ℕ) (c : sums-lts.After-moved (sums-calls t) (sums-at t) sums.Post) → Sums-step t (c .before .before .before .before .before) 43 (c .moved .result)
-plus-step t c = paths.step (c .before .before .before .before .before .pre) (sym (c .before .before .before .next .ensures) ∙ c .before .before .if1 .taken) (omega arith) (c .moved .ensures)
+plus-step : (t : ℕ) (c : sums-lts.After-move-to (sums-calls t) (sums-at t) sums.Post) → Sums-step t (c .before .before .before .before .before .before) 43 (markOf (c .move-to .last .0))
+unfolding markOf
+plus-step t c = paths.step (c .before .before .before .before .before .before .pre .0, c .before .before .before .before .before .before .pre .1 .1) (sym (c .before .before .before .before .next .ensures) ∙ c .before .before .before .if1 .taken) (omega arith) (c .move-to .ensures .1)
 
 sums-product-requires : (t : ℕ) → sums-lts.Need-product-requires (sums-calls t) (sums-at t) sums.Post
-sums-product-requires t c κs = chains.operand-needs plus (plus-step t c)
+sums-product-requires t c κs =
+    let n = chains.operand-needs plus (plus-step t (c .before .before)) in (n .0, (lent-on (c .before .before .before .before .before .before .before .before .pre .1 .0) (c .before .before .move-to .ensures .0), n .1))
 
 sums-put-requires : (t : ℕ) → sums-lts.Need-put-requires (sums-calls t) (sums-at t) sums.Post
-sums-put-requires t c κs = chains.operator-needs plus (plus-step t (c .before .before)) (c .before .product .ensures)
+sums-put-requires t c κs =
+    let n = chains.operator-needs plus (plus-step t (c .before .before .before .before .before)) (c .before .before .product .ensures .1) in (c .before .before .product .ensures .0, n .0, n .1)
 
 sums-sums-requires : (t : ℕ) → sums-lts.Need-sums-requires (sums-calls t) (sums-at t) sums.Post
-sums-sums-requires t c κs = chains.rest-needs plus (plus-step t (c .before .before .before .before)) (c .before .before .before .product .ensures) (c .before .put .ensures)
+sums-sums-requires t c κs =
+    let n = chains.rest-needs plus (plus-step t (c .before .before .before .before .before .before .before .before)) (c .before .before .before .before .before .product .ensures .1) (c .before .before .put .ensures .0 .1, c .before .before .put .ensures .1) in
+    (n .0, (lent-on (c .before .before .before .before .before .before .before .before .before .before .before .before .before .before .pre .1 .0) (c .before .before .put .ensures .0 .0), n .1))
 
 sums-returns : (t : ℕ) → sums-lts.Need-returns (sums-calls t) (sums-at t) sums.Post
-sums-returns t c = chains.rest-path plus (plus-step t (c .before .before .before .before .before)) (c .before .before .before .before .product .ensures) (c .before .before .put .ensures) (c .sums .ensures)
+sums-returns t c =
+    (c .sums .ensures .0, chains.rest-path plus (plus-step t (c .before .before .before .before .before .before .before .before .before)) (c .before .before .before .before .before .before .product .ensures .1) (c .before .before .before .put .ensures .0 .1, c .before .before .before .put .ensures .1) (c .sums .ensures .1))
 
 sums-returns-2 : (t : ℕ) → sums-lts.Need-returns-2 (sums-calls t) (sums-at t) sums.Post
-sums-returns-2 t c = chains.rest-end plus (c .before .before .before .pre .1) (ne-eqb _ _ (λ h. c .if1 .left (c .before .next .ensures ∙ h)))
+sums-returns-2 t c =
+    (c .before .before .before .pre .1 .0 .five, chains.rest-end plus (c .before .before .before .pre .1 .1) (ne-eqb _ _ (λ h. c .if1 .left (c .before .next .ensures ∙ h))))
+
+timer-expect-requires : (t : ℕ) → timer-lts.Need-expect-requires (timer-calls t) (timer-at t) timer.Post
+timer-expect-requires t c κs = (c .before .pre .1 .0 .0, omega arith)
 
 timer-pass-length-requires : (t : ℕ) → timer-lts.Need-pass-length-requires (timer-calls t) (timer-at t) timer.Post
 timer-pass-length-requires t c κs =
-    let s = c .before .before in
-    paths.opened (s .args .deep) (s .pre .1 .0) (c .expect .ensures) .within
+    let s = c .before .before .before .before in
+    let o = paths.opened (s .args .deep) (s .pre .1 .0 .1) (c .before .before .expect .ensures .1) in
+    (lent-on (c .before .before .before .before .pre .1 .0 .0) (c .before .before .expect .ensures .0), omega (arith, o .within, text-long (s .pre .1 .0 .0)))
 
 timer-ticks-requires : (t : ℕ) → timer-lts.Need-ticks-requires (timer-calls t) (timer-at t) timer.Post
+unfolding markOf
 timer-ticks-requires t c κs =
-    let s = c .before .before .before in
-    let p = passed (s .args .text .now) (c .before .expect .result) (paths.opened (s .args .deep) (s .pre .1 .0) (c .before .expect .ensures) .within) in
-    let a = ap (λ (j : Mark). j .at) (c .pass-length .ensures) in
-    (omega (arith, p .on, a), omega (arith, p .within, a))
+    let s = c .before .before .before .before .before .before in
+    let o = paths.opened (s .args .deep) (s .pre .1 .0 .1) (c .before .before .before .before .expect .ensures .1) in
+    let p = passed (take (s .args .bytes) (s .args .text .now)) (markOf (c .before .before .before .before .expect .last .1 .1 .0)) (o .within) in
+    let a = ap (λ (j : Mark). j .at) (c .before .pass-length .ensures .1) in
+    (s .pre .1 .0 .0 .whole, omega (arith, p .on, a), omega (arith, p .within, a, text-long (s .pre .1 .0 .0), s .pre .1 .0 .0 .first))
+
+timer-expect-requires-2 : (t : ℕ) → timer-lts.Need-expect-requires-2 (timer-calls t) (timer-at t) timer.Post
+timer-expect-requires-2 t c κs = (lent-on (c .before .before .before .before .before .before .before .before .pre .1 .0 .0) (c .before .before .before .pass-length .ensures .0), omega arith)
 
 timer-add-sum : (t : ℕ) → timer-lts.Need-add-sum (timer-calls t) (timer-at t) timer.Post
-timer-add-sum t c = let g = c .before .before .before .before .before .before .pre .1 .0 in omega (arith, g .opened, g .within, g .short)
+timer-add-sum t c =
+    let g = c .before .before .before .before .before .before .before .before .before .before .before .pre .1 .0 .1 in omega (arith, g .opened, g .within, g .short)
 
 timer-sum-requires : (t : ℕ) → timer-lts.Need-sum-requires (timer-calls t) (timer-at t) timer.Post
 timer-sum-requires t c κs =
-    let s = c .before .before .before .before .before .before in
-    inner-needs (s .args .deep) (s .pre .1 .0) (paths.timer-parted (s .args .deep) (s .pre .1 .0) (c .before .before .before .before .expect .ensures) (c .before .before .before .pass-length .ensures) (c .expect2 .ensures)) (s .pre .0)
+    let s = c .before .before .before .before .before .before .before .before .before .before .before in
+    let g = s .pre .1 .0 .1 in
+    let n = inner-needs (s .args .deep) g (paths.timer-parted (s .args .deep) g (c .before .before .before .before .before .before .before .before .before .expect .ensures .1) (c .before .before .before .before .before .before .pass-length .ensures .1) (c .before .before .expect2 .ensures .1)) (s .pre .0) in
+    (n .0, (lent-on (c .before .before .before .before .before .before .before .before .before .before .before .pre .1 .0 .0) (c .before .before .expect2 .ensures .0), n .1))
+
+timer-expect-requires-3 : (t : ℕ) → timer-lts.Need-expect-requires-3 (timer-calls t) (timer-at t) timer.Post
+timer-expect-requires-3 t c κs = (lent-on (c .before .before .before .before .before .before .before .before .before .before .before .before .before .pre .1 .0 .0) (c .before .sum .ensures .0), omega arith)
 
 timer-mul-put : (t : ℕ) → timer-lts.Need-mul-put (timer-calls t) (timer-at t) timer.Post
-timer-mul-put t c = omega (arith, capped-most _ _ (c .before .before .before .before .before .ticks .ensures))
+timer-mul-put t c = omega (arith, capped-most _ _ (c .before .before .before .before .before .before .before .before .before .ticks .ensures))
 
 timer-add-put : (t : ℕ) → timer-lts.Need-add-put (timer-calls t) (timer-at t) timer.Post
-timer-add-put t c = omega (arith, capped-most _ _ (c .before .before .before .before .before .ticks .ensures), c .before .before .before .before .before .before .before .before .before .pre .1 .1)
+timer-add-put t c = omega (arith, capped-most _ _ (c .before .before .before .before .before .before .before .before .before .ticks .ensures), c .before .before .before .before .before .before .before .before .before .before .before .before .before .before .before .before .pre .1 .1)
 
 timer-put-requires : (t : ℕ) → timer-lts.Need-put-requires (timer-calls t) (timer-at t) timer.Post
 timer-put-requires t c κs =
-    let s = c .before .before .before .before .before .before .before .before .before in
-    paths.timer-needs (s .args .deep) (s .pre .1 .0) (c .before .before .before .before .before .before .before .expect .ensures) (c .before .before .before .before .before .before .pass-length .ensures) (c .before .before .before .expect2 .ensures) (c .before .before .sum .ensures) (c .expect3 .ensures)
+    let s = c .before .before .before .before .before .before .before .before .before .before .before .before .before .before .before .before in
+    let n = paths.timer-needs (s .args .deep) (s .pre .1 .0 .1) (c .before .before .before .before .before .before .before .before .before .before .before .before .before .before .expect .ensures .1) (c .before .before .before .before .before .before .before .before .before .before .before .pass-length .ensures .1) (c .before .before .before .before .before .before .before .expect2 .ensures .1) (c .before .before .before .before .sum .ensures .1) (c .before .before .expect3 .ensures .1) in
+    (c .before .before .expect3 .ensures .0, n .0, n .1)
 
 timer-returns : (t : ℕ) → timer-lts.Need-returns (timer-calls t) (timer-at t) timer.Post
+unfolding markOf
 timer-returns t c =
-    let s = c .before .before .before .before .before .before .before .before .before .before in
-    paths.timer-path (s .args .deep) (s .pre .1 .0) (c .before .before .before .before .before .before .before .before .expect .ensures) (c .before .before .before .before .before .before .before .pass-length .ensures) (c .before .before .before .before .expect2 .ensures) (c .before .before .before .sum .ensures)
-    (c .before .expect3 .ensures) (s .args .part) _ (c .before .before .before .before .before .before .ticks .ensures) (c .put .ensures .1) (c .put .ensures .0)
+    let s = c .before .before .before .before .before .before .before .before .before .before .before .before .before .before .before .before .before in
+    let a = s .args in
+    let g = s .pre .1 .0 .1 in
+    let o = paths.opened (a .deep) g (c .before .before .before .before .before .before .before .before .before .before .before .before .before .before .before .expect .ensures .1) in
+    let p = passed (take (a .bytes) (a .text .now)) (markOf (c .before .before .before .before .before .before .before .before .before .before .before .before .before .before .before .expect .last .1 .1 .0)) (o .within) in
+    let q = ap (λ (j : Mark). j .at) (c .before .before .before .before .before .before .before .before .before .before .before .before .pass-length .ensures .1) in
+    let v = value-front (a .text .now) (a .bytes) (markOf (c .before .before .before .before .before .before .before .before .before .before .before .before .before .before .before .expect .last .1 .1 .0) .at) (markOf (c .before .before .before .before .before .before .before .before .before .before .before .before .pass-length .last .1 .1 .0) .at) (omega (arith, p .on, q)) (omega (arith, p .within, q, text-long (s .pre .1 .0 .0))) in (
+      c .put .ensures .0 .0,
+      paths.timer-path (a .deep) g (c .before .before .before .before .before .before .before .before .before .before .before .before .before .before .before .expect .ensures .1) (c .before .before .before .before .before .before .before .before .before .before .before .before .pass-length .ensures .1) (c .before .before .before .before .before .before .before .before .expect2 .ensures .1) (c .before .before .before .before .before .sum .ensures .1)
+          (c .before .before .before .expect3 .ensures .1) (a .part) _ (c .before .before .before .before .before .before .before .before .before .before .ticks .ensures ∙ ap capped (sym v)) (c .put .ensures .1) (c .put .ensures .0 .1),
+    )
 
 pub +factor+latch+product+products+sum+sums+timer-spec : {M : Type 1} → statement M
 +factor+latch+product+products+sum+sums+timer-spec =
     close μ-factor μ-latch μ-product μ-products μ-sum μ-sums μ-timer
-    (λ t. factor-lts.spec (factor-calls t) (factor-at t) factor.Post (λ c κs. search needs) (λ c κs. search needs) (factor-add-moved t)
-    (λ c κs. search needs) (factor-add-factor t) (factor-factor-requires t) (factor-put-requires t) (factor-returns t) (factor-add-moved-2 t)
-    (λ c κs. search needs) (factor-add-sum t) (factor-sum-requires t) (λ c κs. omega arith) (factor-returns-2 t) (factor-add-moved-3 t)
-    (λ c κs. search needs) (λ c κs. omega arith) (factor-latch-requires t) (factor-returns-3 t) (factor-add-moved-4 t) (λ c κs. search needs)
-    (λ c κs. omega arith) (factor-latch-requires-2 t) (factor-returns-4 t) (factor-add-moved-5 t) (λ c κs. search needs) (λ c κs. omega arith)
-    (λ c κs. search needs) (factor-add-moved-6 t) (λ c κs. search needs) (factor-timer-requires t) (factor-returns-5 t) (λ c κs. omega arith)
+    (λ t. factor-lts.spec (factor-calls t) (factor-at t) factor.Post (λ c. search needs) (λ c κs. search needs) (λ c κs. search needs)
+    (factor-add-move-to t) (λ c κs. search needs) (factor-add-factor t) (factor-factor-requires t) (factor-put-requires t) (factor-returns t)
+    (factor-add-move-to-2 t) (λ c κs. search needs) (factor-add-sum t) (factor-sum-requires t) (factor-expect-requires t) (factor-returns-2 t)
+    (factor-add-move-to-3 t) (λ c κs. search needs) (factor-expect-requires-2 t) (factor-latch-requires t) (factor-returns-3 t)
+    (factor-add-move-to-4 t) (λ c κs. search needs) (factor-expect-requires-3 t) (factor-latch-requires-2 t) (factor-returns-4 t)
+    (factor-add-move-to-5 t) (λ c κs. search needs) (factor-expect-requires-4 t) (factor-next-requires-2 t) (λ c. search needs)
+    (factor-add-move-to-6 t) (factor-move-to-requires-6 t) (factor-timer-requires t) (factor-returns-5 t) (factor-expect-requires-5 t)
     (factor-timer-requires-2 t) (factor-returns-6 t) (factor-leaf-requires t) (factor-returns-7 t))
-    (λ t. latch-lts.spec (latch-calls t) (latch-at t) latch.Post (λ c κs. omega arith) (latch-add-sum t) (latch-sum-requires t) (λ c κs. omega arith)
-    (latch-add-sum-2 t) (latch-sum-requires-2 t) (λ c κs. omega arith) (latch-put-requires t) (latch-returns t))
+    (λ t. latch-lts.spec (latch-calls t) (latch-at t) latch.Post (latch-expect-requires t) (latch-add-sum t) (latch-sum-requires t)
+    (latch-expect-requires-2 t) (latch-add-sum-2 t) (latch-sum-requires-2 t) (latch-expect-requires-3 t) (latch-put-requires t) (latch-returns t))
     (λ t. product-lts.spec (product-calls t) (product-at t) product.Post (product-factor-requires t) (product-products-requires t)
     (product-returns t))
-    (λ t. products-lts.spec (products-calls t) (products-at t) products.Post (λ c κs. search needs) (products-add-moved t) (λ c κs. search needs)
-    (products-factor-requires t) (products-put-requires t) (products-products-requires t) (products-returns t) (products-returns-2 t))
+    (λ t. products-lts.spec (products-calls t) (products-at t) products.Post (λ c κs. search needs) (λ c. search needs) (products-add-move-to t)
+    (λ c κs. search needs) (products-factor-requires t) (products-put-requires t) (products-products-requires t) (products-returns t)
+    (products-returns-2 t))
     (λ t. sum-lts.spec (sum-calls t) (sum-at t) sum.Post (sum-product-requires t) (sum-sums-requires t) (sum-returns t))
-    (λ t. sums-lts.spec (sums-calls t) (sums-at t) sums.Post (λ c κs. search needs) (sums-add-moved t) (λ c κs. search needs)
+    (λ t. sums-lts.spec (sums-calls t) (sums-at t) sums.Post (λ c κs. search needs) (λ c. search needs) (sums-add-move-to t) (λ c κs. search needs)
     (sums-product-requires t) (sums-put-requires t) (sums-sums-requires t) (sums-returns t) (sums-returns-2 t))
-    (λ t. timer-lts.spec (timer-calls t) (timer-at t) timer.Post (λ c κs. omega arith) (timer-pass-length-requires t) (timer-ticks-requires t)
-    (λ c κs. omega arith) (timer-add-sum t) (timer-sum-requires t) (λ c κs. omega arith) (timer-mul-put t) (timer-add-put t) (timer-put-requires t)
-    (timer-returns t))
+    (λ t. timer-lts.spec (timer-calls t) (timer-at t) timer.Post (timer-expect-requires t) (λ c. search needs) (timer-pass-length-requires t)
+    (λ c. search needs) (timer-ticks-requires t) (timer-expect-requires-2 t) (timer-add-sum t) (timer-sum-requires t) (timer-expect-requires-3 t)
+    (timer-mul-put t) (timer-add-put t) (timer-put-requires t) (timer-returns t))
