@@ -304,23 +304,19 @@ def verdict(sheet, f, g, work):
     return "holds" if m is None else "fails %s %d" % ("at" if m % 2 else "after", (m + 1) // 2)
 
 
-def report(data, work=8192, room=32):
+def report(data):
     """What the program prints for an input."""
     f, _, rest = data[:65536].partition(b"\n")
     g, _, sheet = rest.partition(b"\n")
-    line = verdict(sheet, f.decode("latin-1"), g.decode("latin-1"), work)
-    return line if len(line) < room else "no line, 7"
+    return verdict(sheet, f.decode("latin-1"), g.decode("latin-1"), 8192)
 
 
 def claim_run():
     reported = re.findall(r"reported\(\s*(b\".*?)\);", source("claim_run"), re.S)
     lines = [(label, report(data)) for label, data in map(byte_strings, reported)]
-    empty = b"1\n1\n" + EMPTY
     for label, at in re.findall(r'long_input\(b"(.*?)", (\d+)\)', source("claim_run")):
         data = b"a" * int(at) + b"\n\n" + EMPTY
         lines.append((label.encode(), report(data.ljust(65600, b"a"))))
-    lines += [(b"8191 work words", report(empty, work=8191)), (b"output of 5 bytes", report(empty, room=5)),
-              (b"output of 6 bytes", report(empty, room=6))]
     return ["%s: %s" % (label.decode(), line) for label, line in lines]
 
 

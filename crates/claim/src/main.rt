@@ -1,17 +1,44 @@
 // Reads formula F, formula G and a sheet from standard input, and prints whether F's claim on G holds there.
+use libc::STDERR_FILENO;
 use libc::STDIN_FILENO;
 use libc::STDOUT_FILENO;
-use signals::Written;
+
+// What reading gave: so many bytes up to the end of the input or of the buffer, or a read that failed.
+enum Input {
+    Bytes(usize),
+    Failed,
+}
+
+// Reads until the input ends, the buffer is full or a read fails.
+fn read_input(buffer: &mut [u8; 65536]) -> Input {
+    let space: &mut [u8] = buffer;
+    let mut done: usize = 0;
+    while done < space.len() {
+        let got = libc::read(STDIN_FILENO, &mut space[done..]);
+        if got < 0 {
+            return Input::Failed;
+        }
+        let more = io::count(got, &space[done..]);
+        if more == 0 {
+            return Input::Bytes(done);
+        }
+        done += more;
+    }
+    Input::Bytes(done)
+}
 
 fn main() {
-    let mut input = io::large_buffer();
-    let n = io::read_full(STDIN_FILENO, &mut input);
-    let mut work = [0u32; 8192];
-    let mut out = [0u8; 32];
-    match report::report(&input[..n], &mut work, &mut out) {
-        Written::Count(count) => {
-            io::write_all(STDOUT_FILENO, &out[..count]);
+    let mut input = [0u8; 65536];
+    match read_input(&mut input) {
+        Input::Bytes(n) => {
+            let mut line = [0u8; 23];
+            let count = report::report(&input, n, &mut line);
+            if !io::write_all(STDOUT_FILENO, &line[..count]) {
+                io::write_all(STDERR_FILENO, b"claim: standard output cannot be written\n");
+            }
         }
-        Written::Refused(_) => {}
+        Input::Failed => {
+            io::write_all(STDERR_FILENO, b"claim: standard input cannot be read\n");
+        }
     }
 }

@@ -4,4 +4,5 @@ pub mod Digits
 pub mod DecimalRight
 pub mod Filling
 pub mod Telling
-pub mod Room
+pub mod Refusals
+pub mod OneLine

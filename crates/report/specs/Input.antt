@@ -12,9 +12,12 @@ toLineFeed text = before 10 text
 abbrev pub pastLineFeed : List ℕ → List ℕ
 pastLineFeed text = past 10 text
 
--- the bytes of the input that count
+-- the most bytes of the input that count, and those that do
+abbrev pub limit : ℕ
+limit = 65536
+
 unfoldable pub counted : List ℕ → List ℕ
-counted input = take 65536 input
+counted input = take limit input
 
 -- F, G and the sheet
 unfoldable pub formulaF : List ℕ → List ℕ

@@ -3,3 +3,4 @@ pub mod Input
 pub mod Line
 pub mod Decimal
 pub mod Reporting
+pub mod OneLine

@@ -1,24 +1,21 @@
 // What the program prints for what it reads: the input split into F, G and the sheet, their claim, and the line of its answer.
 ghost use mathlib.Core.Path.{_≡_};
-ghost use Prim.Native.Nat.{_+_, _≤_};
+ghost use Prim.Native.Nat.{_+_, _≤_, _<_};
 ghost use lib.ListN.{length, take, drop};
-ghost use Rattle.report.specs.Input.{counted as Input·counted};
+ghost use Rattle.report.specs.Input.{limit};
 ghost use Rattle.report.specs.Line.{decimal as Line·decimal, line as Line·line, lineOf};
-ghost use Rattle.report.specs.Reporting.{lineAnswer, lineOutput, firstFaultOf, reportAnswer, reportOutput};
+ghost use Rattle.report.specs.OneLine.{longest};
+ghost use Rattle.report.specs.Reporting.{printed, over};
 use signals::Verdict;
-use signals::Written;
 
-// The most bytes of the input that count.
-const BYTES: usize = 65536;
-
-// The bytes of the input that count.
-fn counted(input: &[u8]) -> &[u8]
-    ensures { λ r. ⌜ now r ≡ Input·counted (now (input .entry)) ⌝ }
+// The first n bytes of a text; all of it when it has no more.
+fn first(text: &[u8], n: usize) -> &[u8]
+    ensures { λ r. ⌜ now r ≡ take n (now (text .entry)) ⌝ }
 {
-    if BYTES < input.len() {
-        return &input[..BYTES];
+    if n < text.len() {
+        return &text[..n];
     }
-    input
+    text
 }
 
 // Puts a number's decimal digits at the end of the array, and says where they begin.
@@ -37,26 +34,23 @@ fn decimal(n: u32, text: &mut [u8; 10]) -> usize
     at
 }
 
-// Writes a text, digits and a line feed.
-fn write_line(text: &[u8], digits: &[u8], out: &mut [u8]) -> Written
-    requires { ⌜ (length (now text) ≤ 16) × (length (now digits) ≤ 16) ⌝ }
-    ensures { λ r. ⌜ (r ≡ lineAnswer (Line·line (now (text .entry)) (now (digits .entry))) (now (out .entry))) × (now (out .exit) ≡ lineOutput (Line·line (now (text .entry)) (now (digits .entry))) (now (out .entry))) ⌝ }
+// Writes a text, digits and a line feed, and says how many bytes these are.
+fn write_line(text: &[u8], digits: &[u8], out: &mut [u8]) -> usize
+    requires { ⌜ (length (now text) ≤ 12) × (length (now digits) ≤ 10) × (length (now out) ≡ longest) ⌝ }
+    ensures { λ r. ⌜ (r ≡ length (Line·line (now (text .entry)) (now (digits .entry)))) × (now (out .exit) ≡ over (Line·line (now (text .entry)) (now (digits .entry))) (now (out .entry))) ⌝ }
 {
     let first = text.len();
     let last = first + digits.len();
-    if out.len() <= last {
-        return Written::Refused(7);
-    }
     slices::put(out, 0, text);
     slices::put(out, first, digits);
     slices::put(out, last, b"\n");
-    Written::Count(last + 1)
+    last + 1
 }
 
 // Writes a text, a number in decimal and a line feed.
-fn write_number(text: &[u8], n: u32, out: &mut [u8]) -> Written
-    requires { ⌜ length (now text) ≤ 16 ⌝ }
-    ensures { λ r. ⌜ (r ≡ lineAnswer (Line·line (now (text .entry)) (Line·decimal n)) (now (out .entry))) × (now (out .exit) ≡ lineOutput (Line·line (now (text .entry)) (Line·decimal n)) (now (out .entry))) ⌝ }
+fn write_number(text: &[u8], n: u32, out: &mut [u8]) -> usize
+    requires { ⌜ (length (now text) ≤ 12) × (length (now out) ≡ longest) ⌝ }
+    ensures { λ r. ⌜ (r ≡ length (Line·line (now (text .entry)) (Line·decimal n))) × (now (out .exit) ≡ over (Line·line (now (text .entry)) (Line·decimal n)) (now (out .entry))) ⌝ }
 {
     let mut digits = [0u8; 10];
     let at = decimal(n, &mut digits);
@@ -64,8 +58,9 @@ fn write_number(text: &[u8], n: u32, out: &mut [u8]) -> Written
 }
 
 // Writes the line of a claim's answer.
-fn tell(verdict: Verdict, out: &mut [u8]) -> Written
-    ensures { λ r. ⌜ (r ≡ lineAnswer (lineOf verdict) (now (out .entry))) × (now (out .exit) ≡ lineOutput (lineOf verdict) (now (out .entry))) ⌝ }
+fn tell(verdict: Verdict, out: &mut [u8]) -> usize
+    requires { ⌜ length (now out) ≡ longest ⌝ }
+    ensures { λ r. ⌜ (r ≡ length (lineOf verdict)) × (now (out .exit) ≡ over (lineOf verdict) (now (out .entry))) ⌝ }
 {
     match verdict {
         Verdict::Holds => write_line(b"holds", b"", out),
@@ -75,16 +70,19 @@ fn tell(verdict: Verdict, out: &mut [u8]) -> Written
     }
 }
 
-// The report of an input: the line of the claim that it makes, or 7 when the output is shorter. After a claim that passed check 18 the
-// work area is free.
-pub fn report(input: &[u8], work: &mut [u32], out: &mut [u8]) -> Written
-    ensures { λ r. ⌜ (r ≡ reportAnswer (now (input .entry)) (length (now (work .entry))) (now (out .entry))) × (now (out .exit) ≡ reportOutput (now (input .entry)) (length (now (work .entry))) (now (out .entry))) × ((firstFaultOf (now (input .entry)) (length (now (work .entry))) ≡ 0 → ⊥) → now (work .exit) ≡ now (work .entry)) ⌝ }
+// The report of the first n bytes of an input: writes the line of the claim that they make, and says how many bytes it has. The types have the
+// 65,536 bytes that count and the bytes of the longest line, so that no line is refused with 7; the work area is long enough, so that no
+// claim is refused with 18.
+pub fn report(input: &[u8; 65536], n: usize, out: &mut [u8; 23]) -> usize
+    ensures { λ r. ⌜ (length (now (input .entry)) ≡ limit) × (r ≡ length (printed (take n (now (input .entry))))) × (now (out .exit) ≡ over (printed (take n (now (input .entry)))) (now (out .entry))) ⌝ }
+    ensures { λ r. ⌜ (r ≤ length (now (out .exit))) × (r ≡ length (take r (now (out .exit)))) ⌝ }
 {
-    let text = counted(input);
+    let text = first(input, n);
     let after = slices::part_after(text, b'\n');
     let sheet = slices::part_after(after, b'\n');
     let f = slices::part_before(text, b'\n');
     let g = slices::part_before(after, b'\n');
-    let verdict = evaluation::claim(sheet, f, g, work);
+    let mut work = [0u32; 8192];
+    let verdict = evaluation::claim(sheet, f, g, &mut work);
     tell(verdict, out)
 }
