@@ -87,7 +87,7 @@ def paths(tokens):
             i += 1
         elif is_name(tokens[i]):
             path = [tokens[i]]
-            while i + 2 < len(tokens) and tokens[i + 1] == "." and tokens[i + 1].touches and tokens[i + 2].touches and is_name(tokens[i + 2]):
+            while tokens[i + 1 : i + 2] == ["."] and all(t.touches for t in tokens[i + 1 : i + 3]) and any(map(is_name, tokens[i + 2 : i + 3])):
                 path.append(tokens[i + 2])
                 i += 2
             found.append(tuple(path))
