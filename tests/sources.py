@@ -124,11 +124,11 @@ def full(path):
 
 
 class Declaration:
-    """A name that a module declares: its parameters and type, its fields or constructors, the paths that it names."""
+    """A name that a module declares: its parameters and type, whether by `data` or `record`, its members, the paths that it names."""
 
     def __init__(self, module, name, public, parameters, type_tokens):
         self.module, self.name, self.public, self.parameters, self.type = module, name, public, parameters, type_tokens
-        self.path, self.members, self.body, self.named = f"{module.path}.{name}", [], [], set()
+        self.path, self.data, self.members, self.body, self.named = f"{module.path}.{name}", False, [], [], set()
         self.mention(parameters + type_tokens)
 
     def mention(self, tokens, without=()):
@@ -156,7 +156,8 @@ class Module:
             elif chunk[0] == "mutual":
                 self.read(chunk[1:], parameters)
             elif chunk[0] in ("data", "record"):
-                last = self.declare(chunk[1], public, parameters + chunk[2:colon], chunk[colon + 1 : where])
+                last = self.declare(chunk[1], public, parameters + chunk[2 : min(colon, where)], chunk[colon + 1 : where])
+                last.data = True
                 for member in chunks(chunk[where + 1 :]):
                     names = [t for t in member[: outer(member, ":")] if t not in MARKS]
                     last.members += names
