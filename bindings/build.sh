@@ -19,7 +19,7 @@ trap 'rm -rf -- "$copy"' EXIT
 trap 'exit 1' HUP INT TERM
 mkdir "$copy/repository"
 cp -R "$root/crates" "$root/crates.txt" "$copy/repository/"
-# Crates proved before and unchanged since are not proved again: the gate proves all from nothing after these tests.
+# Crates proved before and unchanged since are not proved again: the gate runs these tests after rt ci has proved all from nothing.
 if [ -d "$root/target/rlib" ] && [ -d "$root/target/stamp" ]; then
     mkdir "$copy/repository/target"
     cp -R "$root/target/rlib" "$root/target/stamp" "$copy/repository/target/"

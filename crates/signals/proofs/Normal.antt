@@ -13,7 +13,7 @@ use Rattle.signals.specs.Moment.{gap, instant}
 use Rattle.signals.specs.Signal.{Signal}
 use Rattle.signals.specs.Words.{word, dateOf, valueAt, valueAfter, headValue, changesNothing, wordsFault, listFault, valueFrom, signalOf, lastFrom, lastDate, wordsOf, listOf}
 use Rattle.signals.specs.Settled.{SettledFrom, entry}
-use Rattle.signals.specs.Normal.{Normal, Accepted, Rising, AcceptedNormal, Unique, UniqueAccepted, ListOfSignal, ReadBack}
+use Rattle.signals.specs.Normal.{Normal, Accepted, Rising, DatesRise, AcceptedNormal, Unique, UniqueAccepted, ListOfSignal, ReadBack}
 use Rattle.signals.proofs.WordFacts.{dateOf-word, valueAt-word, valueAfter-word, word-of, num-le, headValue-num, num-headValue}
 use Rattle.signals.proofs.Scan.{scan-to, scan-settled, listOf-more, listOf-ext}
 use Rattle.signals.proofs.Operand.{Ahead, At, at-start, pass-word, words-rise, value-none, value-before, value-at, value-after, value-held}
@@ -62,6 +62,9 @@ read-words f m k v (w ∷ ws) a h le =
     scan-to f m k (dateOf w) v (valueAt w) (valueAfter w) (step .0) d ∙
     rw (entry-word v w (s .changes), read-words f m (dateOf w) (valueAfter w) ws (step .1) (s .rest) le)
 
+pub datesRise : DatesRise
+datesRise h ws n = words-rise 0 (headValue h) ws (n .1)
+
 pub start : (h : ℕ) (ws : List ℕ) → Rising 0 ws → Ahead (signalOf (h ∷ ws)) 0 (headValue h) ws
 unfolding signalOf
 start h ws r = record { says = λ t g. refl; rises = r }
@@ -69,7 +72,7 @@ start h ws r = record { says = λ t g. refl; rises = r }
 pub read-list : (h : ℕ) (ws : List ℕ) (m : ℕ) → Normal (h ∷ ws) → lastFrom 0 ws ≤ m → listOf (signalOf (h ∷ ws)) m ≡ h ∷ ws
 unfolding listOf
 read-list h ws m n le =
-    let a = start h ws (words-rise 0 (headValue h) ws (n .1)) in
+    let a = start h ws (datesRise h ws n) in
     let first : signalOf (h ∷ ws) 0 ≡ headValue h = a .says 0 (omega arith) ∙ value-held (headValue h) 0 ws 0 (a .rises) (omega arith) in
     let e : m ≡ m - 0 = omega arith in
     rw (first, num-headValue h (n .0)) (ap (λ l. h ∷ l) (rw e (read-words (signalOf (h ∷ ws)) m 0 (headValue h) ws a (n .1) le)))
@@ -79,7 +82,7 @@ unfolding lastDate
 readBack [] n = absurd n
 readBack (h ∷ ws) n =
     record {
-      settled = ahead-settled (signalOf (h ∷ ws)) 0 (headValue h) ws (start h ws (words-rise 0 (headValue h) ws (n .1)));
+      settled = ahead-settled (signalOf (h ∷ ws)) 0 (headValue h) ws (start h ws (datesRise h ws n));
       same = read-list h ws (lastFrom 0 ws) n (omega arith);
     }
 
@@ -204,7 +207,7 @@ pub accepted-start : (l : List ℕ) → Accepted l → At (signalOf l) l 1 0
 accepted-start [] a = absurd (acceptedNormal [] .0 a .0)
 accepted-start (h ∷ ws) a =
     let n = acceptedNormal (h ∷ ws) .0 a .0 in
-    at-start h ws (n .0) (words-rise 0 (headValue h) ws (n .1))
+    at-start h ws (n .0) (datesRise h ws n)
 
 pub accepted-settled : (l : List ℕ) → Accepted l → SettledFrom (signalOf l) (lastDate l)
 accepted-settled l a = readBack l (acceptedNormal l .0 a .0) .settled

@@ -61,7 +61,7 @@ pub justBefore-instant : (k : ℕ) → 1 ≤ k → justBefore (instant k) ≡ ga
 unfolding justBefore
 justBefore-instant k l = omega arith
 
-moments : Moments
+pub moments : Moments
 moments =
     record {
       either = either;
@@ -117,7 +117,7 @@ unfolding opens
 opens-of t1 n (inl l) = omega arith
 opens-of t1 n (inr h) = omega (arith, opens-gap t1 (h .1))
 
-spans : Spans
+pub spans : Spans
 spans =
     record {
       previous = justBefore-instant;
@@ -143,7 +143,7 @@ spans =
       gapInstants = λ d k j l. omega arith;
     }
 
-tests : Tests
+pub tests : Tests
 tests =
     record {
       openSpan = λ t1 t n. (agreement.inOpen-up t1 t n, agreement.inOpen-of t1 t n);

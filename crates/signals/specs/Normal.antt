@@ -21,6 +21,10 @@ abbrev pub Rising : ℕ → List ℕ → Type 0
 Rising k [] = Unit {0}
 Rising k (w ∷ ws) = (k < dateOf w) × Rising (dateOf w) ws
 
+-- The dates of a normal list rise.
+abbrev pub DatesRise : Type 0
+DatesRise = (h : ℕ) (ws : List ℕ) → Normal (h ∷ ws) → Rising 0 ws
+
 -- An accepted list is a normal one of at most 256 words.
 abbrev pub AcceptedNormal : Type 0
 AcceptedNormal = (l : List ℕ) → Accepted l ↔ (Normal l × (length l ≤ 256))

@@ -1,0 +1,205 @@
+-- Each statement at its full path with its term, for the prover to check: written by `tests/statements --write`.
+
+pub calls-Demand2-Demand2-defined : Rattle.calls.specs.Demand2.Demand2 Rattle.calls.specs.Engine.defined
+calls-Demand2-Demand2-defined = Rattle.calls.proofs.Demand2.demand2
+
+pub calls-Demand3-Demand3-defined : Rattle.calls.specs.Demand3.Demand3 Rattle.calls.specs.Engine.defined
+calls-Demand3-Demand3-defined = Rattle.calls.proofs.Demand3.demand3
+
+pub calls-NotRefused-NotRefused : Rattle.calls.specs.NotRefused.NotRefused
+calls-NotRefused-NotRefused = Rattle.calls.proofs.NotRefused.not-refused
+
+pub calls-OneEngine-AgreeingMeets : Rattle.calls.specs.OneEngine.AgreeingMeets
+calls-OneEngine-AgreeingMeets = Rattle.calls.proofs.OneEngine.agreeing-meets
+
+pub calls-OneEngine-OneEngine : Rattle.calls.specs.OneEngine.OneEngine
+calls-OneEngine-OneEngine = Rattle.calls.proofs.OneEngine.one-engine
+
+pub calls-OneFault-OneFault : Rattle.calls.specs.OneFault.OneFault
+calls-OneFault-OneFault = Rattle.calls.proofs.OneEngine.one-fault
+
+pub calls-OneNameRule-OneNameRule : Rattle.calls.specs.OneNameRule.OneNameRule
+calls-OneNameRule-OneNameRule = Rattle.calls.proofs.OneNameRule.one-name-rule
+
+pub calls-Printed-Printed : Rattle.calls.specs.Printed.Printed
+calls-Printed-Printed = Rattle.calls.proofs.Printed.printed
+
+pub calls-TreesOnSheets-TreesOnSheets : Rattle.calls.specs.TreesOnSheets.TreesOnSheets
+calls-TreesOnSheets-TreesOnSheets = Rattle.calls.proofs.NamedFormula.trees-on-sheets
+
+pub calls-WrongEngines-SixShutOut : Rattle.calls.specs.WrongEngines.SixShutOut
+calls-WrongEngines-SixShutOut = Rattle.calls.proofs.WrongEngines.six-shut-out
+
+pub calls-WrongEngines-ZeroObeysEveryLaw : Rattle.calls.specs.WrongEngines.ZeroObeysEveryLaw
+calls-WrongEngines-ZeroObeysEveryLaw = Rattle.calls.proofs.ZeroObeys.zero-obeys
+
+pub formulas-Exactness-AcceptedCode : Rattle.formulas.specs.Exactness.AcceptedCode
+formulas-Exactness-AcceptedCode = Rattle.formulas.proofs.Coding.accepted-code
+
+pub formulas-Exactness-CodeExact : Rattle.formulas.specs.Exactness.CodeExact
+formulas-Exactness-CodeExact = Rattle.formulas.proofs.Coding.code-exact
+
+pub formulas-Exactness-EveryTreeWritten : Rattle.formulas.specs.Exactness.EveryTreeWritten
+formulas-Exactness-EveryTreeWritten = Rattle.formulas.proofs.Writing.every-tree-written
+
+pub formulas-Exactness-FaultsExact : Rattle.formulas.specs.Exactness.FaultsExact
+formulas-Exactness-FaultsExact = Rattle.formulas.proofs.Reading.faults-exact
+
+pub formulas-Exactness-OneTree : Rattle.formulas.specs.Exactness.OneTree
+formulas-Exactness-OneTree = Rattle.formulas.proofs.Reading.one-tree
+
+pub formulas-Exactness-PartsExact : Rattle.formulas.specs.Exactness.PartsExact
+formulas-Exactness-PartsExact = Rattle.formulas.proofs.Reading.parts-exact
+
+pub formulas-Exactness-ReaderExact : Rattle.formulas.specs.Exactness.ReaderExact
+formulas-Exactness-ReaderExact = Rattle.formulas.proofs.Reading.reader-exact
+
+pub formulas-Places-CodeDetermines : Rattle.formulas.specs.Places.CodeDetermines
+formulas-Places-CodeDetermines = Rattle.formulas.proofs.Working.code-determines
+
+pub formulas-Places-OnePartEnds : Rattle.formulas.specs.Places.OnePartEnds
+formulas-Places-OnePartEnds = Rattle.formulas.proofs.Segments.one-part-ends
+
+pub formulas-Places-SegmentReplaced : Rattle.formulas.specs.Places.SegmentReplaced
+formulas-Places-SegmentReplaced = Rattle.formulas.proofs.Segments.segment-replaced
+
+pub laws-Laws-NumberOfLaws : Rattle.laws.specs.Laws.NumberOfLaws
+laws-Laws-NumberOfLaws = Rattle.laws.proofs.Table.number-of-laws
+
+pub laws-Places-EveryPartIsPlaced : Rattle.laws.specs.Places.EveryPartIsPlaced
+laws-Places-EveryPartIsPlaced = Rattle.laws.proofs.Places.every-part-is-placed
+
+pub laws-Places-EveryPlaceIsAPart : Rattle.laws.specs.Places.EveryPlaceIsAPart
+laws-Places-EveryPlaceIsAPart = Rattle.laws.proofs.Places.every-place-is-a-part
+
+pub laws-Places-RewritingGoesBack : Rattle.laws.specs.Places.RewritingGoesBack
+laws-Places-RewritingGoesBack = Rattle.laws.proofs.Places.rewriting-goes-back
+
+pub laws-Places-RewritingReachesEveryPart : Rattle.laws.specs.Places.RewritingReachesEveryPart
+laws-Places-RewritingReachesEveryPart = Rattle.laws.proofs.Places.rewriting-reaches-every-part
+
+pub laws-Soundness-EveryLawHolds : Rattle.laws.specs.Soundness.EveryLawHolds
+laws-Soundness-EveryLawHolds = Rattle.laws.proofs.Table.every-law-holds
+
+pub laws-Soundness-RewritingKeepsTheList : Rattle.laws.specs.Soundness.RewritingKeepsTheList
+laws-Soundness-RewritingKeepsTheList = Rattle.laws.proofs.Consequences.rewriting-keeps-the-list
+
+pub laws-Soundness-RewritingKeepsTheSignal : Rattle.laws.specs.Soundness.RewritingKeepsTheSignal
+laws-Soundness-RewritingKeepsTheSignal = Rattle.laws.proofs.Soundness.rewriting-keeps-the-signal
+
+pub laws-Soundness-RewritingKeepsVerdicts : Rattle.laws.specs.Soundness.RewritingKeepsVerdicts
+laws-Soundness-RewritingKeepsVerdicts = Rattle.laws.proofs.Consequences.rewriting-keeps-verdicts
+
+pub laws-WrongTurns-WrongTurns : Rattle.laws.specs.WrongTurns.WrongTurns
+laws-WrongTurns-WrongTurns = Rattle.laws.proofs.WrongTurns.wrong-turns
+
+pub lists-Equality-Equality : Rattle.lists.specs.Equality.Equality
+lists-Equality-Equality = Rattle.lists.proofs.Equality.equality
+
+pub lists-Implication-Implication : Rattle.lists.specs.Implication.Implication
+lists-Implication-Implication = Rattle.lists.proofs.Implication.implication
+
+pub operations-CallFaults-CallFaultsExact : Rattle.operations.specs.CallFaults.CallFaultsExact
+operations-CallFaults-CallFaultsExact = Rattle.operations.proofs.CallFaults.callFaultsExact
+
+pub operations-CallFaults-ChangeIsWord : Rattle.operations.specs.CallFaults.ChangeIsWord
+operations-CallFaults-ChangeIsWord = Rattle.operations.proofs.LateWords.changeIsWord
+
+pub operations-CallFaults-NeverMet : Rattle.operations.specs.CallFaults.NeverMet
+operations-CallFaults-NeverMet = Rattle.operations.proofs.NeverMet.neverMet
+
+pub report-Decimal-DecimalRight : Rattle.report.specs.Decimal.DecimalRight
+report-Decimal-DecimalRight = Rattle.report.proofs.DecimalRight.decimal-right
+
+pub sheets-Sentences-AppendFaultsExact : Rattle.sheets.specs.Sentences.AppendFaultsExact
+sheets-Sentences-AppendFaultsExact = Rattle.sheets.proofs.ExactCalls.append-faults-exact
+
+pub sheets-Sentences-LookupFaultsExact : Rattle.sheets.specs.Sentences.LookupFaultsExact
+sheets-Sentences-LookupFaultsExact = Rattle.sheets.proofs.ExactCalls.lookup-faults-exact
+
+pub sheets-Sentences-NamesExact : Rattle.sheets.specs.Sentences.NamesExact
+sheets-Sentences-NamesExact = Rattle.sheets.proofs.NameRule.names-exact
+
+pub sheets-Sentences-SheetFaultsExact : Rattle.sheets.specs.Sentences.SheetFaultsExact
+sheets-Sentences-SheetFaultsExact = Rattle.sheets.proofs.ExactSheets.sheet-faults-exact
+
+pub sheets-Theorems-AppendGivesNew : Rattle.sheets.specs.Theorems.AppendGivesNew
+sheets-Theorems-AppendGivesNew = Rattle.sheets.proofs.Theorems.append-gives-new
+
+pub sheets-Theorems-AppendKeepsOthers : Rattle.sheets.specs.Theorems.AppendKeepsOthers
+sheets-Theorems-AppendKeepsOthers = Rattle.sheets.proofs.Theorems.append-keeps-others
+
+pub sheets-Theorems-AppendKeepsSheet : Rattle.sheets.specs.Theorems.AppendKeepsSheet
+sheets-Theorems-AppendKeepsSheet = Rattle.sheets.proofs.Theorems.append-keeps-sheet
+
+pub sheets-Theorems-BegunReadsBack : Rattle.sheets.specs.Theorems.BegunReadsBack
+sheets-Theorems-BegunReadsBack = Rattle.sheets.proofs.Theorems.begun-reads-back
+
+pub sheets-Theorems-LookupGivesTheList : Rattle.sheets.specs.Theorems.LookupGivesTheList
+sheets-Theorems-LookupGivesTheList = Rattle.sheets.proofs.Theorems.lookup-gives-the-list
+
+pub sheets-Theorems-OneWriting : Rattle.sheets.specs.Theorems.OneWriting
+sheets-Theorems-OneWriting = Rattle.sheets.proofs.Theorems.one-writing
+
+pub sheets-Theorems-ReadWritesBack : Rattle.sheets.specs.Theorems.ReadWritesBack
+sheets-Theorems-ReadWritesBack = Rattle.sheets.proofs.Theorems.read-writes-back
+
+pub sheets-Theorems-WrittenReadsBack : Rattle.sheets.specs.Theorems.WrittenReadsBack
+sheets-Theorems-WrittenReadsBack = Rattle.sheets.proofs.Theorems.written-reads-back
+
+pub signals-Earliest-Earliest : Rattle.signals.specs.Earliest.Earliest
+signals-Earliest-Earliest = Rattle.signals.proofs.Implication.earliestFails
+
+pub signals-LatchSteps-LatchSteps : Rattle.signals.specs.LatchSteps.LatchSteps
+signals-LatchSteps-LatchSteps = Rattle.signals.proofs.LatchSteps.latchSteps
+
+pub signals-ListFaults-ListFaultsExact : Rattle.signals.specs.ListFaults.ListFaultsExact
+signals-ListFaults-ListFaultsExact = Rattle.signals.proofs.ListFaults.listFaultsExact
+
+pub signals-ListFaults-TidyFaultsExact : Rattle.signals.specs.ListFaults.TidyFaultsExact
+signals-ListFaults-TidyFaultsExact = Rattle.signals.proofs.TidyFaults.tidyFaultsExact
+
+pub signals-Normal-AcceptedNormal : Rattle.signals.specs.Normal.AcceptedNormal
+signals-Normal-AcceptedNormal = Rattle.signals.proofs.Normal.acceptedNormal
+
+pub signals-Normal-DatesRise : Rattle.signals.specs.Normal.DatesRise
+signals-Normal-DatesRise = Rattle.signals.proofs.Normal.datesRise
+
+pub signals-Normal-ListOfSignal : Rattle.signals.specs.Normal.ListOfSignal
+signals-Normal-ListOfSignal = Rattle.signals.proofs.Normal.listOfSignal
+
+pub signals-Normal-ReadBack : Rattle.signals.specs.Normal.ReadBack
+signals-Normal-ReadBack = Rattle.signals.proofs.Normal.readBack
+
+pub signals-Normal-Unique : Rattle.signals.specs.Normal.Unique
+signals-Normal-Unique = Rattle.signals.proofs.Normal.unique
+
+pub signals-Normal-UniqueAccepted : Rattle.signals.specs.Normal.UniqueAccepted
+signals-Normal-UniqueAccepted = Rattle.signals.proofs.Normal.uniqueAccepted
+
+pub signals-Quantified-Agreement : Rattle.signals.specs.Quantified.Agreement
+signals-Quantified-Agreement = Rattle.signals.proofs.Agreement.agreement
+
+pub signals-Settling-Settling : Rattle.signals.specs.Settling.Settling
+signals-Settling-Settling = Rattle.signals.proofs.Settling.settling
+
+pub signals-Starred-Starred : Rattle.signals.specs.Starred.Starred
+signals-Starred-Starred = Rattle.signals.proofs.Starred.starred
+
+pub signals-Tables-Tables : Rattle.signals.specs.Tables.Tables
+signals-Tables-Tables = Rattle.signals.proofs.Tables.tables
+
+pub signals-Tidying-Tidying : Rattle.signals.specs.Tidying.Tidying
+signals-Tidying-Tidying = Rattle.signals.proofs.Tidying.tidying
+
+pub signals-Wording-Moments : Rattle.signals.specs.Wording.Moments
+signals-Wording-Moments = Rattle.signals.proofs.Wording.moments
+
+pub signals-Wording-Spans : Rattle.signals.specs.Wording.Spans
+signals-Wording-Spans = Rattle.signals.proofs.Wording.spans
+
+pub signals-Wording-Tests : Rattle.signals.specs.Wording.Tests
+signals-Wording-Tests = Rattle.signals.proofs.Wording.tests
+
+pub signals-Wording-Wording : Rattle.signals.specs.Wording.Wording
+signals-Wording-Wording = Rattle.signals.proofs.Wording.wording

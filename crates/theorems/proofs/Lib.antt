@@ -1,0 +1,2 @@
+-- The citations.
+pub mod Cited

@@ -1,0 +1,1 @@
+// Each statement of the crates with its term: proofs/ only.
