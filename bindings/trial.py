@@ -1,6 +1,7 @@
 """What the tests of bin/claim and of the tool `sheet` share: a scratch folder, and runs with their outputs and signals."""
 
 import os
+import resource
 import shutil
 import signal
 import subprocess
@@ -9,12 +10,14 @@ import time
 import unittest
 
 NOBODY = 65534
-SIGNALS = (signal.SIGHUP, signal.SIGINT, signal.SIGTERM)
+SIGNALS = (signal.SIGHUP, signal.SIGINT, signal.SIGQUIT, signal.SIGTERM)
 
 
-def default_signals():
-    for number in SIGNALS:
+def before_start():
+    """Signals end the program, whatever runs the tests, and it leaves no core."""
+    for number in (*SIGNALS, signal.SIGPIPE):
         signal.signal(number, signal.SIG_DFL)
+    resource.setrlimit(resource.RLIMIT_CORE, (0, 0))
 
 
 def until(what, seconds=10):
@@ -57,29 +60,32 @@ class Trial(unittest.TestCase):
         with open(path, "rb") as file:
             return file.read()
 
-    def start(self, *args, stdin=subprocess.DEVNULL, out=subprocess.PIPE, cwd=None, **more):
+    def start(self, *args, stdin=subprocess.DEVNULL, out=subprocess.PIPE, err=subprocess.PIPE, cwd=None, **more):
         return subprocess.Popen(
-            args, cwd=cwd or self.scratch, env=self.env, stdin=stdin, stdout=out, stderr=subprocess.PIPE,
-            preexec_fn=default_signals, **more)
+            args, cwd=cwd or self.scratch, env=self.env, stdin=stdin, stdout=out, stderr=err, preexec_fn=before_start, **more)
 
     def ended(self, process):
         """The status, what was printed and what was said; no program leaves a temporary file."""
         out, said = process.communicate(timeout=30)
         self.assertEqual(os.listdir(self.temporary), [])
-        return process.returncode, (out or b"").decode(), said.decode()
+        return process.returncode, (out or b"").decode(), (said or b"").decode()
 
     def run_it(self, *args, **more):
         return self.ended(self.start(*args, **more))
+
+    def unread_pipe(self):
+        """A pipe that nobody reads."""
+        reader, writer = os.pipe()
+        os.close(reader)
+        return os.fdopen(writer, "wb")
 
     def outputs_that_cannot_be_written(self, *args):
         """Runs with standard output full, closed, and a pipe that nobody reads: the status and what was said of each."""
         with open("/dev/full", "w") as full:
             yield self.run_it(*args, out=full)
         yield self.run_it("sh", "-c", 'exec "$@" >&-', "sh", *args)
-        reader, writer = os.pipe()
-        os.close(reader)
-        yield self.run_it(*args, out=writer)
-        os.close(writer)
+        with self.unread_pipe() as unread:
+            yield self.run_it(*args, out=unread)
 
     def as_nobody(self):
         """The words that start a process as a user who may not write what root made; the test is left out where there is no such."""
