@@ -23,7 +23,6 @@ cp -R "$root/crates" "$root/crates.txt" "$copy/repository/"
 if [ -d "$root/target/rlib" ] && [ -d "$root/target/stamp" ]; then
     mkdir "$copy/repository/target"
     cp -R "$root/target/rlib" "$root/target/stamp" "$copy/repository/target/"
-    rm -rf "$copy/repository/target/stamp/claim"
 fi
 
 echo "bindings: proving capi and building its archive"
@@ -48,8 +47,10 @@ cd "$copy/bindings/rust"
 cargo test --offline --quiet
 cargo run --offline --quiet --example embed | cmp - "$root/bindings/c/embed.expected"
 cargo build --offline --quiet --release --bin sheet
+SHEET=$CARGO_TARGET_DIR/release/sheet "$root/bindings/test_sheet" --quiet
 
 echo "bindings: bin/claim"
+"$root/bindings/test_claim" --quiet
 cp -R "$root/bin" "$root/examples" "$copy/repository/"
 claim() {
     "$copy/repository/bin/claim" "$1" "$2" "$copy/examples/$3"

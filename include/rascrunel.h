@@ -16,7 +16,8 @@
  *             + 0 for no or down. Where it only judges: 65536 * fault. Fault 0 is none; a refused call writes nothing to its
  *             output and its count is 0. Elements of the output past the count keep what they held.
  *   verdict   (uint64_t) 0 holds, 2 * k fails at k, 2 * k + 1 fails after k (between k and k + 1), 2^40 * n refused with n.
- *   place     (uint64_t) 2^24 * first byte + byte count of a signal's words on the sheet, or 2^48 * fault when refused.
+ *   place     (uint64_t) 2^24 * first byte + byte count of a signal's words on the sheet; refused, 2^48 * fault, and the first
+ *             byte and the count are 0.
  *
  * Faults.
  *    1 list empty or over 256 words                  10 formula empty or over 1,024 bytes
@@ -52,7 +53,7 @@ extern "C" {
 #define SGL_COUNT(result) ((uint32_t)(result) % 65536u)
 #define SGL_VERDICT_FAULT(verdict) ((uint32_t)((uint64_t)(verdict) >> 40))
 #define SGL_PLACE_FAULT(place) ((uint32_t)((uint64_t)(place) >> 48))
-#define SGL_PLACE_START(place) ((uint32_t)((uint64_t)(place) >> 24))
+#define SGL_PLACE_START(place) ((uint32_t)((uint64_t)(place) >> 24 & 0xffffffu))
 #define SGL_PLACE_COUNT(place) ((uint32_t)((uint64_t)(place) & 0xffffffu))
 
 /* The fault of a list. Faults 1, 2, then word by word 3, 4. */

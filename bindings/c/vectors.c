@@ -78,6 +78,14 @@ static void operations(void) {
     IS(sgl_tof(1, N(last), OUT), REFUSED(6));
 }
 
+static void place(int line, uint64_t got, uint32_t fault, uint32_t start, uint32_t count) {
+    same(line, SGL_PLACE_FAULT(got), fault);
+    same(line, SGL_PLACE_START(got), start);
+    same(line, SGL_PLACE_COUNT(got), count);
+}
+
+#define PLACE(got, fault, start, count) place(__LINE__, (got), (fault), (start), (count))
+
 static void sheets(void) {
     uint8_t empty[7];
     IS(sgl_begin(empty, 6), REFUSED(7));
@@ -92,6 +100,11 @@ static void sheets(void) {
     IS(sgl_lookup(N(printed), TEXT("a")), 17ull << 24 | 12);
     IS(sgl_lookup(N(printed), TEXT("b")), 13ull << 48);
     IS(sgl_lookup(N(printed), TEXT("A")), 16ull << 48);
+    PLACE(sgl_lookup(N(printed), TEXT("a")), 0, 17, 12);
+    PLACE(sgl_lookup(N(printed), TEXT("b")), 13, 0, 0);
+    PLACE(sgl_lookup(N(printed), TEXT("A")), 16, 0, 0);
+    PLACE(sgl_lookup(printed, 4, TEXT("a")), 14, 0, 0);
+    PLACE(18ull << 48, 18, 0, 0);
 }
 
 static void formulas(void) {

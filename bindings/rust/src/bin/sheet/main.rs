@@ -1,9 +1,12 @@
 // sheet make TEXT SHEET, sheet show SHEET: a sheet file from a text and back, through the library.
+mod replace;
+mod stdout;
+
 use rascrunel::{text, Sheet, SHEET_BYTES};
-use std::fs::{self, File, OpenOptions};
+use std::fs::{self, File};
 use std::io::{self, Read, Write};
 use std::path::{Path, PathBuf};
-use std::process::{self, ExitCode};
+use std::process::ExitCode;
 
 const HELP: &str = "\
 sheet make TEXT SHEET   writes the sheet file SHEET from the text file TEXT
@@ -14,6 +17,11 @@ A text has one line a signal, with a name of 1 to 8 lowercase letters and digits
                                                    from: at the date and after it; after: not yet at it; at: at it only
   NAME = 0 23 38                                   the words themselves
 Empty lines and lines that begin with # say nothing.
+
+A sheet file is written whole or left as it was. One that is there keeps its mode; a link stays and the file that it points
+to is written. Refused: what is no regular file, the file TEXT itself, and a file that may not be written.
+
+Exit status: 0 done, 1 not done, 2 wrong use.
 ";
 
 // Longer than the text of any sheet.
@@ -34,37 +42,18 @@ fn read(path: &Path, most: usize) -> Result<Vec<u8>, String> {
     Ok(bytes)
 }
 
-// Writes a file whole or not at all: beside it first, then in its place.
-fn replace(path: &Path, bytes: &[u8]) -> Result<(), String> {
-    let say = |e: io::Error| format!("{}: {e}", path.display());
-    let name = path.file_name().ok_or(format!("{}: no file name", path.display()))?;
-    if path.is_dir() {
-        return Err(format!("{}: is a directory", path.display()));
-    }
-    let mut beside = name.to_os_string();
-    beside.push(format!(".{}.part", process::id()));
-    let beside: PathBuf = path.with_file_name(beside);
-    let mut file = OpenOptions::new().write(true).create_new(true).open(&beside).map_err(say)?;
-    let done = file.write_all(bytes).and_then(|()| file.sync_all()).and_then(|()| fs::rename(&beside, path));
-    if done.is_err() {
-        let _ = fs::remove_file(&beside);
-    }
-    done.map_err(say)
-}
-
 fn make(from: &Path, to: &Path) -> Result<(), String> {
     let bytes = read(from, TEXT_BYTES)?;
     let text = String::from_utf8(bytes).map_err(|_| format!("{}: not a text", from.display()))?;
     let sheet = text::read(&text).map_err(|wrong| format!("{}: {wrong}", from.display()))?;
-    replace(to, sheet.bytes())
+    replace::replace(to, from, sheet.bytes()).map_err(|what| format!("{}: {what}", to.display()))
 }
 
 fn show(path: &Path) -> Result<(), String> {
     let bytes = read(path, SHEET_BYTES)?;
     let say = |fault| format!("{}: {fault}", path.display());
     let sheet = Sheet::new(&bytes).map_err(say)?;
-    let text = text::write(&sheet).map_err(say)?;
-    io::stdout().write_all(text.as_bytes()).map_err(|e| e.to_string())
+    stdout::print(&text::write(&sheet).map_err(say)?)
 }
 
 fn main() -> ExitCode {
@@ -73,19 +62,16 @@ fn main() -> ExitCode {
     let done = match (command.as_str(), args.len()) {
         ("make", 3) => make(&args[1], &args[2]),
         ("show", 2) => show(&args[1]),
-        ("--help" | "-h" | "help", _) => {
-            print!("{HELP}");
-            Ok(())
-        }
+        ("--help" | "-h" | "help", _) => stdout::print(HELP),
         _ => {
-            eprint!("{HELP}");
+            let _ = io::stderr().write_all(HELP.as_bytes());
             return ExitCode::from(2);
         }
     };
     match done {
         Ok(()) => ExitCode::SUCCESS,
         Err(what) => {
-            eprintln!("sheet: {what}");
+            let _ = writeln!(io::stderr(), "sheet: {what}");
             ExitCode::FAILURE
         }
     }
