@@ -7,6 +7,7 @@ pub mod ResetSet
 pub mod Timers
 pub mod Edges
 pub mod Table
+pub mod Printed
 pub mod Places
 pub mod Soundness
 pub mod Consequences
