@@ -2,6 +2,7 @@
 pub mod Scheme
 pub mod Laws
 pub mod Printed
+pub mod Substitutions
 pub mod Rewriting
 pub mod Places
 pub mod Soundness

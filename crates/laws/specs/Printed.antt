@@ -1,4 +1,4 @@
--- Document 01, "Law table", as it is printed: the texts of the equations, formulas and lengths put in, and what it is for a row to be its text.
+-- Document 01, "Law table", as it is printed: the texts of the equations, and what it is for the rows of the table to be their texts.
 use Prim.Native.Nat.{ℕ, zero, suc, _-_, _≤_}
 use Prim.Native.Char.{code}
 use Prim.Native.String.{String, [] as none, _∷_ as _then_}
@@ -7,8 +7,9 @@ use mathlib.Core.Bool.{Bool, true, false, cond, _&&_}
 use mathlib.Core.List.{List, [], _∷_, _++_}
 use lib.Dec.{eqb}
 use lib.ListN.{length, getD}
-use Rattle.formulas.specs.Tree.{Tree}
+use Rattle.formulas.specs.Tree.{leaf, name}
 use Rattle.formulas.specs.Grammar.{Factor, Writes, isLength, value}
+use Rattle.formulas.specs.Exactness.{Writable}
 use Rattle.laws.specs.Scheme.{Letter, LengthTerm, Equation, Substitution, putLength, put, f, g, h, s, r, p, d, e, d+e, larger, smaller}
 use Rattle.laws.specs.Laws.{equation}
 
@@ -91,26 +92,12 @@ unfoldable pub rightOf : List ℕ → List ℕ
 rightOf [] = []
 rightOf (b ∷ w) = cond (eqb b 61) w (rightOf w)
 
--- a text for each letter and for each length
-pub record Texts : Type 0 where
-  pub formula : Letter → List ℕ
-  pub length : LengthTerm → List ℕ
+-- signs of the texts, each with what is put for it: the length terms, d+e before d, with which it begins; the letters
+unfoldable pub lengthSigns : (LengthTerm → List ℕ) → List (String × List ℕ)
+lengthSigns w = ("the larger", w larger) ∷ ("the smaller", w smaller) ∷ ("d+e", w d+e) ∷ ("d", w d) ∷ ("e", w e) ∷ []
 
--- what is put in, and the signs that it is put for; of two signs that begin alike the longer stands first
-unfoldable pub signs : Texts → List (String × List ℕ)
-signs t =
-    ("the larger", t .length larger)
-    ∷ ("the smaller", t .length smaller)
-    ∷ ("d+e", t .length d+e)
-    ∷ ("d", t .length d)
-    ∷ ("e", t .length e)
-    ∷ ("f", t .formula f)
-    ∷ ("g", t .formula g)
-    ∷ ("h", t .formula h)
-    ∷ ("s", t .formula s)
-    ∷ ("r", t .formula r)
-    ∷ ("p", t .formula p)
-    ∷ []
+unfoldable pub letterSigns : (Letter → List ℕ) → List (String × List ℕ)
+letterSigns w = ("f", w f) ∷ ("g", w g) ∷ ("h", w h) ∷ ("s", w s) ∷ ("r", w r) ∷ ("p", w p) ∷ []
 
 -- the second list begins with the first
 unfoldable pub begins : List ℕ → List ℕ → Bool
@@ -121,26 +108,57 @@ begins (a ∷ v) (b ∷ w) = eqb a b && begins v w
 -- what is put at a byte, and how many bytes after it belong to the sign; a byte that begins no sign stands for itself
 unfoldable pub putAt : List (String × List ℕ) → ℕ → List ℕ → List ℕ × ℕ
 putAt [] b w = (b ∷ [], 0)
-putAt (sign ∷ others) b w = cond (begins (bytes (sign .0)) (b ∷ w)) (sign .1, length (bytes (sign .0)) - 1) (putAt others b w)
+putAt (sign ∷ others) b w =
+    cond (begins (bytes (sign .0)) (b ∷ w)) (sign .1, length (bytes (sign .0)) - 1) (putAt others b w)
 
--- the bytes with all put in; the first so many belong to a sign already put
-unfoldable pub filled : List (String × List ℕ) → ℕ → List ℕ → List ℕ
-filled l n [] = []
-filled l (suc n) (b ∷ w) = filled l n w
-filled l zero (b ∷ w) = let (new, n) = putAt l b w in new ++ filled l n w
+-- the bytes with all put in, the first so many left out: they belong to a sign before
+unfoldable pub filledAfter : ℕ → List (String × List ℕ) → List ℕ → List ℕ
+filledAfter n signs [] = []
+filledAfter (suc n) signs (b ∷ w) = filledAfter n signs w
+filledAfter zero signs (b ∷ w) = let (new, n) = putAt signs b w in new ++ filledAfter n signs w
 
--- The texts write what is put for the letters, d and e: each formula "in brackets where the grouping needs them", which makes it a factor
--- (the letter itself is one, a name), and each length in decimal digits.
-pub record Write (t : Texts) (x : Substitution) : Type 0 where
-  pub formulas : (l : Letter) → (depth : ℕ) × Factor (t .formula l) (x .formula l) depth
-  pub lengths : (n : LengthTerm) → (isLength (t .length n) ≡ true) × (value (t .length n) ≡ putLength (x .first) (x .second) n)
+unfoldable pub filled : List (String × List ℕ) → List ℕ → List ℕ
+filled signs w = filledAfter 0 signs w
 
--- The grammar gives to each side of the text, with all put in, the tree of that side of the equation. It is the only one: OneTree of formulas.
-pub record AsPrinted (q : Equation) (text : String) (t : Texts) (x : Substitution) : Type 0 where
-  pub left : (depth : ℕ) × Writes (filled (signs t) 0 (leftOf (bytes text))) (put x (q .left)) depth
-  pub right : (depth : ℕ) × Writes (filled (signs t) 0 (rightOf (bytes text))) (put x (q .right)) depth
+-- With this put in, the grammar gives to each side of the text the tree of that side of the equation, and no other (OneTree of formulas).
+pub record AsPrinted (signs : List (String × List ℕ)) (text : String) (x : Substitution) (q : Equation) : Type 0 where
+  pub left : (depth : ℕ) × Writes (filled signs (leftOf (bytes text))) (put x (q .left)) depth
+  pub right : (depth : ℕ) × Writes (filled signs (rightOf (bytes text))) (put x (q .right)) depth
 
--- There are 55 texts, and each row of the table is its text, whatever is put for the letters, d and e.
+-- the lengths in decimal digits
+abbrev pub Digits : (LengthTerm → List ℕ) → Substitution → Type 0
+Digits w x = (n : LengthTerm) → (isLength (w n) ≡ true) × (value (w n) ≡ putLength (x .first) (x .second) n)
+
+-- the letters as they stand: names
+unfoldable pub ownName : Letter → List ℕ
+ownName f = bytes "f"
+ownName g = bytes "g"
+ownName h = bytes "h"
+ownName s = bytes "s"
+ownName r = bytes "r"
+ownName p = bytes "p"
+
+abbrev pub OwnNames : Substitution → Type 0
+OwnNames x = (l : Letter) → x .formula l ≡ leaf (name (ownName l))
+
+-- There are 55 texts, and each row of the table is its text: the letters are the grammar's names, and lengths are put for d and e.
 pub record RowsAsPrinted : Type 0 where
   pub number : length texts ≡ 55
-  pub rows : (n : ℕ) → 1 ≤ n → n ≤ 55 → (t : Texts) (x : Substitution) → Write t x → AsPrinted (equation n) (textOf n) t x
+  pub rows : (n : ℕ) → 1 ≤ n → n ≤ 55 → (x : Substitution) → OwnNames x → (w : LengthTerm → List ℕ) → Digits w x
+      → AsPrinted (lengthSigns w) (textOf n) x (equation n)
+
+-- The texts write what is put for the letters, d and e: a formula "in brackets where the grouping needs them", which makes it a factor.
+pub record Write (v : Letter → List ℕ) (w : LengthTerm → List ℕ) (x : Substitution) : Type 0 where
+  pub formulas : (l : Letter) → (depth : ℕ) × Factor (v l) (x .formula l) depth
+  pub lengths : Digits w x
+
+-- So too with any formulas put for the letters.
+abbrev pub RowsWithFormulas : Type 0
+RowsWithFormulas =
+    (n : ℕ) → 1 ≤ n → n ≤ 55 → (x : Substitution) (v : Letter → List ℕ) (w : LengthTerm → List ℕ) → Write v w x
+    → AsPrinted (lengthSigns w ++ letterSigns v) (textOf n) x (equation n)
+
+-- Whatever formulas are put for the letters and lengths for d and e, there are texts of them.
+abbrev pub EverySubstitutionWritten : Type 0
+EverySubstitutionWritten =
+    (x : Substitution) → ((l : Letter) → Writable (x .formula l)) → (v : Letter → List ℕ) × (w : LengthTerm → List ℕ) × Write v w x
