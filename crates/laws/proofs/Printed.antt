@@ -4,56 +4,103 @@ use Prim.Native.String.{String}
 use native.Mathlib.Omega.{arith}
 use mathlib.Core.Path.{_≡_, refl, _∙_}
 use mathlib.Core.Bool.{true}
-use mathlib.Core.List.{List, [], _∷_, _++_, map, append-nil, cons≢nil, head-eq-of-cons-eq, tail-eq-of-cons-eq}
+use mathlib.Core.List.{List, [], _∷_, _++_, append-nil}
 use lib.ListN.{length, getD}
 use Rattle.formulas.specs.Grammar.{Factor, Writes, isName, allOf, isLower}
 use Rattle.laws.specs.Scheme.{Letter, LengthTerm, Scheme, Equation, Substitution, put}
 use Rattle.laws.specs.Laws.{table, equation, andCommutes}
-use Rattle.laws.specs.Printed.{texts, textOf, bytes, leftOf, rightOf, lengthSigns, letterSigns, begins, putAt, filledAfter, filled, AsPrinted, Digits, ownName, RowsAsPrinted, Write, RowsWithFormulas}
+use Rattle.laws.specs.Printed.{texts, textOf, bytes, leftOf, rightOf, lengthSigns, letterSigns, begins, putAt, filledAfter, filled}
+use Rattle.laws.specs.Printed.{Digits, ownName, OwnNames, RowsAsPrinted, Write, RowsWithFormulas}
 use Rattle.laws.proofs.Printer.{sum, shown, form}
 
--- a row's sides: the text's, filled, and the printer's
-abbrev leftIn : List (String × List ℕ) → String → List ℕ
-leftIn signs text = filled signs (leftOf (bytes text))
+infixr 50 _then_
+-- Each side of a row's text, filled, is what the printer makes of that side of the row: with the letters as they stand, and with formulas
+-- put for them.
+abbrev Alike : (Letter → List ℕ) → (LengthTerm → List ℕ) → String → Equation → Type 0
+Alike v w text q =
+    (filled (lengthSigns w) (leftOf (bytes text)) ≡ shown ownName w sum (q .left) [])
+    × (filled (lengthSigns w) (rightOf (bytes text)) ≡ shown ownName w sum (q .right) [])
+    × (filled (lengthSigns w ++ letterSigns v) (leftOf (bytes text)) ≡ shown v w sum (q .left) [])
+    × (filled (lengthSigns w ++ letterSigns v) (rightOf (bytes text)) ≡ shown v w sum (q .right) [])
 
-abbrev rightIn : List (String × List ℕ) → String → List ℕ
-rightIn signs text = filled signs (rightOf (bytes text))
+data Each (v : Letter → List ℕ) (w : LengthTerm → List ℕ) : List String → List Equation → Type 0 where
+  done : Each v w [] []
+  _then_ : {text : String} {q : Equation} {l : List String} {m : List Equation} → Alike v w text q → Each v w l m → Each v w (text ∷ l) (q ∷ m)
 
-abbrev leftShown : (Letter → List ℕ) → (LengthTerm → List ℕ) → Equation → List ℕ
-leftShown v w q = shown v w sum (q .left) []
+-- a line a row
+rows : (v : Letter → List ℕ) (w : LengthTerm → List ℕ) → Each v w texts table
+unfolding texts table bytes leftOf rightOf lengthSigns letterSigns begins putAt filledAfter filled shown ownName
+rows v w =
+    (refl, refl, refl, refl)
+    then (refl, refl, refl, refl)
+    then (refl, refl, refl, refl)
+    then (refl, refl, refl, refl)
+    then (refl, refl, refl, refl)
+    then (refl, refl, refl, refl)
+    then (refl, refl, refl, refl)
+    then (refl, refl, refl, refl)
+    then (refl, refl, refl, refl)
+    then (refl, refl, refl, refl)
+    then (refl, refl, refl, refl)
+    then (refl, refl, refl, refl)
+    then (refl, refl, refl, refl)
+    then (refl, refl, refl, refl)
+    then (refl, refl, refl, refl)
+    then (refl, refl, refl, refl)
+    then (refl, refl, refl, refl)
+    then (refl, refl, refl, refl)
+    then (refl, refl, refl, refl)
+    then (refl, refl, refl, refl)
+    then (refl, refl, refl, refl)
+    then (refl, refl, refl, refl)
+    then (refl, refl, refl, refl)
+    then (refl, refl, refl, refl)
+    then (refl, refl, refl, refl)
+    then (refl, refl, refl, refl)
+    then (refl, refl, refl, refl)
+    then (refl, refl, refl, refl)
+    then (refl, refl, refl, refl)
+    then (refl, refl, refl, refl)
+    then (refl, refl, refl, refl)
+    then (refl, refl, refl, refl)
+    then (refl, refl, refl, refl)
+    then (refl, refl, refl, refl)
+    then (refl, refl, refl, refl)
+    then (refl, refl, refl, refl)
+    then (refl, refl, refl, refl)
+    then (refl, refl, refl, refl)
+    then (refl, refl, refl, refl)
+    then (refl, refl, refl, refl)
+    then (refl, refl, refl, refl)
+    then (refl, refl, refl, refl)
+    then (refl, refl, refl, refl)
+    then (refl, refl, refl, refl)
+    then (refl, refl, refl, refl)
+    then (refl, refl, refl, refl)
+    then (refl, refl, refl, refl)
+    then (refl, refl, refl, refl)
+    then (refl, refl, refl, refl)
+    then (refl, refl, refl, refl)
+    then (refl, refl, refl, refl)
+    then (refl, refl, refl, refl)
+    then (refl, refl, refl, refl)
+    then (refl, refl, refl, refl)
+    then (refl, refl, refl, refl)
+    then done
 
-abbrev rightShown : (Letter → List ℕ) → (LengthTerm → List ℕ) → Equation → List ℕ
-rightShown v w q = shown v w sum (q .right) []
-
--- with the letters as they stand
-lefts : (w : LengthTerm → List ℕ) → map (leftIn (lengthSigns w)) texts ≡ map (leftShown ownName w) table
-unfolding texts table bytes leftOf lengthSigns begins putAt filledAfter filled shown ownName
-lefts w = refl
-
-rights : (w : LengthTerm → List ℕ) → map (rightIn (lengthSigns w)) texts ≡ map (rightShown ownName w) table
-unfolding texts table bytes rightOf lengthSigns begins putAt filledAfter filled shown ownName
-rights w = refl
-
--- with formulas put for them
-lefts-put : (v : Letter → List ℕ) (w : LengthTerm → List ℕ) → map (leftIn (lengthSigns w ++ letterSigns v)) texts ≡ map (leftShown v w) table
-unfolding texts table bytes leftOf lengthSigns letterSigns begins putAt filledAfter filled shown
-lefts-put v w = refl
-
-rights-put : (v : Letter → List ℕ) (w : LengthTerm → List ℕ) → map (rightIn (lengthSigns w ++ letterSigns v)) texts ≡ map (rightShown v w) table
-unfolding texts table bytes rightOf lengthSigns letterSigns begins putAt filledAfter filled shown
-rights-put v w = refl
+each-at : {v : Letter → List ℕ} {w : LengthTerm → List ℕ} {l : List String} {m : List Equation} → Each v w l m → (n : ℕ) → n < length l
+    → Alike v w (getD l n "") (getD m n andCommutes)
+each-at done n h = absurd (omega arith)
+each-at (a then l) zero h = a
+each-at (a then l) (suc n) h = each-at l n (omega arith)
 
 number : length texts ≡ 55
 unfolding texts
 number = refl
 
--- what two lists give is the same at every place
-same-at : {A B C : Type 0} (a : A → C) (b : B → C) (l : List A) (m : List B) (x : A) (y : B) → map a l ≡ map b m
-    → (n : ℕ) → n < length l → a (getD l n x) ≡ b (getD m n y)
-same-at a b [] m x y e n h = absurd (omega arith)
-same-at a b (z ∷ l) [] x y e n h = absurd (cons≢nil e)
-same-at a b (z ∷ l) (v ∷ m) x y e zero h = head-eq-of-cons-eq e
-same-at a b (z ∷ l) (v ∷ m) x y e (suc n) h = same-at a b l m x y (tail-eq-of-cons-eq e) n (omega arith)
+row : (n : ℕ) → 1 ≤ n → n ≤ 55 → (v : Letter → List ℕ) (w : LengthTerm → List ℕ) → Alike v w (textOf n) (equation n)
+unfolding equation textOf
+row n from to v w = each-at (rows v w) (n - 1) (omega (arith, number))
 
 -- the printer's text of a side is derived
 side : (v : Letter → List ℕ) (w : LengthTerm → List ℕ) (x : Substitution) → Write v w x → (a : Scheme) (text : List ℕ) → text ≡ shown v w sum a []
@@ -62,17 +109,6 @@ side v w x h a text e =
     let y = form v w x h sum a in
     let same : text ≡ y .text = e ∙ y .printed [] ∙ append-nil (y .text) in
     (y .depth, rw same (y .derived))
-
-row : (signs : List (String × List ℕ)) (v : Letter → List ℕ) (w : LengthTerm → List ℕ) (x : Substitution) → Write v w x
-    → map (leftIn signs) texts ≡ map (leftShown v w) table → map (rightIn signs) texts ≡ map (rightShown v w) table
-    → (n : ℕ) → 1 ≤ n → n ≤ 55 → AsPrinted signs (textOf n) x (equation n)
-unfolding equation textOf
-row signs v w x h l r n from to =
-    let k : n - 1 < length texts = omega (arith, number) in
-    record {
-      left = side v w x h (equation n .left) _ (same-at (leftIn signs) (leftShown v w) texts table "" andCommutes l (n - 1) k);
-      right = side v w x h (equation n .right) _ (same-at (rightIn signs) (rightShown v w) texts table "" andCommutes r (n - 1) k);
-    }
 
 own-name : (l : Letter) → isName (ownName l) ≡ true
 unfolding ownName bytes isName allOf isLower
@@ -83,14 +119,20 @@ own-name Letter.s = refl
 own-name Letter.r = refl
 own-name Letter.p = refl
 
+own-write : (w : LengthTerm → List ℕ) (x : Substitution) → OwnNames x → Digits w x → Write ownName w x
+own-write w x own digits = record { formulas = λ l. (0, rw (own l) (Factor.named (own-name l))); lengths = digits }
+
 pub rows-as-printed : RowsAsPrinted
 rows-as-printed =
     record {
       number = number;
       rows = λ n from to x own w digits.
-          let h : Write ownName w x = record { formulas = λ l. (0, rw (own l) (Factor.named (own-name l))); lengths = digits } in
-          row (lengthSigns w) ownName w x h (lefts w) (rights w) n from to;
+          let h = own-write w x own digits in
+          let (left, right, _, _) = row n from to ownName w in
+          record { left = side ownName w x h (equation n .left) _ left; right = side ownName w x h (equation n .right) _ right };
     }
 
 pub rows-with-formulas : RowsWithFormulas
-rows-with-formulas n from to x v w h = row (lengthSigns w ++ letterSigns v) v w x h (lefts-put v w) (rights-put v w) n from to
+rows-with-formulas n from to x v w h =
+    let (_, _, left, right) = row n from to v w in
+    record { left = side v w x h (equation n .left) _ left; right = side v w x h (equation n .right) _ right }

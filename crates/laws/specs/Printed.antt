@@ -10,7 +10,8 @@ use lib.ListN.{length, getD}
 use Rattle.formulas.specs.Tree.{leaf, name}
 use Rattle.formulas.specs.Grammar.{Factor, Writes, isLength, value}
 use Rattle.formulas.specs.Exactness.{Writable}
-use Rattle.laws.specs.Scheme.{Letter, LengthTerm, Equation, Substitution, putLength, put, f, g, h, s, r, p, d, e, d+e, larger, smaller}
+use Rattle.laws.specs.Scheme.{Letter, f, g, h, s, r, p, LengthTerm, d, e, d+e, larger, smaller}
+use Rattle.laws.specs.Scheme.{Equation, Substitution, putLength, put}
 use Rattle.laws.specs.Laws.{equation}
 
 -- The equations in the document's order: the laws that it only names as request 12 of document 02 spells them (1 to 10); "RS over + in
