@@ -14,7 +14,7 @@ use Rattle.laws.specs.Printed.{EverySubstitutionWritten}
 chosen : (formula : Letter → Tree) (d e : ℕ) → d + e ≤ 1073741823 → Chosen formula d e
 chosen formula d e h =
     record {
-      substitution = record { formula = formula; first = d; second = e; within = omega (arith, h) };
+      substitution = record { formula = formula; first = d; second = e; within = omega arith };
       formulas = λ l. refl;
       first = refl;
       second = refl;
@@ -22,7 +22,7 @@ chosen formula d e h =
 
 pub substitutions-exact : SubstitutionsExact
 substitutions-exact =
-    record { every = chosen; alone = λ formula d h. chosen formula d 0 (omega arith); noOther = λ x. omega (arith, x .within) }
+    record { every = chosen; alone = λ formula d h. chosen formula d 0 (omega arith); noOther = λ x. omega arith }
 
 -- every formula in brackets is a factor
 bracketed : (u : Tree) → Writable u → (w : List ℕ) × (depth : ℕ) × Factor w u depth
