@@ -60,7 +60,7 @@ digits-of (suc n) v h pos = go (decLt v 10) (digits-of n (v / 10))
           number = m ∙ omega arith;
         }
 
-length-written : (v : ℕ) → (w : List ℕ) × (isLength w ≡ true) × (value w ≡ v)
+pub length-written : (v : ℕ) → (w : List ℕ) × (isLength w ≡ true) × (value w ≡ v)
 unfolding isLength value valueFrom isDigit allOf
 length-written zero = (48 ∷ [], refl, refl)
 length-written (suc v) = let r = digits-of (suc v) (suc v) (omega arith) (omega arith) in (r .first ∷ r .others, rw (r .digit, r .digits, r .above) (or-true (eqb (length (r .others)) 0)), r .number)

@@ -7,6 +7,9 @@ pub mod ResetSet
 pub mod Timers
 pub mod Edges
 pub mod Table
+pub mod Printer
+pub mod Printed
+pub mod Substitutions
 pub mod Places
 pub mod Soundness
 pub mod Consequences
