@@ -8,7 +8,7 @@ use lib.Dec.{leb, ltb, eqb}
 use lib.ListN.{length}
 use borrow.Author.Tests.{ltb-false, le-ltb, lt-ltb, eqb-true, eq-eqb, ne-eqb}
 use Rattle.signals.specs.Signal.{Signal, refuted}
-use Rattle.signals.specs.Answers.{faultIn, writtenOf}
+use Rattle.signals.specs.Answers.{faultIn, writtenOf, verdictFor}
 use Rattle.signals.specs.Implication.{faultOfVerdict}
 use Rattle.signals.proofs.AnswersSay.{answersSay}
 use Rattle.signals.specs.Moment.{gap, isGap, tick}
@@ -129,15 +129,16 @@ clear-claim sheet F G c d work =
 
 pub claim-given : (sheet F G : List ℕ) (work : ℕ) → claimFault sheet F G work ≡ 0
     → claimAnswer sheet F G work ≡ claimVerdict sheet (formulaTree F) (formulaTree G)
-unfolding claimAnswer
+unfolding claimAnswer verdictFor
 claim-given sheet F G work e = rw (eq-eqb (claimFault sheet F G work) 0 e) refl
 
 claim-refused : (sheet F G : List ℕ) (work n : ℕ) → claimFault sheet F G work ≡ n → 0 < n → claimAnswer sheet F G work ≡ verdict.Refused n
-unfolding claimAnswer
+unfolding claimAnswer verdictFor
 claim-refused sheet F G work n e l = rw (ne-eqb (claimFault sheet F G work) 0 (λ z. omega arith)) (ap verdict.Refused e)
 
 -- a verdict is no refusal
 pub claim-no-fault : (sheet : List ℕ) (f g : Tree) → faultOfVerdict (claimVerdict sheet f g) ≡ 0
+unfolding verdictFor
 claim-no-fault sheet f g = answersSay .verdict .fault 0 (claimFails sheet f g)
 
 -- the fault that a claim's answer shows

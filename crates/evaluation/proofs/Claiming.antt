@@ -36,6 +36,7 @@ use Rattle.signals.proofs.FirstFault.{first-is, next-is}
 
 -- faults in their order
 pub by-first : (f g rest : ℕ) (v : Option ℕ) → g ≡ f → (f ≡ 0 → ⊥) → Refused f ≡ verdictFor (firstOf g rest) v
+unfolding verdictFor
 by-first f g rest v e n =
     let m : g ≡ 0 → ⊥ = λ z. n (sym e ∙ z) in
     rw (first-is g rest m, ne-eqb g 0 m, e)
@@ -44,15 +45,17 @@ pub by-next : (f rest : ℕ) (v : Option ℕ) (r : Verdict) → f ≡ 0 → r �
 by-next f rest v r z h = rw (next-is f rest z) h
 
 by-none : (f : ℕ) (v : Option ℕ) → f ≡ 0 → judgedBy v ≡ verdictFor f v
+unfolding verdictFor
 by-none f v z = rw (eq-eqb f 0 z)
 
 by-one : (f g : ℕ) (v : Option ℕ) → g ≡ f → (f ≡ 0 → ⊥) → Refused f ≡ verdictFor g v
+unfolding verdictFor
 by-one f g v e n = let m : g ≡ 0 → ⊥ = λ z. n (sym e ∙ z) in rw (ne-eqb g 0 m, e)
 
 -- two lists compared
 pub compared : (sheet : List ℕ) → sheetFault sheet ≡ 0 → (t u : Tree) → listFault (exactOn sheet t) ≡ 0 → listFault (exactOn sheet u) ≡ 0
     → impliesOf (exactOn sheet t) (exactOn sheet u) ≡ claimVerdict sheet t u
-unfolding impliesOf claimFails laterLast firstOf
+unfolding impliesOf claimFails verdictFor laterLast firstOf
 compared sheet ok t u a b =
     let n = max (lastDate (exactOn sheet t)) (lastDate (exactOn sheet u)) in
     let m = max (settlingDate sheet t) (settlingDate sheet u) in

@@ -12,10 +12,10 @@ use Rattle.signals.proofs.Implication.{verdict-judged, failsIn-instant, failsIn
 use Rattle.lists.specs.Questions.{laterLast, impliesOf}
 use Rattle.lists.specs.Implication.{Claimed, Implication}
 use Rattle.lists.proofs.Verdicts.{settled-a, settled-b}
-use Rattle.signals.specs.Answers.{firstOf}
+use Rattle.signals.specs.Answers.{firstOf, verdictFor}
 
 verdict-is : (a b : List ℕ) → Accepted a → Accepted b → impliesOf a b ≡ verdictOf (signalOf a) (signalOf b) (laterLast a b)
-unfolding impliesOf firstOf
+unfolding impliesOf verdictFor firstOf
 verdict-is a b za zb = rw (za, zb)
 
 pub implication : Implication

@@ -27,7 +27,7 @@ use Rattle.lists.specs.Questions.{laterLast, agreeing, equalOf, impliesO
 use Rattle.lists.specs.Finding.{shows, shown, FirstFrom, Near, verdictIn}
 use Rattle.lists.specs.declared.Found.{Found}
 use Rattle.lists.specs.declared.Found.the-variants.{In, Nowhere}
-use Rattle.signals.specs.Answers.{firstOf, toldValue, toldOf}
+use Rattle.signals.specs.Answers.{firstOf, verdictFor, toldValue, toldOf}
 use Rattle.signals.proofs.FirstFault.{both-none}
 
 -- how a found moment is told
@@ -85,11 +85,11 @@ verdict-found f g n sf sg Nowhere h =
 
 module _ (a b : List ℕ) (fault : ℕ) (e : fault ≡ firstOf (listFault a) (listFault b)) where
   pub implies-refused : (fault ≡ 0 → ⊥) → verdict.Refused fault ≡ impliesOf a b
-  unfolding impliesOf
+  unfolding impliesOf verdictFor
   implies-refused n = rw (← e, ne-eqb fault 0 n)
 
   pub implies-told : fault ≡ 0 → (r : Found) → FirstFrom (shown refuting true (signalOf a) (signalOf b)) 0 r → (v : Verdict) → v ≡ verdictIn r → v ≡ impliesOf a b
-  unfolding impliesOf
+  unfolding impliesOf verdictFor
   implies-told z r h v q =
       let ok = both-accepted a b fault e z in
       rw

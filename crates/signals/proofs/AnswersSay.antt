@@ -45,6 +45,10 @@ sum-cases P total past on = go (ltb M total) refl
     go true e = past (ltb-true M total e)
     go false e = on (ltb-false M total e)
 
+sum-fault : (f total : ℕ) → faultOfSum (sumFor f total) ≡ f
+sum-fault f total =
+    by-fault (λ g x. faultOfSum x ≡ g) f _ sum.Refused (sum-cases (λ x. faultOfSum x ≡ 0) total (λ l. refl) (λ l. refl)) (λ g l. refl)
+
 sum-value : (total : ℕ) → (totalIn (sumFor 0 total) ≡ total) × (pastM (sumFor 0 total) ≡ ltb M total)
 sum-value total = go (ltb M total)
   where
@@ -62,7 +66,7 @@ sum-every (sum.Refused f) h = rw (is-fault f h)
 sumSays : SumSays
 sumSays =
     record {
-      fault = λ f total. by-fault (λ g x. faultOfSum x ≡ g) f _ sum.Refused (sum-cases (λ x. faultOfSum x ≡ 0) total (λ l. refl) (λ l. refl)) (λ g l. refl);
+      fault = sum-fault;
       value = sum-value;
       refused = λ f total l. rw (is-fault f l) (refl, refl);
       given = λ f total. by-fault (λ g x. GivenSum x) f _ sum.Refused (sum-cases GivenSum total (λ l. l) (λ l. l)) (λ g l. l);
@@ -153,12 +157,14 @@ judged-given none = tt
 judged-given (some t) = fails-cases (λ t v. GivenVerdict v) (λ k. tt) (λ k l. l) t
 
 verdict-every : (answer : Verdict) → GivenVerdict answer → verdictFor (faultOfVerdict answer) (failsFirst answer) ≡ answer
+unfolding verdictFor
 verdict-every verdict.Holds h = refl
 verdict-every (verdict.FailsAt k) h = failsIn-instant k h
 verdict-every (verdict.FailsAfter k) h = failsIn-gap k
 verdict-every (verdict.Refused f) h = rw (is-fault f h)
 
 verdictSays : VerdictSays
+unfolding verdictFor
 verdictSays =
     record {
       fault = λ f first. by-fault (λ g x. faultOfVerdict x ≡ g) f (judgedBy first) verdict.Refused (verdict-none first) (λ g l. refl);

@@ -108,5 +108,5 @@ judgedBy none = verdict.Holds
 judgedBy (some t) = failsIn t
 
 -- the answer of a claim with this fault (0 for none) where this moment fails first, or none does
-abbrev pub verdictFor : ℕ → Option ℕ → Verdict
+unfoldable pub verdictFor : ℕ → Option ℕ → Verdict
 verdictFor fault first = cond (eqb fault 0) (judgedBy first) (verdict.Refused fault)
