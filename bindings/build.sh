@@ -1,5 +1,6 @@
 #!/bin/sh
-# Builds the proved archive in a copy outside the repository and runs the tests of the bindings against it, in C and in Rust, and those of bin/claim.
+# Builds the proved archive in a copy outside the repository and runs the tests of the bindings against it, in C and in Rust, of the
+# tool `sheet` and of bin/claim.
 #   bindings/build.sh          builds, tests, removes the copy
 #   bindings/build.sh --into DIR   the same, and leaves libcapi.a and the tool `sheet` in DIR
 set -eu
@@ -10,7 +11,7 @@ if [ "${1-}" = --into ] && [ $# -eq 2 ]; then
     mkdir -p -- "$2"
     into=$(CDPATH= cd -- "$2" && pwd)
 elif [ $# -ne 0 ]; then
-    sed -n '2,4s/^# //p' "$0" >&2
+    sed -n '2,5s/^# //p' "$0" >&2
     exit 2
 fi
 
