@@ -36,11 +36,12 @@ CARGO_TARGET_DIR=$copy/cargo
 export RASCRUNEL_LIB CARGO_TARGET_DIR
 
 echo "bindings: C"
-for name in vectors embed; do
-    cc -std=c99 -Wall -Wextra -Werror -I "$root/include" "$root/bindings/c/$name.c" "$RASCRUNEL_LIB/libcapi.a" -o "$copy/$name"
+for name in vectors embed stack; do
+    cc -std=c99 -Wall -Wextra -Werror -pthread -I "$root/include" "$root/bindings/c/$name.c" "$RASCRUNEL_LIB/libcapi.a" -o "$copy/$name"
 done
 "$copy/vectors"
 "$copy/embed" | cmp - "$root/bindings/c/embed.expected"
+"$copy/stack"
 
 echo "bindings: Rust"
 cp -R "$root/bindings" "$root/examples" "$copy/"

@@ -11,6 +11,9 @@
  * pointer is never null, not even when the count is 0, and is aligned for its type. Outputs and work areas do not overlap
  * inputs or each other. Inputs are only read.
  *
+ * Stack. The proofs do not speak of it. A call needs at most SGL_STACK_BYTES bytes of stack, whatever its input: the readers of
+ * a formula call each other as deep as its text goes, 64 bytes a bracket, and it has at most 1,024 bytes. Most calls need 12 KB.
+ *
  * Results.
  *   uint32_t  65536 * fault + count of the words (for sheets, bytes) written. Where the call tells a value: + 1 for yes or up,
  *             + 0 for no or down. Where it only judges: 65536 * fault. Fault 0 is none; a refused call writes nothing to its
@@ -47,6 +50,9 @@ extern "C" {
 #define SGL_WORK_WORDS 8192u
 #define SGL_SHEET_BYTES 33095u
 #define SGL_FORMULA_BYTES 1024u
+
+/* The most stack that a call needs, 128 KB: bindings/c/stack.c makes the deepest calls in threads of it. */
+#define SGL_STACK_BYTES 131072u
 
 /* The parts of a result. */
 #define SGL_FAULT(result) ((uint32_t)(result) / 65536u)

@@ -1,5 +1,6 @@
 //! Timing signals as lists, sheets of named signals, formulas and claims, over a proved library.
 //! These types hold no logic of their own: the library judges and computes, and they carry its answers.
+//! A call needs at most [`STACK_BYTES`] of stack, whatever its input; a thread has 2 MiB unless it asks for less.
 pub mod calls;
 mod fault;
 mod ffi;
@@ -21,3 +22,5 @@ pub const LIST_WORDS: usize = 256;
 pub const WORK_WORDS: usize = 8192;
 /// The bytes of the longest sheet: 32 signals of 256 words.
 pub const SHEET_BYTES: usize = 33_095;
+/// The most stack that a call needs, 128 KB: tests/stack.rs makes the deepest calls in threads of it.
+pub const STACK_BYTES: usize = 131_072;

@@ -7,7 +7,8 @@ ghost use lib.ListN.{length, take, drop};
 ghost use Rattle.formulas.specs.Grammar.{isLower, isDigit};
 ghost use Rattle.formulas.specs.Reader.{run, prefixKind, valueBetween};
 ghost use Rattle.formulas.specs.Formula.{capped};
-ghost use Rattle.formulas.specs.Marks.{Lent, Marked, classOf, markOf, nextMark, badMark, movedMark, expectMark, lengthMark, putMark, putCode};
+ghost use Rattle.formulas.specs.Marks.{Lent, Marked, classOf, markOf};
+ghost use Rattle.formulas.specs.Marks.{nextMark, badMark, movedMark, expectMark, lengthMark, putMark, putCode};
 use crate::kind;
 
 // M + 1, which stands for every length above M.
@@ -161,7 +162,8 @@ pub(crate) fn pass_length(text: &[u8; 1024], bytes: usize, m: &mut [usize; 5])
 // Puts a part's code word out.
 pub(crate) fn put(code: &mut [u64; 1024], m: &mut [usize; 5], word: u64, deep: usize, ticks: usize)
     requires { ⌜ (length (now m) ≡ 5) × (length (now code) ≡ 1024) × (markOf (now m) .ok ≡ true → markOf (now m) .parts < 1024) ⌝ }
-    ensures { λ _. ⌜ Marked (now (m .exit)) (putMark (markOf (now (m .entry))) deep ticks) × (now (code .exit) ≡ putCode (markOf (now (m .entry))) word (now (code .entry))) ⌝ }
+    ensures { λ _. ⌜ Marked (now (m .exit)) (putMark (markOf (now (m .entry))) deep ticks)
+        × (now (code .exit) ≡ putCode (markOf (now (m .entry))) word (now (code .entry))) ⌝ }
 {
     let parts = m[PARTS];
     if m[OK] == 1 {

@@ -1,7 +1,8 @@
 // Sum, product and factor readers that call each other: the rest of a chain, a latch and a timer are readers of their own.
 ghost use Prim.Native.Nat.{_+_, _<_};
 ghost use lib.ListN.{take};
-ghost use Rattle.formulas.specs.Marks.{Begun, Left, LeafRead, SumRead, SumsRead, ProductRead, ProductsRead, FactorRead, LatchRead, TimerRead};
+ghost use Rattle.formulas.specs.Marks.{Begun, Left, LeafRead, SumRead, SumsRead, ProductRead, ProductsRead};
+ghost use Rattle.formulas.specs.Marks.{FactorRead, LatchRead, TimerRead};
 use crate::kind;
 use crate::mark::AT;
 use crate::mark::expect;
@@ -18,7 +19,8 @@ use crate::mark::ticks;
 // 0, 1 or a name.
 fn leaf(text: &[u8; 1024], bytes: usize, code: &mut [u64; 1024], m: &mut [usize; 5], deep: usize)
     requires { ⌜ Begun (now text) bytes (now code) (now m) deep ⌝ }
-    ensures { λ _. ⌜ Left (LeafRead (take bytes (now (text .entry))) deep) (now (m .entry)) (now (code .entry)) (now (code .exit)) (now (m .exit)) ⌝ }
+    ensures { λ _. ⌜ Left (LeafRead (take bytes (now (text .entry))) deep) (now (m .entry))
+        (now (code .entry)) (now (code .exit)) (now (m .exit)) ⌝ }
 {
     let at = m[AT];
     let b = next(text, bytes, m);
@@ -56,7 +58,8 @@ pub(crate) fn sum(
     deep: usize,
 )
     requires { ⌜ Begun (now text) bytes (now code) (now m) deep ⌝ }
-    ensures { λ _. ⌜ Left (SumRead (take bytes (now (text .entry))) deep) (now (m .entry)) (now (code .entry)) (now (code .exit)) (now (m .exit)) ⌝ }
+    ensures { λ _. ⌜ Left (SumRead (take bytes (now (text .entry))) deep) (now (m .entry))
+        (now (code .entry)) (now (code .exit)) (now (m .exit)) ⌝ }
 {
     product(text, bytes, code, m, deep);
     sums(text, bytes, code, m, deep);
@@ -65,7 +68,8 @@ pub(crate) fn sum(
 // {"+" product}
 fn sums(text: &[u8; 1024], bytes: usize, code: &mut [u64; 1024], m: &mut [usize; 5], deep: usize)
     requires { ⌜ Begun (now text) bytes (now code) (now m) deep ⌝ }
-    ensures { λ _. ⌜ Left (SumsRead (take bytes (now (text .entry))) deep) (now (m .entry)) (now (code .entry)) (now (code .exit)) (now (m .exit)) ⌝ }
+    ensures { λ _. ⌜ Left (SumsRead (take bytes (now (text .entry))) deep) (now (m .entry))
+        (now (code .entry)) (now (code .exit)) (now (m .exit)) ⌝ }
 {
     if next(text, bytes, m) == b'+' {
         let at = m[AT];
@@ -79,7 +83,8 @@ fn sums(text: &[u8; 1024], bytes: usize, code: &mut [u64; 1024], m: &mut [usize;
 // product = factor {"." factor}
 fn product(text: &[u8; 1024], bytes: usize, code: &mut [u64; 1024], m: &mut [usize; 5], deep: usize)
     requires { ⌜ Begun (now text) bytes (now code) (now m) deep ⌝ }
-    ensures { λ _. ⌜ Left (ProductRead (take bytes (now (text .entry))) deep) (now (m .entry)) (now (code .entry)) (now (code .exit)) (now (m .exit)) ⌝ }
+    ensures { λ _. ⌜ Left (ProductRead (take bytes (now (text .entry))) deep) (now (m .entry))
+        (now (code .entry)) (now (code .exit)) (now (m .exit)) ⌝ }
 {
     factor(text, bytes, code, m, deep);
     products(text, bytes, code, m, deep);
@@ -94,7 +99,8 @@ fn products(
     deep: usize,
 )
     requires { ⌜ Begun (now text) bytes (now code) (now m) deep ⌝ }
-    ensures { λ _. ⌜ Left (ProductsRead (take bytes (now (text .entry))) deep) (now (m .entry)) (now (code .entry)) (now (code .exit)) (now (m .exit)) ⌝ }
+    ensures { λ _. ⌜ Left (ProductsRead (take bytes (now (text .entry))) deep) (now (m .entry))
+        (now (code .entry)) (now (code .exit)) (now (m .exit)) ⌝ }
 {
     if next(text, bytes, m) == b'.' {
         let at = m[AT];
@@ -108,7 +114,8 @@ fn products(
 // factor = "!" factor, "^" factor, "~" factor, "(" sum ")", "0", "1", name, or a block
 fn factor(text: &[u8; 1024], bytes: usize, code: &mut [u64; 1024], m: &mut [usize; 5], deep: usize)
     requires { ⌜ Begun (now text) bytes (now code) (now m) deep ⌝ }
-    ensures { λ _. ⌜ Left (FactorRead (take bytes (now (text .entry))) deep) (now (m .entry)) (now (code .entry)) (now (code .exit)) (now (m .exit)) ⌝ }
+    ensures { λ _. ⌜ Left (FactorRead (take bytes (now (text .entry))) deep) (now (m .entry))
+        (now (code .entry)) (now (code .exit)) (now (m .exit)) ⌝ }
 {
     let at = m[AT];
     let b = next(text, bytes, m);
@@ -163,7 +170,8 @@ fn latch(
     deep: usize,
 )
     requires { ⌜ Begun (now text) bytes (now code) (now m) (deep + 1) ⌝ }
-    ensures { λ _. ⌜ Left (LatchRead (take bytes (now (text .entry))) part deep) (now (m .entry)) (now (code .entry)) (now (code .exit)) (now (m .exit)) ⌝ }
+    ensures { λ _. ⌜ Left (LatchRead (take bytes (now (text .entry))) part deep) (now (m .entry))
+        (now (code .entry)) (now (code .exit)) (now (m .exit)) ⌝ }
 {
     expect(text, bytes, m, b'(');
     sum(text, bytes, code, m, deep + 1);
@@ -183,7 +191,8 @@ fn timer(
     deep: usize,
 )
     requires { ⌜ (Begun (now text) bytes (now code) (now m) (deep + 1)) × (part < 16) ⌝ }
-    ensures { λ _. ⌜ Left (TimerRead (take bytes (now (text .entry))) part deep) (now (m .entry)) (now (code .entry)) (now (code .exit)) (now (m .exit)) ⌝ }
+    ensures { λ _. ⌜ Left (TimerRead (take bytes (now (text .entry))) part deep) (now (m .entry))
+        (now (code .entry)) (now (code .exit)) (now (m .exit)) ⌝ }
 {
     expect(text, bytes, m, b'(');
     let from = m[AT];

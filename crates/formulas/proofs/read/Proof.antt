@@ -7,7 +7,8 @@ use mathlib.Core.List.{List}
 use lib.ListN.{length, replicate, length-replicate}
 use lib.Seq.{sets}
 use Rattle.formulas.specs.Marks.{markOf, SumRead}
-use Rattle.formulas.proofs.WholeRead.{first, empty-is, long-is, refused-is, written-is, begun, as-laid, few-words, few-parts, words-are, words-length, fault-is}
+use Rattle.formulas.proofs.WholeRead.{first, begun, as-laid, empty-is, long-is, refused-is, written-is}
+use Rattle.formulas.proofs.WholeRead.{few-words, few-parts, words-are, words-length, fault-is}
 use Rattle.formulas.proofs.read.Statement.{statement}
 use Rattle.formulas.proofs.read.Tie as tie
 
@@ -35,11 +36,20 @@ array-write-m : tie.Need-array-write-m
 array-write-m c = search needs
 
 sum-requires : tie.Need-sum-requires
-sum-requires c κs = begun (c .before .before .before .before .before .before .before .before .args .text .now) zeros (c .before .before .before .lay .ensures) zeros-length (c .before .before .before .before .before .if2 .left) zeros-length
+sum-requires c κs =
+    let s = c .before .before .before .before .before .before .before .before in
+    let if2′ = c .before .before .before .before .before .if2 in
+    let lay′ = c .before .before .before .lay in
+    begun (s .args .text .now) zeros (lay′ .ensures) zeros-length (if2′ .left) zeros-length
 
 -- the text is read to the mark that its words hold
 read-to : (c : tie.After-sum) → SumRead (c .before .before .before .before .before .before .before .before .before .args .text .now) 0 first zeros (c .sum .last .1 .1 .0) (markOf (c .sum .last .1 .1 .1 .0))
-read-to c = as-laid (c .before .before .before .before .before .before .before .before .before .args .text .now) zeros (c .before .before .before .before .lay .ensures) zeros-length (c .before .before .before .before .before .before .if2 .left) (c .sum .ensures .1)
+read-to c =
+    let s = c .before .before .before .before .before .before .before .before .before in
+    let if2′ = c .before .before .before .before .before .before .if2 in
+    let lay′ = c .before .before .before .before .lay in
+    let sum′ = c .sum in
+    as-laid (s .args .text .now) zeros (lay′ .ensures) zeros-length (if2′ .left) (sum′ .ensures .1)
 
 fault-of-requires : tie.Need-fault-of-requires
 fault-of-requires c κs = search needs
@@ -53,28 +63,46 @@ slice-aggregate-copy c = search needs
 copy-requires : tie.Need-copy-requires
 unfolding markOf
 copy-requires c κs =
-    let s = c .before .before .before .before .before in
-    let a = c .before .before .before .before .before .before .before .before .before .before .before .before .before .before .args in (
-      few-parts (a .text .now) _ _ _ (read-to s) (c .before .before .before .before .before .before .before .before .before .before .before .before .if1 .left) (c .before .before .before .before .before .before .before .before .before .before .before .if2 .left),
-      few-words _ (length (a .text .now)) (sym (c .before .before .before .fault-of .ensures) ∙ c .before .before .if3 .taken),
+    let s = c .before .before .before .before .before .before .before .before .before .before .before .before .before .before in
+    let if1′ = c .before .before .before .before .before .before .before .before .before .before .before .before .if1 in
+    let if2′ = c .before .before .before .before .before .before .before .before .before .before .before .if2 in
+    let fault-of′ = c .before .before .before .fault-of in
+    let if3′ = c .before .before .if3 in
+    let d = read-to (c .before .before .before .before .before) in
+    let a = s .args in (
+      few-parts (a .text .now) _ _ _ d (if1′ .left) (if2′ .left),
+      few-words _ (length (a .text .now)) (sym (fault-of′ .ensures) ∙ if3′ .taken),
     )
 
 returns-3 : tie.Need-returns-3
 unfolding markOf
 returns-3 c =
+    let s = c .before .before .before .before .before .before .before .before .before .before .before .before .before .before .before in
+    let if1′ = c .before .before .before .before .before .before .before .before .before .before .before .before .before .if1 in
+    let if2′ = c .before .before .before .before .before .before .before .before .before .before .before .before .if2 in
+    let fault-of′ = c .before .before .before .before .fault-of in
+    let if3′ = c .before .before .before .if3 in
+    let copy′ = c .copy in
     let d = read-to (c .before .before .before .before .before .before) in
-    let a = c .before .before .before .before .before .before .before .before .before .before .before .before .before .before .before .args in
-    let some = c .before .before .before .before .before .before .before .before .before .before .before .before .before .if1 .left in
-    let short = c .before .before .before .before .before .before .before .before .before .before .before .before .if2 .left in
-    written-is (a .text .now) (a .code .now) (c .copy .last .1 .1 .0) _ (fault-is (a .text .now) _ _ _ d some short ∙ sym (c .before .before .before .before .fault-of .ensures) ∙ c .before .before .before .if3 .taken)
-    (sym (words-length (a .text .now) _ _ _ d some short)) (c .copy .ensures ∙ ap (sets (a .code .now) 0) (words-are (a .text .now) _ _ _ d some short))
+    let a = s .args in
+    let some = if1′ .left in
+    let short = if2′ .left in
+    written-is (a .text .now) (a .code .now) (copy′ .last .1 .1 .0) _
+    (fault-is (a .text .now) _ _ _ d some short ∙ sym (fault-of′ .ensures) ∙ if3′ .taken)
+    (sym (words-length (a .text .now) _ _ _ d some short))
+    (copy′ .ensures ∙ ap (sets (a .code .now) 0) (words-are (a .text .now) _ _ _ d some short))
 
 returns-4 : tie.Need-returns-4
 returns-4 c =
+    let s = c .before .before .before .before .before .before .before .before .before .before .before .before in
+    let if1′ = c .before .before .before .before .before .before .before .before .before .before .if1 in
+    let if2′ = c .before .before .before .before .before .before .before .before .before .if2 in
+    let fault-of′ = c .before .fault-of in
+    let if3′ = c .if3 in
     let d = read-to (c .before .before .before) in
-    let a = c .before .before .before .before .before .before .before .before .before .before .before .before .args in
-    let f = fault-is (a .text .now) _ _ _ d (c .before .before .before .before .before .before .before .before .before .before .if1 .left) (c .before .before .before .before .before .before .before .before .before .if2 .left) in
-    refused-is (a .text .now) (a .code .now) (c .before .fault-of .result) (f ∙ sym (c .before .fault-of .ensures)) (c .if3 .left)
+    let a = s .args in
+    let f = fault-is (a .text .now) _ _ _ d (if1′ .left) (if2′ .left) in
+    refused-is (a .text .now) (a .code .now) (fault-of′ .result) (f ∙ sym (fault-of′ .ensures)) (if3′ .left)
 
 pub read-spec : {M : Type 1} → statement M
 read-spec =

@@ -144,23 +144,43 @@ factor-add-move-to t c =
 
 factor-add-factor : (t : ℕ) → factor-lts.Need-add-factor (factor-calls t) (factor-at t) factor.Post
 factor-add-factor t c =
-    let g = c .before .before .before .before .before .before .before .before .before .pre .1 .1 in omega (arith, g .opened, g .within, g .short)
+    let s = c .before .before .before .before .before .before .before .before .before in
+    let g = s .pre .1 .1 in omega (arith, g .opened, g .within, g .short)
 
 prefix-step : (t : ℕ) (c : factor-lts.After-move-to (factor-calls t) (factor-at t) factor.Post) → Factor-step t (c .before .before .before .before .before .before .before) (c .before .before .before .before .next .result) (markOf (c .move-to .last .0))
 unfolding markOf
-prefix-step t c = paths.step (c .before .before .before .before .before .before .before .pre .0, c .before .before .before .before .before .before .before .pre .1 .1) (sym (c .before .before .before .before .next .ensures)) (paths.prefix-above _ _ (c .before .before .before .prefix-kind .ensures) (c .before .before .if1 .taken)) (c .move-to .ensures .1)
+prefix-step t c =
+    let s = c .before .before .before .before .before .before .before in
+    let next′ = c .before .before .before .before .next in
+    let prefix-kind′ = c .before .before .before .prefix-kind in
+    let if1′ = c .before .before .if1 in
+    let move-to′ = c .move-to in
+    paths.step (s .pre .0, s .pre .1 .1) (sym (next′ .ensures)) (paths.prefix-above _ _ (prefix-kind′ .ensures) (if1′ .taken))
+    (move-to′ .ensures .1)
 
 factor-factor-requires : (t : ℕ) → factor-lts.Need-factor-requires (factor-calls t) (factor-at t) factor.Post
 factor-factor-requires t c κs =
-    let n = paths.deeper-needs (prefix-step t (c .before .before)) {level = 2} (omega arith) in (n .0, (lent-on (c .before .before .before .before .before .before .before .before .before .pre .1 .0) (c .before .before .move-to .ensures .0), n .1))
+    let s = c .before .before .before .before .before .before .before .before .before in
+    let move-to′ = c .before .before .move-to in
+    let n = paths.deeper-needs (prefix-step t (c .before .before)) {level = 2} (omega arith) in
+    (n .0, (lent-on (s .pre .1 .0) (move-to′ .ensures .0), n .1))
 
 factor-put-requires : (t : ℕ) → factor-lts.Need-put-requires (factor-calls t) (factor-at t) factor.Post
 factor-put-requires t c κs =
-    let n = paths.prefix-needs (prefix-step t (c .before .before .before .before .before)) (c .before .before .factor .ensures .1) in (c .before .before .factor .ensures .0, n .0, n .1)
+    let factor′ = c .before .before .factor in
+    let n = paths.prefix-needs (prefix-step t (c .before .before .before .before .before)) (factor′ .ensures .1) in
+    (factor′ .ensures .0, n .0, n .1)
 
 factor-returns : (t : ℕ) → factor-lts.Need-returns (factor-calls t) (factor-at t) factor.Post
 factor-returns t c =
-    (c .put .ensures .0 .0, paths.prefix-path (prefix-step t (c .before .before .before .before .before .before)) _ (c .before .before .before .before .before .before .before .before .before .prefix-kind .ensures) (c .before .before .before .before .before .before .before .before .if1 .taken) (c .before .before .before .factor .ensures .1) (c .put .ensures .0 .1, c .put .ensures .1))
+    let prefix-kind′ = c .before .before .before .before .before .before .before .before .before .prefix-kind in
+    let if1′ = c .before .before .before .before .before .before .before .before .if1 in
+    let factor′ = c .before .before .before .factor in
+    let put′ = c .put in (
+      put′ .ensures .0 .0,
+      paths.prefix-path (prefix-step t (c .before .before .before .before .before .before)) _ (prefix-kind′ .ensures)
+          (if1′ .taken) (factor′ .ensures .1) (put′ .ensures .0 .1, put′ .ensures .1),
+    )
 
 factor-add-move-to-2 : (t : ℕ) → factor-lts.Need-add-move-to-2 (factor-calls t) (factor-at t) factor.Post
 unfolding markOf
@@ -169,22 +189,39 @@ factor-add-move-to-2 t c =
 
 factor-add-sum : (t : ℕ) → factor-lts.Need-add-sum (factor-calls t) (factor-at t) factor.Post
 factor-add-sum t c =
-    let g = c .before .before .before .before .before .before .before .before .before .before .pre .1 .1 in omega (arith, g .opened, g .within, g .short)
+    let s = c .before .before .before .before .before .before .before .before .before .before in
+    let g = s .pre .1 .1 in omega (arith, g .opened, g .within, g .short)
 
 bracket-step : (t : ℕ) (c : factor-lts.After-move-to2 (factor-calls t) (factor-at t) factor.Post) → Factor-step t (c .before .before .before .before .before .before .before .before) 40 (markOf (c .move-to2 .last .0))
 unfolding markOf
-bracket-step t c = paths.step (c .before .before .before .before .before .before .before .before .pre .0, c .before .before .before .before .before .before .before .before .pre .1 .1) (sym (c .before .before .before .before .before .next .ensures) ∙ c .before .before .if2 .taken) (omega arith) (c .move-to2 .ensures .1)
+bracket-step t c =
+    let s = c .before .before .before .before .before .before .before .before in
+    let next′ = c .before .before .before .before .before .next in
+    let if2′ = c .before .before .if2 in
+    let move-to2′ = c .move-to2 in
+    paths.step (s .pre .0, s .pre .1 .1) (sym (next′ .ensures) ∙ if2′ .taken) (omega arith) (move-to2′ .ensures .1)
 
 factor-sum-requires : (t : ℕ) → factor-lts.Need-sum-requires (factor-calls t) (factor-at t) factor.Post
 factor-sum-requires t c κs =
-    let n = paths.deeper-needs (bracket-step t (c .before .before)) {level = 4} (omega arith) in (n .0, (lent-on (c .before .before .before .before .before .before .before .before .before .before .pre .1 .0) (c .before .before .move-to2 .ensures .0), n .1))
+    let s = c .before .before .before .before .before .before .before .before .before .before in
+    let move-to2′ = c .before .before .move-to2 in
+    let n = paths.deeper-needs (bracket-step t (c .before .before)) {level = 4} (omega arith) in
+    (n .0, (lent-on (s .pre .1 .0) (move-to2′ .ensures .0), n .1))
 
 factor-expect-requires : (t : ℕ) → factor-lts.Need-expect-requires (factor-calls t) (factor-at t) factor.Post
-factor-expect-requires t c κs = (lent-on (c .before .before .before .before .before .before .before .before .before .before .before .before .pre .1 .0) (c .before .sum .ensures .0), omega arith)
+factor-expect-requires t c κs =
+    let s = c .before .before .before .before .before .before .before .before .before .before .before .before in
+    let sum′ = c .before .sum in
+    (lent-on (s .pre .1 .0) (sum′ .ensures .0), omega arith)
 
 factor-returns-2 : (t : ℕ) → factor-lts.Need-returns-2 (factor-calls t) (factor-at t) factor.Post
 factor-returns-2 t c =
-    (c .expect .ensures .0, paths.brackets-path (bracket-step t (c .before .before .before .before .before)) (c .before .before .sum .ensures .1) (c .expect .ensures .1))
+    let sum′ = c .before .before .sum in
+    let expect′ = c .expect in (
+      expect′ .ensures .0,
+      paths.brackets-path (bracket-step t (c .before .before .before .before .before)) (sum′ .ensures .1)
+          (expect′ .ensures .1),
+    )
 
 factor-add-move-to-3 : (t : ℕ) → factor-lts.Need-add-move-to-3 (factor-calls t) (factor-at t) factor.Post
 unfolding markOf
@@ -193,21 +230,36 @@ factor-add-move-to-3 t c =
 
 sr-step : (t : ℕ) (c : factor-lts.After-move-to3 (factor-calls t) (factor-at t) factor.Post) → Factor-step t (c .before .before .before .before .before .before .before .before .before) 83 (markOf (c .move-to3 .last .0))
 unfolding markOf
-sr-step t c = paths.step (c .before .before .before .before .before .before .before .before .before .pre .0, c .before .before .before .before .before .before .before .before .before .pre .1 .1) (sym (c .before .before .before .before .before .before .next .ensures) ∙ c .before .before .if3 .taken) (omega arith) (c .move-to3 .ensures .1)
+sr-step t c =
+    let s = c .before .before .before .before .before .before .before .before .before in
+    let next′ = c .before .before .before .before .before .before .next in
+    let if3′ = c .before .before .if3 in
+    let move-to3′ = c .move-to3 in
+    paths.step (s .pre .0, s .pre .1 .1) (sym (next′ .ensures) ∙ if3′ .taken) (omega arith) (move-to3′ .ensures .1)
 
 factor-expect-requires-2 : (t : ℕ) → factor-lts.Need-expect-requires-2 (factor-calls t) (factor-at t) factor.Post
-factor-expect-requires-2 t c κs = (lent-on (c .before .before .before .before .before .before .before .before .before .before .pre .1 .0) (c .before .move-to3 .ensures .0), omega arith)
+factor-expect-requires-2 t c κs =
+    let s = c .before .before .before .before .before .before .before .before .before .before in
+    let move-to3′ = c .before .move-to3 in
+    (lent-on (s .pre .1 .0) (move-to3′ .ensures .0), omega arith)
 
 factor-latch-requires : (t : ℕ) → factor-lts.Need-latch-requires (factor-calls t) (factor-at t) factor.Post
 factor-latch-requires t c κs =
+    let s = c .before .before .before .before .before .before .before .before .before .before .before .before .before in
+    let expect2′ = c .before .before .expect2 in
     let k = sr-step t (c .before .before .before .before) in
-    let n = paths.block-needs k (paths.letter k 82 (omega arith) (c .before .before .expect2 .ensures .1)) in
-    (n .0, (lent-on (c .before .before .before .before .before .before .before .before .before .before .before .before .before .pre .1 .0) (c .before .before .expect2 .ensures .0), n .1))
+    let n = paths.block-needs k (paths.letter k 82 (omega arith) (expect2′ .ensures .1)) in
+    (n .0, (lent-on (s .pre .1 .0) (expect2′ .ensures .0), n .1))
 
 factor-returns-3 : (t : ℕ) → factor-lts.Need-returns-3 (factor-calls t) (factor-at t) factor.Post
 factor-returns-3 t c =
-    let k = sr-step t (c .before .before .before .before .before) in
-    (c .latch .ensures .0, paths.block-path k (paths.letter k 82 (omega arith) (c .before .before .before .expect2 .ensures .1)) (c .latch .ensures .1) (paths.latch-is k sr-latch))
+    let expect2′ = c .before .before .before .expect2 in
+    let latch′ = c .latch in
+    let k = sr-step t (c .before .before .before .before .before) in (
+      latch′ .ensures .0,
+      paths.block-path k (paths.letter k 82 (omega arith) (expect2′ .ensures .1)) (latch′ .ensures .1)
+          (paths.latch-is k sr-latch),
+    )
 
 factor-add-move-to-4 : (t : ℕ) → factor-lts.Need-add-move-to-4 (factor-calls t) (factor-at t) factor.Post
 unfolding markOf
@@ -216,42 +268,69 @@ factor-add-move-to-4 t c =
 
 rs-step : (t : ℕ) (c : factor-lts.After-move-to4 (factor-calls t) (factor-at t) factor.Post) → Factor-step t (c .before .before .before .before .before .before .before .before .before .before) 82 (markOf (c .move-to4 .last .0))
 unfolding markOf
-rs-step t c = paths.step (c .before .before .before .before .before .before .before .before .before .before .pre .0, c .before .before .before .before .before .before .before .before .before .before .pre .1 .1) (sym (c .before .before .before .before .before .before .before .next .ensures) ∙ c .before .before .if4 .taken) (omega arith) (c .move-to4 .ensures .1)
+rs-step t c =
+    let s = c .before .before .before .before .before .before .before .before .before .before in
+    let next′ = c .before .before .before .before .before .before .before .next in
+    let if4′ = c .before .before .if4 in
+    let move-to4′ = c .move-to4 in
+    paths.step (s .pre .0, s .pre .1 .1) (sym (next′ .ensures) ∙ if4′ .taken) (omega arith) (move-to4′ .ensures .1)
 
 factor-expect-requires-3 : (t : ℕ) → factor-lts.Need-expect-requires-3 (factor-calls t) (factor-at t) factor.Post
-factor-expect-requires-3 t c κs = (lent-on (c .before .before .before .before .before .before .before .before .before .before .before .pre .1 .0) (c .before .move-to4 .ensures .0), omega arith)
+factor-expect-requires-3 t c κs =
+    let s = c .before .before .before .before .before .before .before .before .before .before .before in
+    let move-to4′ = c .before .move-to4 in
+    (lent-on (s .pre .1 .0) (move-to4′ .ensures .0), omega arith)
 
 factor-latch-requires-2 : (t : ℕ) → factor-lts.Need-latch-requires-2 (factor-calls t) (factor-at t) factor.Post
 factor-latch-requires-2 t c κs =
+    let s = c .before .before .before .before .before .before .before .before .before .before .before .before .before .before in
+    let expect3′ = c .before .before .expect3 in
     let k = rs-step t (c .before .before .before .before) in
-    let n = paths.block-needs k (paths.letter k 83 (omega arith) (c .before .before .expect3 .ensures .1)) in
-    (n .0, (lent-on (c .before .before .before .before .before .before .before .before .before .before .before .before .before .before .pre .1 .0) (c .before .before .expect3 .ensures .0), n .1))
+    let n = paths.block-needs k (paths.letter k 83 (omega arith) (expect3′ .ensures .1)) in
+    (n .0, (lent-on (s .pre .1 .0) (expect3′ .ensures .0), n .1))
 
 factor-returns-4 : (t : ℕ) → factor-lts.Need-returns-4 (factor-calls t) (factor-at t) factor.Post
 factor-returns-4 t c =
-    let k = rs-step t (c .before .before .before .before .before) in
-    (c .latch2 .ensures .0, paths.block-path k (paths.letter k 83 (omega arith) (c .before .before .before .expect3 .ensures .1)) (c .latch2 .ensures .1) (paths.latch-is k rs-latch))
+    let expect3′ = c .before .before .before .expect3 in
+    let latch2′ = c .latch2 in
+    let k = rs-step t (c .before .before .before .before .before) in (
+      latch2′ .ensures .0,
+      paths.block-path k (paths.letter k 83 (omega arith) (expect3′ .ensures .1)) (latch2′ .ensures .1)
+          (paths.latch-is k rs-latch),
+    )
 
 factor-add-move-to-5 : (t : ℕ) → factor-lts.Need-add-move-to-5 (factor-calls t) (factor-at t) factor.Post
 unfolding markOf
 factor-add-move-to-5 t c =
-    let g = c .before .before .before .before .before .before .before .before .before .before .pre .1 .1 in omega (arith, g .within, g .short)
+    let s = c .before .before .before .before .before .before .before .before .before .before in
+    let g = s .pre .1 .1 in omega (arith, g .within, g .short)
 
 t-step : (t : ℕ) (c : factor-lts.After-move-to5 (factor-calls t) (factor-at t) factor.Post) → Factor-step t (c .before .before .before .before .before .before .before .before .before .before .before) 84 (markOf (c .move-to5 .last .0))
 unfolding markOf
-t-step t c = paths.step (c .before .before .before .before .before .before .before .before .before .before .before .pre .0, c .before .before .before .before .before .before .before .before .before .before .before .pre .1 .1) (sym (c .before .before .before .before .before .before .before .before .next .ensures) ∙ c .before .before .if5 .taken) (omega arith) (c .move-to5 .ensures .1)
+t-step t c =
+    let s = c .before .before .before .before .before .before .before .before .before .before .before in
+    let next′ = c .before .before .before .before .before .before .before .before .next in
+    let if5′ = c .before .before .if5 in
+    let move-to5′ = c .move-to5 in
+    paths.step (s .pre .0, s .pre .1 .1) (sym (next′ .ensures) ∙ if5′ .taken) (omega arith) (move-to5′ .ensures .1)
 
 factor-expect-requires-4 : (t : ℕ) → factor-lts.Need-expect-requires-4 (factor-calls t) (factor-at t) factor.Post
-factor-expect-requires-4 t c κs = (lent-on (c .before .before .before .before .before .before .before .before .before .before .before .before .pre .1 .0) (c .before .move-to5 .ensures .0), omega arith)
+factor-expect-requires-4 t c κs =
+    let s = c .before .before .before .before .before .before .before .before .before .before .before .before in
+    let move-to5′ = c .before .move-to5 in
+    (lent-on (s .pre .1 .0) (move-to5′ .ensures .0), omega arith)
 
 factor-next-requires-2 : (t : ℕ) → factor-lts.Need-next-requires-2 (factor-calls t) (factor-at t) factor.Post
-factor-next-requires-2 t c κs = (c .before .before .before .before .before .before .before .before .before .before .before .before .before .before .pre .1 .0 .whole, c .before .before .before .before .before .before .before .before .before .before .before .before .before .before .pre .1 .0 .first)
+factor-next-requires-2 t c κs =
+    let s = c .before .before .before .before .before .before .before .before .before .before .before .before .before .before in
+    (s .pre .1 .0 .whole, s .pre .1 .0 .first)
 
 factor-add-move-to-6 : (t : ℕ) → factor-lts.Need-add-move-to-6 (factor-calls t) (factor-at t) factor.Post
 unfolding markOf
 factor-add-move-to-6 t c =
+    let expect4′ = c .before .before .before .before .before .expect4 in
     let k = t-step t (c .before .before .before .before .before .before .before) in
-    omega (arith, paths.letter k 79 (omega arith) (c .before .before .before .before .before .expect4 .ensures .1) .done .within, k .ready .short)
+    omega (arith, paths.letter k 79 (omega arith) (expect4′ .ensures .1) .done .within, k .ready .short)
 
 factor-move-to-requires-6 : (t : ℕ) → factor-lts.Need-move-to-requires-6 (factor-calls t) (factor-at t) factor.Post
 factor-move-to-requires-6 t c κs = c .before .before .before .before .before .expect4 .ensures .0
@@ -259,44 +338,74 @@ factor-move-to-requires-6 t c κs = c .before .before .before .before .before .e
 factor-timer-requires : (t : ℕ) → factor-lts.Need-timer-requires (factor-calls t) (factor-at t) factor.Post
 unfolding markOf
 factor-timer-requires t c κs =
+    let s = c .before .before .before .before .before .before .before .before .before .before .before .before .before .before .before .before .before .before .before .before .before in
+    let expect4′ = c .before .before .before .before .before .before .before .before .expect4 in
+    let next2′ = c .before .before .before .before .before .before .next2 in
+    let if6′ = c .before .before .before .before .before .if6 in
+    let move-to6′ = c .before .before .move-to6 in
     let k = t-step t (c .before .before .before .before .before .before .before .before .before .before) in
-    let w = sym (c .before .before .before .before .before .before .next2 .ensures) ∙ c .before .before .before .before .before .if6 .taken in
-    let b = paths.block-needs k (paths.ton-letters k (c .before .before .before .before .before .before .before .before .expect4 .ensures .1) w (c .before .before .move-to6 .ensures .1)) in
-    (b .0, ((lent-on (c .before .before .before .before .before .before .before .before .before .before .before .before .before .before .before .before .before .before .before .before .before .pre .1 .0) (c .before .before .move-to6 .ensures .0), b .1), omega arith))
+    let w = sym (next2′ .ensures) ∙ if6′ .taken in
+    let b = paths.block-needs k (paths.ton-letters k (expect4′ .ensures .1) w (move-to6′ .ensures .1)) in
+    (b .0, ((lent-on (s .pre .1 .0) (move-to6′ .ensures .0), b .1), omega arith))
 
 factor-returns-5 : (t : ℕ) → factor-lts.Need-returns-5 (factor-calls t) (factor-at t) factor.Post
 unfolding markOf
 factor-returns-5 t c =
+    let expect4′ = c .before .before .before .before .before .before .before .before .before .expect4 in
+    let next2′ = c .before .before .before .before .before .before .before .next2 in
+    let if6′ = c .before .before .before .before .before .before .if6 in
+    let move-to6′ = c .before .before .before .move-to6 in
+    let timer′ = c .timer in
     let k = t-step t (c .before .before .before .before .before .before .before .before .before .before .before) in
-    let w = sym (c .before .before .before .before .before .before .before .next2 .ensures) ∙ c .before .before .before .before .before .before .if6 .taken in
-    let o = c .before .before .before .before .before .before .before .before .before .expect4 .ensures .1 in
-    (c .timer .ensures .0, paths.block-path k (paths.ton-letters k o w (c .before .before .before .move-to6 .ensures .1)) (c .timer .ensures .1) (paths.ton-is k o w))
+    let w = sym (next2′ .ensures) ∙ if6′ .taken in
+    let o = expect4′ .ensures .1 in
+    (timer′ .ensures .0, paths.block-path k (paths.ton-letters k o w (move-to6′ .ensures .1)) (timer′ .ensures .1) (paths.ton-is k o w))
 
 factor-expect-requires-5 : (t : ℕ) → factor-lts.Need-expect-requires-5 (factor-calls t) (factor-at t) factor.Post
-factor-expect-requires-5 t c κs = (lent-on (c .before .before .before .before .before .before .before .before .before .before .before .before .before .before .before .before .before .pre .1 .0) (c .before .before .before .before .expect4 .ensures .0), omega arith)
+factor-expect-requires-5 t c κs =
+    let s = c .before .before .before .before .before .before .before .before .before .before .before .before .before .before .before .before .before in
+    let expect4′ = c .before .before .before .before .expect4 in
+    (lent-on (s .pre .1 .0) (expect4′ .ensures .0), omega arith)
 
 factor-timer-requires-2 : (t : ℕ) → factor-lts.Need-timer-requires-2 (factor-calls t) (factor-at t) factor.Post
 factor-timer-requires-2 t c κs =
+    let s = c .before .before .before .before .before .before .before .before .before .before .before .before .before .before .before .before .before .before .before .before in
+    let expect4′ = c .before .before .before .before .before .before .before .expect4 in
+    let expect5′ = c .before .before .expect5 in
     let k = t-step t (c .before .before .before .before .before .before .before .before .before) in
-    let b = paths.block-needs k (paths.tof-letters k (c .before .before .before .before .before .before .before .expect4 .ensures .1) (c .before .before .expect5 .ensures .1)) in
-    (b .0, ((lent-on (c .before .before .before .before .before .before .before .before .before .before .before .before .before .before .before .before .before .before .before .before .pre .1 .0) (c .before .before .expect5 .ensures .0), b .1), omega arith))
+    let b = paths.block-needs k (paths.tof-letters k (expect4′ .ensures .1) (expect5′ .ensures .1)) in
+    (b .0, ((lent-on (s .pre .1 .0) (expect5′ .ensures .0), b .1), omega arith))
 
 factor-returns-6 : (t : ℕ) → factor-lts.Need-returns-6 (factor-calls t) (factor-at t) factor.Post
 factor-returns-6 t c =
+    let expect4′ = c .before .before .before .before .before .before .before .before .expect4 in
+    let next2′ = c .before .before .before .before .before .before .next2 in
+    let if6′ = c .before .before .before .before .before .if6 in
+    let expect5′ = c .before .before .before .expect5 in
+    let timer2′ = c .timer2 in
     let k = t-step t (c .before .before .before .before .before .before .before .before .before .before) in
-    let w = ne-eqb _ _ (λ h. c .before .before .before .before .before .if6 .left (c .before .before .before .before .before .before .next2 .ensures ∙ h)) in
-    let o = c .before .before .before .before .before .before .before .before .expect4 .ensures .1 in
-    (c .timer2 .ensures .0, paths.block-path k (paths.tof-letters k o (c .before .before .before .expect5 .ensures .1)) (c .timer2 .ensures .1) (paths.tof-is k o w))
+    let w = ne-eqb _ _ (λ h. if6′ .left (next2′ .ensures ∙ h)) in
+    let o = expect4′ .ensures .1 in
+    (timer2′ .ensures .0, paths.block-path k (paths.tof-letters k o (expect5′ .ensures .1)) (timer2′ .ensures .1) (paths.tof-is k o w))
 
 factor-leaf-requires : (t : ℕ) → factor-lts.Need-leaf-requires (factor-calls t) (factor-at t) factor.Post
 factor-leaf-requires t c κs = c .before .before .before .before .before .before .before .before .before .before .before .pre .1
 
 factor-returns-7 : (t : ℕ) → factor-lts.Need-returns-7 (factor-calls t) (factor-at t) factor.Post
 factor-returns-7 t c =
-    let b = c .before .before .before .before .before .before .before .before .before .next .result in (
-      c .leaf .ensures .0,
-      paths.leaf-path (c .before .before .before .before .before .before .before .before .before .before .before .before .pre .1 .1) b _ (sym (c .before .before .before .before .before .before .before .before .before .next .ensures)) (c .before .before .before .before .before .before .before .before .prefix-kind .ensures) (c .before .before .before .before .before .before .before .if1 .left)
-          (ne-eqb b 40 (c .before .before .before .before .before .before .if2 .left)) (ne-eqb b 83 (c .before .before .before .before .before .if3 .left)) (ne-eqb b 82 (c .before .before .before .before .if4 .left)) (ne-eqb b 84 (c .before .before .before .if5 .left)) (c .leaf .ensures .1),
+    let s = c .before .before .before .before .before .before .before .before .before .before .before .before in
+    let next′ = c .before .before .before .before .before .before .before .before .before .next in
+    let prefix-kind′ = c .before .before .before .before .before .before .before .before .prefix-kind in
+    let if1′ = c .before .before .before .before .before .before .before .if1 in
+    let if2′ = c .before .before .before .before .before .before .if2 in
+    let if3′ = c .before .before .before .before .before .if3 in
+    let if4′ = c .before .before .before .before .if4 in
+    let if5′ = c .before .before .before .if5 in
+    let leaf′ = c .leaf in
+    let b = next′ .result in (
+      leaf′ .ensures .0,
+      paths.leaf-path (s .pre .1 .1) b _ (sym (next′ .ensures)) (prefix-kind′ .ensures) (if1′ .left)
+          (ne-eqb b 40 (if2′ .left)) (ne-eqb b 83 (if3′ .left)) (ne-eqb b 82 (if4′ .left)) (ne-eqb b 84 (if5′ .left)) (leaf′ .ensures .1),
     )
 
 latch-expect-requires : (t : ℕ) → latch-lts.Need-expect-requires (latch-calls t) (latch-at t) latch.Post
@@ -309,50 +418,82 @@ latch-add-sum t c =
 latch-sum-requires : (t : ℕ) → latch-lts.Need-sum-requires (latch-calls t) (latch-at t) latch.Post
 latch-sum-requires t c κs =
     let s = c .before .before .before .before in
-    let n = inner-needs (s .args .deep) (s .pre .1 .1) (paths.opened (s .args .deep) (s .pre .1 .1) (c .before .before .expect .ensures .1)) (s .pre .0) in
-    (n .0, (lent-on (c .before .before .before .before .pre .1 .0) (c .before .before .expect .ensures .0), n .1))
+    let expect′ = c .before .before .expect in
+    let n = inner-needs (s .args .deep) (s .pre .1 .1) (paths.opened (s .args .deep) (s .pre .1 .1) (expect′ .ensures .1)) (s .pre .0) in
+    (n .0, (lent-on (s .pre .1 .0) (expect′ .ensures .0), n .1))
 
 latch-expect-requires-2 : (t : ℕ) → latch-lts.Need-expect-requires-2 (latch-calls t) (latch-at t) latch.Post
-latch-expect-requires-2 t c κs = (lent-on (c .before .before .before .before .before .before .pre .1 .0) (c .before .sum .ensures .0), omega arith)
+latch-expect-requires-2 t c κs =
+    let s = c .before .before .before .before .before .before in
+    let sum′ = c .before .sum in
+    (lent-on (s .pre .1 .0) (sum′ .ensures .0), omega arith)
 
 latch-add-sum-2 : (t : ℕ) → latch-lts.Need-add-sum-2 (latch-calls t) (latch-at t) latch.Post
 latch-add-sum-2 t c =
-    let g = c .before .before .before .before .before .before .before .before .before .pre .1 .1 in omega (arith, g .opened, g .within, g .short)
+    let s = c .before .before .before .before .before .before .before .before .before in
+    let g = s .pre .1 .1 in omega (arith, g .opened, g .within, g .short)
 
 latch-sum-requires-2 : (t : ℕ) → latch-lts.Need-sum-requires-2 (latch-calls t) (latch-at t) latch.Post
 latch-sum-requires-2 t c κs =
     let s = c .before .before .before .before .before .before .before .before .before in
-    let n = inner-needs (s .args .deep) (s .pre .1 .1) (paths.parted (s .args .deep) (s .pre .1 .1) (c .before .before .before .before .before .before .before .expect .ensures .1) (c .before .before .before .before .sum .ensures .1) (c .before .before .expect2 .ensures .1)) (s .pre .0) in
-    (n .0, (lent-on (c .before .before .before .before .before .before .before .before .before .pre .1 .0) (c .before .before .expect2 .ensures .0), n .1))
+    let expect′ = c .before .before .before .before .before .before .before .expect in
+    let sum′ = c .before .before .before .before .sum in
+    let expect2′ = c .before .before .expect2 in
+    let n = inner-needs (s .args .deep) (s .pre .1 .1)
+    (paths.parted (s .args .deep) (s .pre .1 .1) (expect′ .ensures .1) (sum′ .ensures .1) (expect2′ .ensures .1)) (s .pre .0) in
+    (n .0, (lent-on (s .pre .1 .0) (expect2′ .ensures .0), n .1))
 
 latch-expect-requires-3 : (t : ℕ) → latch-lts.Need-expect-requires-3 (latch-calls t) (latch-at t) latch.Post
-latch-expect-requires-3 t c κs = (lent-on (c .before .before .before .before .before .before .before .before .before .before .before .pre .1 .0) (c .before .sum2 .ensures .0), omega arith)
+latch-expect-requires-3 t c κs =
+    let s = c .before .before .before .before .before .before .before .before .before .before .before in
+    let sum2′ = c .before .sum2 in
+    (lent-on (s .pre .1 .0) (sum2′ .ensures .0), omega arith)
 
 latch-put-requires : (t : ℕ) → latch-lts.Need-put-requires (latch-calls t) (latch-at t) latch.Post
 latch-put-requires t c κs =
     let s = c .before .before .before .before .before .before .before .before .before .before .before .before .before .before in
-    let n = paths.latch-needs (s .args .deep) (s .pre .1 .1) (c .before .before .before .before .before .before .before .before .before .before .before .before .expect .ensures .1) (c .before .before .before .before .before .before .before .before .before .sum .ensures .1) (c .before .before .before .before .before .before .before .expect2 .ensures .1) (c .before .before .before .before .sum2 .ensures .1) (c .before .before .expect3 .ensures .1) in
-    (c .before .before .expect3 .ensures .0, n .0, n .1)
+    let expect′ = c .before .before .before .before .before .before .before .before .before .before .before .before .expect in
+    let sum′ = c .before .before .before .before .before .before .before .before .before .sum in
+    let expect2′ = c .before .before .before .before .before .before .before .expect2 in
+    let sum2′ = c .before .before .before .before .sum2 in
+    let expect3′ = c .before .before .expect3 in
+    let n = paths.latch-needs (s .args .deep) (s .pre .1 .1) (expect′ .ensures .1) (sum′ .ensures .1) (expect2′ .ensures .1)
+    (sum2′ .ensures .1) (expect3′ .ensures .1) in
+    (expect3′ .ensures .0, n .0, n .1)
 
 latch-returns : (t : ℕ) → latch-lts.Need-returns (latch-calls t) (latch-at t) latch.Post
 latch-returns t c =
-    let s = c .before .before .before .before .before .before .before .before .before .before .before .before .before .before .before in (
-      c .put .ensures .0 .0,
-      paths.latch-path (s .args .deep) (s .pre .1 .1) (c .before .before .before .before .before .before .before .before .before .before .before .before .before .expect .ensures .1) (c .before .before .before .before .before .before .before .before .before .before .sum .ensures .1) (c .before .before .before .before .before .before .before .before .expect2 .ensures .1) (c .before .before .before .before .before .sum2 .ensures .1)
-          (c .before .before .before .expect3 .ensures .1) (s .args .part) (c .put .ensures .1) (c .put .ensures .0 .1),
+    let s = c .before .before .before .before .before .before .before .before .before .before .before .before .before .before .before in
+    let expect′ = c .before .before .before .before .before .before .before .before .before .before .before .before .before .expect in
+    let sum′ = c .before .before .before .before .before .before .before .before .before .before .sum in
+    let expect2′ = c .before .before .before .before .before .before .before .before .expect2 in
+    let sum2′ = c .before .before .before .before .before .sum2 in
+    let expect3′ = c .before .before .before .expect3 in
+    let put′ = c .put in (
+      put′ .ensures .0 .0,
+      paths.latch-path (s .args .deep) (s .pre .1 .1) (expect′ .ensures .1) (sum′ .ensures .1) (expect2′ .ensures .1)
+          (sum2′ .ensures .1)
+          (expect3′ .ensures .1) (s .args .part) (put′ .ensures .1) (put′ .ensures .0 .1),
     )
 
 product-factor-requires : (t : ℕ) → product-lts.Need-factor-requires (product-calls t) (product-at t) product.Post
 product-factor-requires t c κs =
-    let n = chains.first-needs times (c .before .before .pre .1 .1) (c .before .before .pre .0) in (n .0, (c .before .before .pre .1 .0, n .1))
+    let s = c .before .before in
+    let n = chains.first-needs times (s .pre .1 .1) (s .pre .0) in (n .0, (s .pre .1 .0, n .1))
 
 product-products-requires : (t : ℕ) → product-lts.Need-products-requires (product-calls t) (product-at t) product.Post
 product-products-requires t c κs =
-    let n = chains.after-first times (c .before .before .before .before .before .pre .1 .1) (c .before .before .before .before .before .pre .0) (c .before .before .factor .ensures .1) in (n .0, (lent-on (c .before .before .before .before .before .pre .1 .0) (c .before .before .factor .ensures .0), n .1))
+    let s = c .before .before .before .before .before in
+    let factor′ = c .before .before .factor in
+    let n = chains.after-first times (s .pre .1 .1) (s .pre .0) (factor′ .ensures .1) in
+    (n .0, (lent-on (s .pre .1 .0) (factor′ .ensures .0), n .1))
 
 product-returns : (t : ℕ) → product-lts.Need-returns (product-calls t) (product-at t) product.Post
 product-returns t c =
-    (c .products .ensures .0, chains.whole-path times (c .before .before .before .before .before .before .pre .1 .1) (c .before .before .before .factor .ensures .1) (c .products .ensures .1))
+    let s = c .before .before .before .before .before .before in
+    let factor′ = c .before .before .before .factor in
+    let products′ = c .products in
+    (products′ .ensures .0, chains.whole-path times (s .pre .1 .1) (factor′ .ensures .1) (products′ .ensures .1))
 
 products-add-move-to : (t : ℕ) → products-lts.Need-add-move-to (products-calls t) (products-at t) products.Post
 unfolding markOf
@@ -365,40 +506,70 @@ Products-step t s b x = paths.Step (take (s .args .bytes) (s .args .text .now)) 
 
 times-step : (t : ℕ) (c : products-lts.After-move-to (products-calls t) (products-at t) products.Post) → Products-step t (c .before .before .before .before .before .before) 46 (markOf (c .move-to .last .0))
 unfolding markOf
-times-step t c = paths.step (c .before .before .before .before .before .before .pre .0, c .before .before .before .before .before .before .pre .1 .1) (sym (c .before .before .before .before .next .ensures) ∙ c .before .before .before .if1 .taken) (omega arith) (c .move-to .ensures .1)
+times-step t c =
+    let s = c .before .before .before .before .before .before in
+    let next′ = c .before .before .before .before .next in
+    let if1′ = c .before .before .before .if1 in
+    let move-to′ = c .move-to in
+    paths.step (s .pre .0, s .pre .1 .1) (sym (next′ .ensures) ∙ if1′ .taken) (omega arith) (move-to′ .ensures .1)
 
 products-factor-requires : (t : ℕ) → products-lts.Need-factor-requires (products-calls t) (products-at t) products.Post
 products-factor-requires t c κs =
-    let n = chains.operand-needs times (times-step t (c .before .before)) in (n .0, (lent-on (c .before .before .before .before .before .before .before .before .pre .1 .0) (c .before .before .move-to .ensures .0), n .1))
+    let s = c .before .before .before .before .before .before .before .before in
+    let move-to′ = c .before .before .move-to in
+    let n = chains.operand-needs times (times-step t (c .before .before)) in (n .0, (lent-on (s .pre .1 .0) (move-to′ .ensures .0), n .1))
 
 products-put-requires : (t : ℕ) → products-lts.Need-put-requires (products-calls t) (products-at t) products.Post
 products-put-requires t c κs =
-    let n = chains.operator-needs times (times-step t (c .before .before .before .before .before)) (c .before .before .factor .ensures .1) in (c .before .before .factor .ensures .0, n .0, n .1)
+    let factor′ = c .before .before .factor in
+    let n = chains.operator-needs times (times-step t (c .before .before .before .before .before)) (factor′ .ensures .1) in
+    (factor′ .ensures .0, n .0, n .1)
 
 products-products-requires : (t : ℕ) → products-lts.Need-products-requires (products-calls t) (products-at t) products.Post
 products-products-requires t c κs =
-    let n = chains.rest-needs times (times-step t (c .before .before .before .before .before .before .before .before)) (c .before .before .before .before .before .factor .ensures .1) (c .before .before .put .ensures .0 .1, c .before .before .put .ensures .1) in
-    (n .0, (lent-on (c .before .before .before .before .before .before .before .before .before .before .before .before .before .before .pre .1 .0) (c .before .before .put .ensures .0 .0), n .1))
+    let s = c .before .before .before .before .before .before .before .before .before .before .before .before .before .before in
+    let factor′ = c .before .before .before .before .before .factor in
+    let put′ = c .before .before .put in
+    let n = chains.rest-needs times (times-step t (c .before .before .before .before .before .before .before .before))
+    (factor′ .ensures .1) (put′ .ensures .0 .1, put′ .ensures .1) in
+    (n .0, (lent-on (s .pre .1 .0) (put′ .ensures .0 .0), n .1))
 
 products-returns : (t : ℕ) → products-lts.Need-returns (products-calls t) (products-at t) products.Post
 products-returns t c =
-    (c .products .ensures .0, chains.rest-path times (times-step t (c .before .before .before .before .before .before .before .before .before)) (c .before .before .before .before .before .before .factor .ensures .1) (c .before .before .before .put .ensures .0 .1, c .before .before .before .put .ensures .1) (c .products .ensures .1))
+    let factor′ = c .before .before .before .before .before .before .factor in
+    let put′ = c .before .before .before .put in
+    let products′ = c .products in (
+      products′ .ensures .0,
+      chains.rest-path times
+          (times-step t (c .before .before .before .before .before .before .before .before .before)) (factor′ .ensures .1)
+          (put′ .ensures .0 .1, put′ .ensures .1) (products′ .ensures .1),
+    )
 
 products-returns-2 : (t : ℕ) → products-lts.Need-returns-2 (products-calls t) (products-at t) products.Post
 products-returns-2 t c =
-    (c .before .before .before .pre .1 .0 .five, chains.rest-end times (c .before .before .before .pre .1 .1) (ne-eqb _ _ (λ h. c .if1 .left (c .before .next .ensures ∙ h))))
+    let s = c .before .before .before in
+    let next′ = c .before .next in
+    let if1′ = c .if1 in
+    (s .pre .1 .0 .five, chains.rest-end times (s .pre .1 .1) (ne-eqb _ _ (λ h. if1′ .left (next′ .ensures ∙ h))))
 
 sum-product-requires : (t : ℕ) → sum-lts.Need-product-requires (sum-calls t) (sum-at t) sum.Post
 sum-product-requires t c κs =
-    let n = chains.first-needs plus (c .before .before .pre .1 .1) (c .before .before .pre .0) in (n .0, (c .before .before .pre .1 .0, n .1))
+    let s = c .before .before in
+    let n = chains.first-needs plus (s .pre .1 .1) (s .pre .0) in (n .0, (s .pre .1 .0, n .1))
 
 sum-sums-requires : (t : ℕ) → sum-lts.Need-sums-requires (sum-calls t) (sum-at t) sum.Post
 sum-sums-requires t c κs =
-    let n = chains.after-first plus (c .before .before .before .before .before .pre .1 .1) (c .before .before .before .before .before .pre .0) (c .before .before .product .ensures .1) in (n .0, (lent-on (c .before .before .before .before .before .pre .1 .0) (c .before .before .product .ensures .0), n .1))
+    let s = c .before .before .before .before .before in
+    let product′ = c .before .before .product in
+    let n = chains.after-first plus (s .pre .1 .1) (s .pre .0) (product′ .ensures .1) in
+    (n .0, (lent-on (s .pre .1 .0) (product′ .ensures .0), n .1))
 
 sum-returns : (t : ℕ) → sum-lts.Need-returns (sum-calls t) (sum-at t) sum.Post
 sum-returns t c =
-    (c .sums .ensures .0, chains.whole-path plus (c .before .before .before .before .before .before .pre .1 .1) (c .before .before .before .product .ensures .1) (c .sums .ensures .1))
+    let s = c .before .before .before .before .before .before in
+    let product′ = c .before .before .before .product in
+    let sums′ = c .sums in
+    (sums′ .ensures .0, chains.whole-path plus (s .pre .1 .1) (product′ .ensures .1) (sums′ .ensures .1))
 
 sums-add-move-to : (t : ℕ) → sums-lts.Need-add-move-to (sums-calls t) (sums-at t) sums.Post
 unfolding markOf
@@ -411,28 +582,50 @@ Sums-step t s b x = paths.Step (take (s .args .bytes) (s .args .text .now)) (s .
 
 plus-step : (t : ℕ) (c : sums-lts.After-move-to (sums-calls t) (sums-at t) sums.Post) → Sums-step t (c .before .before .before .before .before .before) 43 (markOf (c .move-to .last .0))
 unfolding markOf
-plus-step t c = paths.step (c .before .before .before .before .before .before .pre .0, c .before .before .before .before .before .before .pre .1 .1) (sym (c .before .before .before .before .next .ensures) ∙ c .before .before .before .if1 .taken) (omega arith) (c .move-to .ensures .1)
+plus-step t c =
+    let s = c .before .before .before .before .before .before in
+    let next′ = c .before .before .before .before .next in
+    let if1′ = c .before .before .before .if1 in
+    let move-to′ = c .move-to in
+    paths.step (s .pre .0, s .pre .1 .1) (sym (next′ .ensures) ∙ if1′ .taken) (omega arith) (move-to′ .ensures .1)
 
 sums-product-requires : (t : ℕ) → sums-lts.Need-product-requires (sums-calls t) (sums-at t) sums.Post
 sums-product-requires t c κs =
-    let n = chains.operand-needs plus (plus-step t (c .before .before)) in (n .0, (lent-on (c .before .before .before .before .before .before .before .before .pre .1 .0) (c .before .before .move-to .ensures .0), n .1))
+    let s = c .before .before .before .before .before .before .before .before in
+    let move-to′ = c .before .before .move-to in
+    let n = chains.operand-needs plus (plus-step t (c .before .before)) in (n .0, (lent-on (s .pre .1 .0) (move-to′ .ensures .0), n .1))
 
 sums-put-requires : (t : ℕ) → sums-lts.Need-put-requires (sums-calls t) (sums-at t) sums.Post
 sums-put-requires t c κs =
-    let n = chains.operator-needs plus (plus-step t (c .before .before .before .before .before)) (c .before .before .product .ensures .1) in (c .before .before .product .ensures .0, n .0, n .1)
+    let product′ = c .before .before .product in
+    let n = chains.operator-needs plus (plus-step t (c .before .before .before .before .before)) (product′ .ensures .1) in
+    (product′ .ensures .0, n .0, n .1)
 
 sums-sums-requires : (t : ℕ) → sums-lts.Need-sums-requires (sums-calls t) (sums-at t) sums.Post
 sums-sums-requires t c κs =
-    let n = chains.rest-needs plus (plus-step t (c .before .before .before .before .before .before .before .before)) (c .before .before .before .before .before .product .ensures .1) (c .before .before .put .ensures .0 .1, c .before .before .put .ensures .1) in
-    (n .0, (lent-on (c .before .before .before .before .before .before .before .before .before .before .before .before .before .before .pre .1 .0) (c .before .before .put .ensures .0 .0), n .1))
+    let s = c .before .before .before .before .before .before .before .before .before .before .before .before .before .before in
+    let product′ = c .before .before .before .before .before .product in
+    let put′ = c .before .before .put in
+    let n = chains.rest-needs plus (plus-step t (c .before .before .before .before .before .before .before .before))
+    (product′ .ensures .1) (put′ .ensures .0 .1, put′ .ensures .1) in
+    (n .0, (lent-on (s .pre .1 .0) (put′ .ensures .0 .0), n .1))
 
 sums-returns : (t : ℕ) → sums-lts.Need-returns (sums-calls t) (sums-at t) sums.Post
 sums-returns t c =
-    (c .sums .ensures .0, chains.rest-path plus (plus-step t (c .before .before .before .before .before .before .before .before .before)) (c .before .before .before .before .before .before .product .ensures .1) (c .before .before .before .put .ensures .0 .1, c .before .before .before .put .ensures .1) (c .sums .ensures .1))
+    let product′ = c .before .before .before .before .before .before .product in
+    let put′ = c .before .before .before .put in
+    let sums′ = c .sums in (
+      sums′ .ensures .0,
+      chains.rest-path plus (plus-step t (c .before .before .before .before .before .before .before .before .before))
+          (product′ .ensures .1) (put′ .ensures .0 .1, put′ .ensures .1) (sums′ .ensures .1),
+    )
 
 sums-returns-2 : (t : ℕ) → sums-lts.Need-returns-2 (sums-calls t) (sums-at t) sums.Post
 sums-returns-2 t c =
-    (c .before .before .before .pre .1 .0 .five, chains.rest-end plus (c .before .before .before .pre .1 .1) (ne-eqb _ _ (λ h. c .if1 .left (c .before .next .ensures ∙ h))))
+    let s = c .before .before .before in
+    let next′ = c .before .next in
+    let if1′ = c .if1 in
+    (s .pre .1 .0 .five, chains.rest-end plus (s .pre .1 .1) (ne-eqb _ _ (λ h. if1′ .left (next′ .ensures ∙ h))))
 
 timer-expect-requires : (t : ℕ) → timer-lts.Need-expect-requires (timer-calls t) (timer-at t) timer.Post
 timer-expect-requires t c κs = (c .before .pre .1 .0 .0, omega arith)
@@ -440,60 +633,94 @@ timer-expect-requires t c κs = (c .before .pre .1 .0 .0, omega arith)
 timer-pass-length-requires : (t : ℕ) → timer-lts.Need-pass-length-requires (timer-calls t) (timer-at t) timer.Post
 timer-pass-length-requires t c κs =
     let s = c .before .before .before .before in
-    let o = paths.opened (s .args .deep) (s .pre .1 .0 .1) (c .before .before .expect .ensures .1) in
-    (lent-on (c .before .before .before .before .pre .1 .0 .0) (c .before .before .expect .ensures .0), omega (arith, o .within, text-long (s .pre .1 .0 .0)))
+    let expect′ = c .before .before .expect in
+    let o = paths.opened (s .args .deep) (s .pre .1 .0 .1) (expect′ .ensures .1) in
+    (lent-on (s .pre .1 .0 .0) (expect′ .ensures .0), omega (arith, o .within, text-long (s .pre .1 .0 .0)))
 
 timer-ticks-requires : (t : ℕ) → timer-lts.Need-ticks-requires (timer-calls t) (timer-at t) timer.Post
 unfolding markOf
 timer-ticks-requires t c κs =
     let s = c .before .before .before .before .before .before in
-    let o = paths.opened (s .args .deep) (s .pre .1 .0 .1) (c .before .before .before .before .expect .ensures .1) in
-    let p = passed (take (s .args .bytes) (s .args .text .now)) (markOf (c .before .before .before .before .expect .last .1 .1 .0)) (o .within) in
-    let a = ap (λ (j : Mark). j .at) (c .before .pass-length .ensures .1) in
+    let expect′ = c .before .before .before .before .expect in
+    let pass-length′ = c .before .pass-length in
+    let o = paths.opened (s .args .deep) (s .pre .1 .0 .1) (expect′ .ensures .1) in
+    let p = passed (take (s .args .bytes) (s .args .text .now)) (markOf (expect′ .last .1 .1 .0)) (o .within) in
+    let a = ap (λ (j : Mark). j .at) (pass-length′ .ensures .1) in
     (s .pre .1 .0 .0 .whole, omega (arith, p .on, a), omega (arith, p .within, a, text-long (s .pre .1 .0 .0), s .pre .1 .0 .0 .first))
 
 timer-expect-requires-2 : (t : ℕ) → timer-lts.Need-expect-requires-2 (timer-calls t) (timer-at t) timer.Post
-timer-expect-requires-2 t c κs = (lent-on (c .before .before .before .before .before .before .before .before .pre .1 .0 .0) (c .before .before .before .pass-length .ensures .0), omega arith)
+timer-expect-requires-2 t c κs =
+    let s = c .before .before .before .before .before .before .before .before in
+    let pass-length′ = c .before .before .before .pass-length in
+    (lent-on (s .pre .1 .0 .0) (pass-length′ .ensures .0), omega arith)
 
 timer-add-sum : (t : ℕ) → timer-lts.Need-add-sum (timer-calls t) (timer-at t) timer.Post
 timer-add-sum t c =
-    let g = c .before .before .before .before .before .before .before .before .before .before .before .pre .1 .0 .1 in omega (arith, g .opened, g .within, g .short)
+    let s = c .before .before .before .before .before .before .before .before .before .before .before in
+    let g = s .pre .1 .0 .1 in omega (arith, g .opened, g .within, g .short)
 
 timer-sum-requires : (t : ℕ) → timer-lts.Need-sum-requires (timer-calls t) (timer-at t) timer.Post
 timer-sum-requires t c κs =
     let s = c .before .before .before .before .before .before .before .before .before .before .before in
+    let expect′ = c .before .before .before .before .before .before .before .before .before .expect in
+    let pass-length′ = c .before .before .before .before .before .before .pass-length in
+    let expect2′ = c .before .before .expect2 in
     let g = s .pre .1 .0 .1 in
-    let n = inner-needs (s .args .deep) g (paths.timer-parted (s .args .deep) g (c .before .before .before .before .before .before .before .before .before .expect .ensures .1) (c .before .before .before .before .before .before .pass-length .ensures .1) (c .before .before .expect2 .ensures .1)) (s .pre .0) in
-    (n .0, (lent-on (c .before .before .before .before .before .before .before .before .before .before .before .pre .1 .0 .0) (c .before .before .expect2 .ensures .0), n .1))
+    let n = inner-needs (s .args .deep) g
+    (paths.timer-parted (s .args .deep) g (expect′ .ensures .1) (pass-length′ .ensures .1) (expect2′ .ensures .1)) (s .pre .0) in
+    (n .0, (lent-on (s .pre .1 .0 .0) (expect2′ .ensures .0), n .1))
 
 timer-expect-requires-3 : (t : ℕ) → timer-lts.Need-expect-requires-3 (timer-calls t) (timer-at t) timer.Post
-timer-expect-requires-3 t c κs = (lent-on (c .before .before .before .before .before .before .before .before .before .before .before .before .before .pre .1 .0 .0) (c .before .sum .ensures .0), omega arith)
+timer-expect-requires-3 t c κs =
+    let s = c .before .before .before .before .before .before .before .before .before .before .before .before .before in
+    let sum′ = c .before .sum in
+    (lent-on (s .pre .1 .0 .0) (sum′ .ensures .0), omega arith)
 
 timer-mul-put : (t : ℕ) → timer-lts.Need-mul-put (timer-calls t) (timer-at t) timer.Post
-timer-mul-put t c = omega (arith, capped-most _ _ (c .before .before .before .before .before .before .before .before .before .ticks .ensures))
+timer-mul-put t c =
+    let ticks′ = c .before .before .before .before .before .before .before .before .before .ticks in
+    omega (arith, capped-most _ _ (ticks′ .ensures))
 
 timer-add-put : (t : ℕ) → timer-lts.Need-add-put (timer-calls t) (timer-at t) timer.Post
-timer-add-put t c = omega (arith, capped-most _ _ (c .before .before .before .before .before .before .before .before .before .ticks .ensures), c .before .before .before .before .before .before .before .before .before .before .before .before .before .before .before .before .pre .1 .1)
+timer-add-put t c =
+    let s = c .before .before .before .before .before .before .before .before .before .before .before .before .before .before .before .before in
+    let ticks′ = c .before .before .before .before .before .before .before .before .before .ticks in
+    omega (arith, capped-most _ _ (ticks′ .ensures), s .pre .1 .1)
 
 timer-put-requires : (t : ℕ) → timer-lts.Need-put-requires (timer-calls t) (timer-at t) timer.Post
 timer-put-requires t c κs =
     let s = c .before .before .before .before .before .before .before .before .before .before .before .before .before .before .before .before in
-    let n = paths.timer-needs (s .args .deep) (s .pre .1 .0 .1) (c .before .before .before .before .before .before .before .before .before .before .before .before .before .before .expect .ensures .1) (c .before .before .before .before .before .before .before .before .before .before .before .pass-length .ensures .1) (c .before .before .before .before .before .before .before .expect2 .ensures .1) (c .before .before .before .before .sum .ensures .1) (c .before .before .expect3 .ensures .1) in
-    (c .before .before .expect3 .ensures .0, n .0, n .1)
+    let expect′ = c .before .before .before .before .before .before .before .before .before .before .before .before .before .before .expect in
+    let pass-length′ = c .before .before .before .before .before .before .before .before .before .before .before .pass-length in
+    let expect2′ = c .before .before .before .before .before .before .before .expect2 in
+    let sum′ = c .before .before .before .before .sum in
+    let expect3′ = c .before .before .expect3 in
+    let n = paths.timer-needs (s .args .deep) (s .pre .1 .0 .1) (expect′ .ensures .1) (pass-length′ .ensures .1) (expect2′ .ensures .1)
+    (sum′ .ensures .1) (expect3′ .ensures .1) in
+    (expect3′ .ensures .0, n .0, n .1)
 
 timer-returns : (t : ℕ) → timer-lts.Need-returns (timer-calls t) (timer-at t) timer.Post
 unfolding markOf
 timer-returns t c =
     let s = c .before .before .before .before .before .before .before .before .before .before .before .before .before .before .before .before .before in
+    let expect′ = c .before .before .before .before .before .before .before .before .before .before .before .before .before .before .before .expect in
+    let pass-length′ = c .before .before .before .before .before .before .before .before .before .before .before .before .pass-length in
+    let ticks′ = c .before .before .before .before .before .before .before .before .before .before .ticks in
+    let expect2′ = c .before .before .before .before .before .before .before .before .expect2 in
+    let sum′ = c .before .before .before .before .before .sum in
+    let expect3′ = c .before .before .before .expect3 in
+    let put′ = c .put in
     let a = s .args in
     let g = s .pre .1 .0 .1 in
-    let o = paths.opened (a .deep) g (c .before .before .before .before .before .before .before .before .before .before .before .before .before .before .before .expect .ensures .1) in
-    let p = passed (take (a .bytes) (a .text .now)) (markOf (c .before .before .before .before .before .before .before .before .before .before .before .before .before .before .before .expect .last .1 .1 .0)) (o .within) in
-    let q = ap (λ (j : Mark). j .at) (c .before .before .before .before .before .before .before .before .before .before .before .before .pass-length .ensures .1) in
-    let v = value-front (a .text .now) (a .bytes) (markOf (c .before .before .before .before .before .before .before .before .before .before .before .before .before .before .before .expect .last .1 .1 .0) .at) (markOf (c .before .before .before .before .before .before .before .before .before .before .before .before .pass-length .last .1 .1 .0) .at) (omega (arith, p .on, q)) (omega (arith, p .within, q, text-long (s .pre .1 .0 .0))) in (
-      c .put .ensures .0 .0,
-      paths.timer-path (a .deep) g (c .before .before .before .before .before .before .before .before .before .before .before .before .before .before .before .expect .ensures .1) (c .before .before .before .before .before .before .before .before .before .before .before .before .pass-length .ensures .1) (c .before .before .before .before .before .before .before .before .expect2 .ensures .1) (c .before .before .before .before .before .sum .ensures .1)
-          (c .before .before .before .expect3 .ensures .1) (a .part) _ (c .before .before .before .before .before .before .before .before .before .before .ticks .ensures ∙ ap capped (sym v)) (c .put .ensures .1) (c .put .ensures .0 .1),
+    let o = paths.opened (a .deep) g (expect′ .ensures .1) in
+    let p = passed (take (a .bytes) (a .text .now)) (markOf (expect′ .last .1 .1 .0)) (o .within) in
+    let q = ap (λ (j : Mark). j .at) (pass-length′ .ensures .1) in
+    let v = value-front (a .text .now) (a .bytes) (markOf (expect′ .last .1 .1 .0) .at) (markOf (pass-length′ .last .1 .1 .0) .at)
+    (omega (arith, p .on, q)) (omega (arith, p .within, q, text-long (s .pre .1 .0 .0))) in (
+      put′ .ensures .0 .0,
+      paths.timer-path (a .deep) g (expect′ .ensures .1) (pass-length′ .ensures .1) (expect2′ .ensures .1)
+          (sum′ .ensures .1)
+          (expect3′ .ensures .1) (a .part) _ (ticks′ .ensures ∙ ap capped (sym v)) (put′ .ensures .1) (put′ .ensures .0 .1),
     )
 
 pub +factor+latch+product+products+sum+sums+timer-spec : {M : Type 1} → statement M

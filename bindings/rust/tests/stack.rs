@@ -1,0 +1,40 @@
+// The formulas that go deepest, through the safe calls, in threads of STACK_BYTES bytes of stack.
+use rascrunel::{Checker, Fault, Formula, Sheet, STACK_BYTES};
+use std::thread;
+
+// What opens a level, what stands in the innermost, and what closes a level.
+const SHAPES: [(&str, &str, &str); 12] = [
+    ("(", "a", ")"),
+    ("!", "a", ""),
+    ("(!", "a", ")"),
+    ("SR(", "a", ",a)"),
+    ("SR(a,", "a", ")"),
+    ("TON(0,", "a", ")"),
+    ("a+", "a", ""),
+    ("a.", "a", ""),
+    ("(a+", "a", ")"),
+    ("(a.", "a", ")"),
+    ("TON(0,a+", "a", ")"),
+    ("SR(a,a.", "a", ")"),
+];
+
+fn refused(text: String, fault: Fault) {
+    let sheet = Sheet::begin().unwrap().append("a", &[0, 23, 36]).unwrap();
+    let calls = move || {
+        let (mut checker, formula, up) = (Checker::new(), Formula(text), Formula::from("1"));
+        assert_eq!(checker.evaluate(&sheet, &formula), Err(fault));
+        assert_eq!(checker.claim(&sheet, &formula, &up), Err(fault));
+        assert_eq!(checker.claim(&sheet, &up, &formula), Err(fault));
+    };
+    thread::Builder::new().stack_size(STACK_BYTES).spawn(calls).unwrap().join().unwrap();
+}
+
+#[test]
+fn deepest_formulas() {
+    for (open, inner, close) in SHAPES {
+        refused(open.repeat(1024 / open.len()), Fault::Grammar);
+        let levels = 1023 / (open.len() + close.len());
+        refused(open.repeat(levels) + inner + &close.repeat(levels), Fault::TooComplex);
+    }
+    refused("(".repeat(1025), Fault::FormulaLength);
+}
