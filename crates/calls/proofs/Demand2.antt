@@ -68,7 +68,8 @@ part-accepted s l h e =
         go false r = ltb-false M (dateOf (getD l i 0)) r
 
 -- a clear formula's words are the one normal list of its signal
-pub clear-list : (sheet formula : List ℕ) → Clear sheet formula → (t : Tree) (d : ℕ) → Writes formula t d → TheList (signalOn sheet t) (wordsOn sheet formula)
+pub clear-list : (sheet formula : List ℕ) → Clear sheet formula → (t : Tree) (d : ℕ) → Writes formula t d
+    → TheList (signalOn sheet t) (wordsOn sheet formula)
 unfolding wordsOn workingFault
 clear-list sheet formula c t d w =
     rw (tree-of formula t d w)
@@ -101,7 +102,8 @@ pub words-given : (E : Engine) (sheet formula : List ℕ) (work : ℕ) (old word
 words-given E sheet formula work old words h = rw (h .count, h .output) (take-append-seam words (drop (length words) old))
 
 -- the fault that an answer shows is the defined one
-pub shown : (sheet formula : List ℕ) (work : ℕ) (old : List ℕ) → faultIn (callAnswer sheet formula work old) ≡ callFault sheet formula work (length old)
+pub shown : (sheet formula : List ℕ) (work : ℕ) (old : List ℕ)
+    → faultIn (callAnswer sheet formula work old) ≡ callFault sheet formula work (length old)
 unfolding callAnswer
 shown sheet formula work old = fault-shown (callFault sheet formula work (length old)) (wordsOn sheet formula)
 
@@ -125,7 +127,8 @@ gives sheet formula work old e =
     }
 
 -- a verdict of two trees is that of the implication of their signals
-pub judged-as : (sheet : List ℕ) → sheetFault sheet ≡ 0 → (f g : Tree) → JudgedAs (signalOn sheet f) (signalOn sheet g) (claimVerdict sheet f g)
+pub judged-as : (sheet : List ℕ) → sheetFault sheet ≡ 0 → (f g : Tree)
+    → JudgedAs (signalOn sheet f) (signalOn sheet g) (claimVerdict sheet f g)
 unfolding claimVerdict
 judged-as sheet ok f g =
     let n = max (settlingDate sheet f) (settlingDate sheet g) in
