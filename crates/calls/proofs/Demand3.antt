@@ -1,9 +1,9 @@
 -- The defined calls meet demand 3, and so does every engine that agrees with them where formulas are answered.
-use Prim.Native.Nat.{ℕ, _≤_, _<_}
+use Prim.Native.Nat.{ℕ}
 use native.Mathlib.Omega.{arith}
 use mathlib.Core.Path.{_≡_, refl, sym, _∙_, ap}
 use mathlib.Core.Bool.{Bool, true, false}
-use mathlib.Core.Logic.{_⊎_, inl, inr, _↔_}
+use mathlib.Core.Logic.{_⊎_, inl, inr}
 use mathlib.Core.List.{List}
 use lib.Dec.{ltb}
 use lib.ListN.{length}
@@ -14,7 +14,7 @@ use Rattle.signals.specs.Settled.{Same}
 use Rattle.signals.specs.Answers.{faultIn, countIn}
 use Rattle.signals.specs.Implication.{failsIn, faultOfVerdict}
 use Rattle.signals.specs.declared.Verdict.{Verdict}
-use Rattle.signals.specs.declared.Verdict.the-variants.{Holds, Refused}
+use Rattle.signals.specs.declared.Verdict.the-variants.{Holds}
 use Rattle.formulas.specs.Tree.{Tree}
 use Rattle.formulas.specs.Grammar.{Writes}
 use Rattle.formulas.specs.Formula.{formulaTree}
@@ -24,11 +24,11 @@ use Rattle.laws.proofs.Soundness.{same-signal}
 use Rattle.sheets.specs.Reading.{environmentOn}
 use Rattle.calls.specs.OnSheet.{signalOn}
 use Rattle.calls.specs.Calls.{neededWork, wordsOn, callFault, claimFault, claimVerdict, claimAnswer}
-use Rattle.calls.specs.Answered.{Answered, Enough}
+use Rattle.calls.specs.Answered.{Answered}
 use Rattle.calls.specs.NormalLists.{JudgedAs}
 use Rattle.calls.specs.Engine.{Engine, defined}
-use Rattle.calls.specs.Demand2.{Delivered, GivesTheList}
-use Rattle.calls.specs.Demand3.{Served, wordsGiven, SameWords, RefusedAs, SameVerdicts, Demand3}
+use Rattle.calls.specs.Demand2.{Delivered}
+use Rattle.calls.specs.Demand3.{Served, wordsGiven, RefusedAs, Demand3}
 use Rattle.calls.specs.OneEngine.{AgreesWhereAnswered}
 use Rattle.calls.proofs.ReadingFaults.{derived, text-fine}
 use Rattle.calls.proofs.NotRefused.{Clear, answered-clear, clear-short, clear-tight, no-fault, call-refused, enough-served, claim-fault-shown, given-claim, short-claim, not-refused}
@@ -105,9 +105,6 @@ module _ (E : Engine) (A : AgreesWhereAnswered E) where
       → countIn (E .answer sheet F work old) ≡ length (wordsOn sheet F)
   count sheet F a work old e = ap countIn (given sheet F a work old e .count)
 
-  served : (sheet F : List ℕ) → Answered sheet F → (work : ℕ) (old : List ℕ) → Enough sheet F work old → Served E sheet F work old
-  served sheet F a work old n = ap faultIn (A .answer sheet F a work old) ∙ shown sheet F work old ∙ enough-served sheet F a work old n
-
   refused : (sheet F : List ℕ) → Answered sheet F → (work : ℕ) (old : List ℕ) (n : ℕ) → callFault sheet F work (length old) ≡ n
       → (¬ (n ≡ 0))
       → RefusedAs E sheet F work old n
@@ -117,92 +114,56 @@ module _ (E : Engine) (A : AgreesWhereAnswered E) where
         output = A .output sheet F a work old ∙ output-kept sheet F work old (λ z. h (sym e ∙ z));
       }
 
-  short-work : (sheet F : List ℕ) → Answered sheet F → (work : ℕ) (old : List ℕ) → work < neededWork sheet → RefusedAs E sheet F work old 18
-  short-work sheet F a work old l =
-      refused sheet F a work old 18 (clear-short sheet F (answered-clear sheet F a) work (length old) l) (λ z. omega (arith, z))
-
-  short-output : (sheet F : List ℕ) → Answered sheet F → (work : ℕ) (old : List ℕ) → neededWork sheet ≤ work
-      → length old < length (wordsOn sheet F) → RefusedAs E sheet F work old 7
-  short-output sheet F a work old l m =
-      refused sheet F a work old 7 (clear-tight sheet F (answered-clear sheet F a) work (length old) l m) (λ z. omega (arith, z))
-
-  rewritten : (F G : List ℕ) (f g : Tree) (d e : ℕ) → Writes F f d → Writes G g e → Rewrites f g
-      → (sheet : List ℕ) → Answered sheet F → Answered sheet G → SameWords E sheet F G
-  rewritten F G f g d e w v r sheet a b =
-      let q = rewritten-words F G f g d e w v r sheet a b in
-      record {
-        count = λ workF workG oldF oldG x y. count sheet F a workF oldF x ∙ ap length q ∙ sym (count sheet G b workG oldG y);
-        words = λ workF workG oldF oldG x y. words sheet F a workF oldF x ∙ q ∙ sym (words sheet G b workG oldG y);
-      }
-
-  third : (F G H : List ℕ) (f g : Tree) (d e : ℕ) → Writes F f d → Writes G g e → Rewrites f g
-      → (sheet : List ℕ) → Answered sheet F → Answered sheet G → Answered sheet H → SameVerdicts E sheet F G H
-  third F G H f g d e w v r sheet a b c =
-      let s = one-signal F G f g d e w v r sheet in
-      record {
-        asFirst = λ work. A .claim sheet H F c a work ∙ one-answer sheet H F H G c a c b refl s work ∙ sym (A .claim sheet H G c b work);
-        asSecond = λ work. A .claim sheet F H a c work ∙ one-answer sheet F H G H a c b c s refl work ∙ sym (A .claim sheet G H b c work);
-      }
-
   -- the fault that a claim of two answered formulas shows
   claim-shows : (sheet F G : List ℕ) → Answered sheet F → Answered sheet G → (work : ℕ)
       → faultOfVerdict (E .claim sheet F G work) ≡ claimFault sheet F G work
   claim-shows sheet F G a b work = ap faultOfVerdict (A .claim sheet F G a b work) ∙ claim-fault-shown sheet F G work
 
-  claims : (sheet F G : List ℕ) (f g : Tree) (d e : ℕ) → Writes F f d → Writes G g e → Answered sheet F → Answered sheet G
-      → (work : ℕ) → faultOfVerdict (E .claim sheet F G work) ≡ 0
-      → JudgedAs (signalOn sheet f) (signalOn sheet g) (E .claim sheet F G work)
-  claims sheet F G f g d e w v a b work z =
-      rw (A .claim sheet F G a b work) (claim-judged sheet F G work (sym (claim-shows sheet F G a b work) ∙ z) f g d e w v)
-
-  claim-served : (sheet F G : List ℕ) → Answered sheet F → Answered sheet G → (work : ℕ) → neededWork sheet ≤ work
-      → faultOfVerdict (E .claim sheet F G work) ≡ 0
-  claim-served sheet F G a b work l = ap faultOfVerdict (A .claim sheet F G a b work) ∙ not-refused .verdicts sheet F G a b work l
-
-  claim-short-work : (sheet F G : List ℕ) → Answered sheet F → Answered sheet G → (work : ℕ) → work < neededWork sheet
-      → E .claim sheet F G work ≡ Refused 18
-  claim-short-work sheet F G a b work l = A .claim sheet F G a b work ∙ short-claim sheet F G a b work l
-
-  lists : (sheet F : List ℕ) → Answered sheet F → (work : ℕ) (old : List ℕ) → Served E sheet F work old → GivesTheList E sheet F work old
-  lists sheet F a work old e =
-      let c = answered-clear sheet F a in
-      let w = derived F (text-fine sheet F (c .text-ok)) in
-      record {
-        words = wordsOn sheet F;
-        delivered = given sheet F a work old e;
-        tree = w .0;
-        depth = w .1;
-        writes = w .2;
-        theList = clear-list sheet F c (w .0) (w .1) (w .2);
-      }
-
-  exactly : (sheetF sheetG F G : List ℕ) (f g : Tree) (d e : ℕ) → Writes F f d → Writes G g e
-      → Answered sheetF F → Answered sheetG G → (workF workG : ℕ) (oldF oldG : List ℕ)
-      → Served E sheetF F workF oldF → Served E sheetG G workG oldG
-      → (wordsGiven E sheetF F workF oldF ≡ wordsGiven E sheetG G workG oldG) ↔ Same (signalOn sheetF f) (signalOn sheetG g)
-  exactly sheetF sheetG F G f g d e w v a b workF workG oldF oldG x y =
-      let p = words sheetF F a workF oldF x in
-      let q = words sheetG G b workG oldG y in
-      let m = answered-clear sheetF F a in
-      let n = answered-clear sheetG G b in (
-        λ z. same-of-words sheetF sheetG F G m n f g d e w v (sym p ∙ z ∙ q),
-        λ s. p ∙ words-of-same sheetF sheetG F G m n f g d e w v s ∙ sym q,
-      )
-
   pub meets3 : Demand3 E
   meets3 =
       record {
-        served = served;
-        answered = A .noOther;
-        shortWork = short-work;
-        shortOutput = short-output;
-        rewritten = rewritten;
-        third = third;
-        claims = claims;
-        claimServed = claim-served;
-        claimShortWork = claim-short-work;
-        lists = lists;
-        exactly = exactly;
+        served = λ sheet F a work old n.
+            ap faultIn (A .answer sheet F a work old) ∙ shown sheet F work old ∙ enough-served sheet F a work old n;
+        answered = λ sheet F work old e. A .noOther sheet F work old e;
+        shortWork = λ sheet F a work old l.
+            refused sheet F a work old 18 (clear-short sheet F (answered-clear sheet F a) work (length old) l) (λ z. omega (arith, z));
+        shortOutput = λ sheet F a work old l m.
+            refused sheet F a work old 7 (clear-tight sheet F (answered-clear sheet F a) work (length old) l m) (λ z. omega (arith, z));
+        rewritten = λ F G f g d e w v r sheet a b.
+            let q = rewritten-words F G f g d e w v r sheet a b in
+            record {
+              count = λ workF workG oldF oldG x y. count sheet F a workF oldF x ∙ ap length q ∙ sym (count sheet G b workG oldG y);
+              words = λ workF workG oldF oldG x y. words sheet F a workF oldF x ∙ q ∙ sym (words sheet G b workG oldG y);
+            };
+        third = λ F G H f g d e w v r sheet a b c.
+            let s = one-signal F G f g d e w v r sheet in
+            record {
+              asFirst = λ work. A .claim sheet H F c a work ∙ one-answer sheet H F H G c a c b refl s work ∙ sym (A .claim sheet H G c b work);
+              asSecond = λ work. A .claim sheet F H a c work ∙ one-answer sheet F H G H a c b c s refl work ∙ sym (A .claim sheet G H b c work);
+            };
+        claims = λ sheet F G f g d e w v a b work z.
+            rw (A .claim sheet F G a b work) (claim-judged sheet F G work (sym (claim-shows sheet F G a b work) ∙ z) f g d e w v);
+        claimServed = λ sheet F G a b work l. ap faultOfVerdict (A .claim sheet F G a b work) ∙ not-refused .verdicts sheet F G a b work l;
+        claimShortWork = λ sheet F G a b work l. A .claim sheet F G a b work ∙ short-claim sheet F G a b work l;
+        lists = λ sheet F a work old e.
+            let c = answered-clear sheet F a in
+            let w = derived F (text-fine sheet F (c .text-ok)) in
+            record {
+              words = wordsOn sheet F;
+              delivered = given sheet F a work old e;
+              tree = w .0;
+              depth = w .1;
+              writes = w .2;
+              theList = clear-list sheet F c (w .0) (w .1) (w .2);
+            };
+        exactly = λ sheetF sheetG F G f g d e w v a b workF workG oldF oldG x y.
+            let p = words sheetF F a workF oldF x in
+            let q = words sheetG G b workG oldG y in
+            let m = answered-clear sheetF F a in
+            let n = answered-clear sheetG G b in (
+              λ z. same-of-words sheetF sheetG F G m n f g d e w v (sym p ∙ z ∙ q),
+              λ s. p ∙ words-of-same sheetF sheetG F G m n f g d e w v s ∙ sym q,
+            );
       }
 
 pub demand3 : Demand3 defined

@@ -8,7 +8,6 @@ use mathlib.Core.List.{List, [], _∷_}
 use lib.Dec.{leb}
 use lib.ListN.{length}
 use borrow.Author.Tests.{leb-true, le-ltb}
-use Rattle.signals.specs.Moment.{M}
 use Rattle.signals.specs.Signal.{constant}
 use Rattle.signals.specs.Words.{dateOf, listFault, wordsOf, listOf}
 use Rattle.signals.proofs.Truth.{and-left, down-of, not-both}

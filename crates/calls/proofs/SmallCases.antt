@@ -6,7 +6,7 @@ use mathlib.Core.Bool.{true, cond}
 use mathlib.Core.List.{List, [], _∷_}
 use Rattle.signals.specs.Moment.{isGap, tick}
 use Rattle.signals.specs.Signal.{constant, NOT, refuted}
-use Rattle.signals.specs.Words.{dateOf, word, wordsOf, listOf}
+use Rattle.signals.specs.Words.{dateOf, wordsOf, listOf}
 use Rattle.signals.specs.Implication.{earliest, failsIn, verdictOf}
 use Rattle.signals.specs.declared.Verdict.the-variants.{FailsAfter}
 use Rattle.operations.specs.Calls.{changesAfterM}
