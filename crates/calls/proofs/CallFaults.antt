@@ -42,7 +42,8 @@ tree-parts sheet ok t = parts-fault sheet ok t (parts t)
 same-tree : (formula : List ℕ) (t u : Tree) (d e : ℕ) → Writes formula t d → Writes formula u e → u ≡ t
 same-tree formula t u d e w v = sym (tree-of formula u e v) ∙ tree-of formula t d w
 
-pub working-fault : (sheet formula : List ℕ) (later : ℕ → Type 0) (rest : ℕ) → sheetFault sheet ≡ 0 → (t : Tree) (d : ℕ) → Writes formula t d
+pub working-fault : (sheet formula : List ℕ) (later : ℕ → Type 0) (rest : ℕ) → sheetFault sheet ≡ 0 → (t : Tree) (d : ℕ)
+    → Writes formula t d
     → (workingFault sheet formula ≡ 0 → later rest) → WorkingChecks sheet formula later (firstOf (workingFault sheet formula) rest)
 unfolding workingFault
 working-fault sheet formula later rest ok t d w next = rw (tree-of formula t d w) (go (tree-parts sheet ok t))
@@ -69,7 +70,8 @@ sheet-fault : (sheet : List ℕ) (later : ℕ → Type 0) (rest : ℕ) → (shee
     → Check (sheetFault sheet) (SheetBreaks sheet) later (firstOf (sheetFault sheet) rest)
 sheet-fault sheet later rest next = go (zero-or-not (sheetFault sheet))
   where
-    go : (sheetFault sheet ≡ 0) ⊎ (¬ (sheetFault sheet ≡ 0)) → Check (sheetFault sheet) (SheetBreaks sheet) later (firstOf (sheetFault sheet) rest)
+    go : (sheetFault sheet ≡ 0) ⊎ (¬ (sheetFault sheet ≡ 0))
+        → Check (sheetFault sheet) (SheetBreaks sheet) later (firstOf (sheetFault sheet) rest)
     go (inl z) = inr (λ h. h z, rw (next-is (sheetFault sheet) rest z) (next z))
     go (inr s) = inl (s, first-some (sheetFault sheet) rest (sheetFault sheet) refl (omega (arith, s)))
 
@@ -147,7 +149,8 @@ AfterTexts sheet F G work = Check 18 (Breaks18 sheet work) (WorkingChecks sheet 
 abbrev afterTexts : List ℕ → List ℕ → List ℕ → ℕ → ℕ
 afterTexts sheet F G work = firstOf (workFault sheet work) (firstOf (workingFault sheet F) (workingFault sheet G))
 
-last-parts : (sheet G : List ℕ) → sheetFault sheet ≡ 0 → (t : Tree) (d : ℕ) → Writes G t d → WorkingChecks sheet G NoFault (workingFault sheet G)
+last-parts : (sheet G : List ℕ) → sheetFault sheet ≡ 0 → (t : Tree) (d : ℕ) → Writes G t d
+    → WorkingChecks sheet G NoFault (workingFault sheet G)
 last-parts sheet G ok t d w =
     subst (WorkingChecks sheet G NoFault) (first-with-none (workingFault sheet G)) (working-fault sheet G NoFault 0 ok t d w (λ y. refl))
 

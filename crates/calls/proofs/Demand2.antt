@@ -3,6 +3,7 @@ use Prim.Native.Nat.{ℕ, _≤_, _<_, max}
 use native.Mathlib.Omega.{arith}
 use mathlib.Core.Path.{_≡_, refl, sym, _∙_, ap}
 use mathlib.Core.Bool.{Bool, true, false, cond}
+use mathlib.Core.Logic.{_↔_}
 use mathlib.Core.List.{List, _++_}
 use lib.Dec.{ltb}
 use lib.ListN.{length, drop, getD}
@@ -25,6 +26,7 @@ use Rattle.formulas.proofs.Reading.{tree-of}
 use Rattle.sheets.specs.Bytes.{Bytes, Words}
 use Rattle.sheets.specs.Names.{among}
 use Rattle.sheets.specs.Reading.{sheetFault, signalsOn, names, listNamed, environmentOn, entry}
+use Rattle.sheets.specs.Sentences.{SheetFaulty}
 use Rattle.sheets.specs.Calls.{appendFault, appended}
 use Rattle.sheets.proofs.Steps.{same-refl}
 use Rattle.sheets.proofs.Named.{among-snoc, named-new}
@@ -68,7 +70,8 @@ part-accepted s l h e =
         go false r = ltb-false M (dateOf (getD l i 0)) r
 
 -- a clear formula's words are the one normal list of its signal
-pub clear-list : (sheet formula : List ℕ) → Clear sheet formula → (t : Tree) (d : ℕ) → Writes formula t d → TheList (signalOn sheet t) (wordsOn sheet formula)
+pub clear-list : (sheet formula : List ℕ) → Clear sheet formula → (t : Tree) (d : ℕ) → Writes formula t d
+    → TheList (signalOn sheet t) (wordsOn sheet formula)
 unfolding wordsOn workingFault
 clear-list sheet formula c t d w =
     rw (tree-of formula t d w)
@@ -76,15 +79,23 @@ clear-list sheet formula c t d w =
     (whole-none sheet t (rw (tree-of formula t d w) at (c .parts-ok))))
 
 -- a refused call keeps the output, one without a fault gives the words
+fault-keeps : (f : ℕ) (words old : List ℕ) → (¬ (f ≡ 0)) → outputOf f words old ≡ old
+unfolding outputOf
+fault-keeps f words old h = rw (ne-eqb f 0 h) refl
+
+none-gives : (f : ℕ) (words old : List ℕ) → f ≡ 0 → outputOf f words old ≡ words ++ drop (length words) old
+unfolding outputOf
+none-gives f words old e = rw (eq-eqb f 0 e) refl
+
 pub output-kept : (sheet formula : List ℕ) (work : ℕ) (old : List ℕ) → (¬ (callFault sheet formula work (length old) ≡ 0))
     → callOutput sheet formula work old ≡ old
-unfolding callOutput outputOf
-output-kept sheet formula work old e = rw (ne-eqb (callFault sheet formula work (length old)) 0 e) refl
+unfolding callOutput
+output-kept sheet formula work old h = fault-keeps (callFault sheet formula work (length old)) (wordsOn sheet formula) old h
 
 output-given : (sheet formula : List ℕ) (work : ℕ) (old : List ℕ) → callFault sheet formula work (length old) ≡ 0
     → callOutput sheet formula work old ≡ wordsOn sheet formula ++ drop (length (wordsOn sheet formula)) old
-unfolding callOutput outputOf
-output-given sheet formula work old e = rw (eq-eqb (callFault sheet formula work (length old)) 0 e) refl
+unfolding callOutput
+output-given sheet formula work old e = none-gives (callFault sheet formula work (length old)) (wordsOn sheet formula) old e
 
 pub delivered : (sheet formula : List ℕ) (work : ℕ) (old : List ℕ) → callFault sheet formula work (length old) ≡ 0
     → Delivered defined sheet formula work old (wordsOn sheet formula)
@@ -101,7 +112,8 @@ pub words-given : (E : Engine) (sheet formula : List ℕ) (work : ℕ) (old word
 words-given E sheet formula work old words h = rw (h .count, h .output) (take-append-seam words (drop (length words) old))
 
 -- the fault that an answer shows is the defined one
-pub shown : (sheet formula : List ℕ) (work : ℕ) (old : List ℕ) → faultIn (callAnswer sheet formula work old) ≡ callFault sheet formula work (length old)
+pub shown : (sheet formula : List ℕ) (work : ℕ) (old : List ℕ)
+    → faultIn (callAnswer sheet formula work old) ≡ callFault sheet formula work (length old)
 unfolding callAnswer
 shown sheet formula work old = fault-shown (callFault sheet formula work (length old)) (wordsOn sheet formula)
 
@@ -125,7 +137,8 @@ gives sheet formula work old e =
     }
 
 -- a verdict of two trees is that of the implication of their signals
-pub judged-as : (sheet : List ℕ) → sheetFault sheet ≡ 0 → (f g : Tree) → JudgedAs (signalOn sheet f) (signalOn sheet g) (claimVerdict sheet f g)
+pub judged-as : (sheet : List ℕ) → sheetFault sheet ≡ 0 → (f g : Tree)
+    → JudgedAs (signalOn sheet f) (signalOn sheet g) (claimVerdict sheet f g)
 unfolding claimFails
 judged-as sheet ok f g =
     let n = max (settlingDate sheet f) (settlingDate sheet g) in
@@ -188,6 +201,17 @@ append-back sheet name list room b k z work old l m =
     rw (s .1, among-snoc name (signalsOn sheet) (entry name list), a .new) (same-refl name) in
     name-back (appended sheet name list) name list q k (s .0) e work old l m
 
+-- 14 to 17 by their sentences
+sheet-faults : (sheet formula : List ℕ) (work : ℕ) (old : List ℕ) → Bytes sheet → (n : ℕ) → 14 ≤ n → n ≤ 17
+    → (faultIn (defined .answer sheet formula work old) ≡ n) ↔ SheetFaulty sheet n
+sheet-faults sheet formula work old b n l m =
+    call-sheet sheet formula work (length old) (faultIn (callAnswer sheet formula work old)) n (call-faults sheet formula work old) b l m
+
+claim-sheet-faults : (sheet F G : List ℕ) (work : ℕ) → Bytes sheet → (n : ℕ) → 14 ≤ n → n ≤ 17
+    → (faultOfVerdict (defined .claim sheet F G work) ≡ n) ↔ SheetFaulty sheet n
+claim-sheet-faults sheet F G work b n l m =
+    rw (claim-fault-shown sheet F G work) (claim-sheet sheet F G work (claimFault sheet F G work) n (claim-fault sheet F G work) b l m)
+
 reads-back : ReadsBack defined
 reads-back =
     record {
@@ -205,9 +229,7 @@ demand2 =
       claims = says;
       callFaults = λ sheet formula work old. call-faults sheet formula work old;
       claimFaults = λ sheet F G work. rw (claim-fault-shown sheet F G work) (claim-fault sheet F G work);
-      sheetFaults = λ sheet formula work old b n l m.
-          call-sheet sheet formula work (length old) (faultIn (callAnswer sheet formula work old)) n (call-faults sheet formula work old) b l m;
-      claimSheetFaults = λ sheet F G work b n l m.
-          rw (claim-fault-shown sheet F G work) (claim-sheet sheet F G work (claimFault sheet F G work) n (claim-fault sheet F G work) b l m);
+      sheetFaults = sheet-faults;
+      claimSheetFaults = claim-sheet-faults;
       refusedKeeps = λ sheet formula work old e. output-kept sheet formula work old (λ z. e (shown sheet formula work old ∙ z));
     }

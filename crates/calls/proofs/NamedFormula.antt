@@ -2,27 +2,26 @@
 use Prim.Native.Nat.{ℕ}
 use native.Mathlib.Omega.{arith}
 use mathlib.Core.Path.{_≡_, refl, _∙_, ap, subst}
-use mathlib.Core.Bool.{true, false, cond, _&&_, _||_}
+use mathlib.Core.Bool.{true, false, cond, _&&_}
 use mathlib.Core.Logic.{⊎-elim}
 use mathlib.Core.List.{List, [], _∷_}
 use lib.Dec.{leb}
 use lib.ListN.{length}
-use borrow.Author.Tests.{leb-true, le-leb, le-ltb}
-use Rattle.signals.specs.Moment.{M}
+use borrow.Author.Tests.{leb-true, le-ltb}
 use Rattle.signals.specs.Signal.{constant}
 use Rattle.signals.specs.Words.{dateOf, listFault, wordsOf, listOf}
-use Rattle.signals.proofs.Truth.{and-left, and-right, and-of, down-of, not-both}
+use Rattle.signals.proofs.Truth.{and-left, down-of, not-both}
 use Rattle.signals.proofs.Normal.{acceptedNormal, readBack}
 use Rattle.operations.specs.Calls.{changesAfterM}
 use Rattle.formulas.specs.Tree.{Tree, Leaf, leaf, unary, binary, down, up, name}
 use Rattle.formulas.specs.Code.{code}
-use Rattle.formulas.specs.Grammar.{Sum, Product, Factor, isLower, isDigit, isNameByte, allOf, isName}
+use Rattle.formulas.specs.Grammar.{Sum, Product, Factor, isName}
 use Rattle.formulas.specs.Formula.{formulaTree, formulaFault}
 use Rattle.formulas.specs.Exactness.{LengthIn}
 use Rattle.formulas.proofs.Reading.{tree-of, one-tree, faults-exact}
 use Rattle.laws.specs.Rewriting.{parts}
 use Rattle.sheets.specs.Bytes.{Bytes, Words}
-use Rattle.sheets.specs.Names.{letter, digit, lettersOrDigits, wellNamed, among}
+use Rattle.sheets.specs.Names.{letter, lettersOrDigits, wellNamed, among}
 use Rattle.sheets.specs.Reading.{sheetFault, signalsOn, names, listNamed, environmentOn}
 use Rattle.calls.specs.OnSheet.{settlingDate, exactOn, leafFound, namesFound}
 use Rattle.calls.specs.TreesOnSheets.{TreesOnSheets}
@@ -76,7 +75,8 @@ name-fault (b ∷ bs) e f =
     )
 
 -- the normal list of an accepted list's signal is that list
-name-exact : (sheet n : List ℕ) → listFault (listNamed n (signalsOn sheet)) ≡ 0 → exactOn sheet (leaf (name n)) ≡ listNamed n (signalsOn sheet)
+name-exact : (sheet n : List ℕ) → listFault (listNamed n (signalsOn sheet)) ≡ 0
+    → exactOn sheet (leaf (name n)) ≡ listNamed n (signalsOn sheet)
 unfolding exactOn settlingDate environmentOn
 name-exact sheet n a = readBack (listNamed n (signalsOn sheet)) (acceptedNormal (listNamed n (signalsOn sheet)) .0 a .0) .same
 
@@ -88,18 +88,21 @@ name-parts : (sheet n : List ℕ) → partFault (exactOn sheet (leaf (name n))) 
 unfolding partsFault parts
 name-parts sheet n e = first-with-none (partFault (exactOn sheet (leaf (name n)))) ∙ e
 
-text-clear : (sheet n : List ℕ) → formulaFault n ≡ 0 → formulaTree n ≡ leaf (name n) → among n (names (signalsOn sheet)) ≡ true → readingFault sheet n ≡ 0
+text-clear : (sheet n : List ℕ) → formulaFault n ≡ 0 → formulaTree n ≡ leaf (name n) → among n (names (signalsOn sheet)) ≡ true
+    → readingFault sheet n ≡ 0
 unfolding readingFault namesFound
 text-clear sheet n f t e = next-is (formulaFault n) (cond (namesFound sheet (formulaTree n)) 0 13) f ∙ rw (t, e) refl
 
 -- names and constants meet neither 5 nor 6
-name-fine : (sheet n : List ℕ) → Words (listNamed n (signalsOn sheet)) → sheetFault sheet ≡ 0 → among n (names (signalsOn sheet)) ≡ true → partFault (exactOn sheet (leaf (name n))) ≡ 0
+name-fine : (sheet n : List ℕ) → Words (listNamed n (signalsOn sheet)) → sheetFault sheet ≡ 0 → among n (names (signalsOn sheet)) ≡ true
+    → partFault (exactOn sheet (leaf (name n))) ≡ 0
 name-fine sheet n small ok e =
     let l = listNamed n (signalsOn sheet) in
     let a = named-sound n (signalsOn sheet) (sheet-sound sheet ok) e .1 in
     ap partFault (name-exact sheet n a) ∙ accepted-fine l a (not-late l small)
 
-leaf-fine : (sheet : List ℕ) → Bytes sheet → sheetFault sheet ≡ 0 → (l : Leaf) → leafFound sheet l ≡ true → partFault (exactOn sheet (leaf l)) ≡ 0
+leaf-fine : (sheet : List ℕ) → Bytes sheet → sheetFault sheet ≡ 0 → (l : Leaf) → leafFound sheet l ≡ true
+    → partFault (exactOn sheet (leaf l)) ≡ 0
 unfolding partFault changesAfterM dateOf exactOn settlingDate listOf wordsOf constant
 leaf-fine sheet small ok down e = refl
 leaf-fine sheet small ok up e = refl
@@ -113,7 +116,8 @@ pub record NameServed (sheet n : List ℕ) : Type 0 where
   pub clear : Clear sheet n
   pub same-words : wordsOn sheet n ≡ listNamed n (signalsOn sheet)
 
-pub name-served : (sheet n : List ℕ) → Words (listNamed n (signalsOn sheet)) → sheetFault sheet ≡ 0 → among n (names (signalsOn sheet)) ≡ true → NameServed sheet n
+pub name-served : (sheet n : List ℕ) → Words (listNamed n (signalsOn sheet)) → sheetFault sheet ≡ 0
+    → among n (names (signalsOn sheet)) ≡ true → NameServed sheet n
 unfolding workingFault wordsOn
 name-served sheet n small ok e =
     let l = listNamed n (signalsOn sheet) in

@@ -20,7 +20,7 @@ use Rattle.sheets.specs.Reading.{sheetFault}
 use Rattle.calls.specs.Calls.{neededWork, readingFault, workFault, workingFault, wordsOn, roomFault, callFault, callAnswer, claimFault, claimFails, claimVerdict, claimAnswer}
 use Rattle.calls.specs.Answered.{Answered, Enough}
 use Rattle.calls.specs.NotRefused.{NotRefused}
-use Rattle.calls.proofs.FirstFault.{passed}
+use Rattle.calls.proofs.FirstFault.{passed, first-some}
 use Rattle.signals.specs.Answers.{firstOf}
 use Rattle.signals.proofs.FirstFault.{both-none, first-with-none, next-is}
 
@@ -46,6 +46,10 @@ room-ok : (l : List ℕ) (room : ℕ) → length l ≤ room → roomFault l room
 unfolding roomFault
 room-ok l room h = rw (le-ltb room (length l) h) refl
 
+room-short : (l : List ℕ) (room : ℕ) → room < length l → roomFault l room ≡ 7
+unfolding roomFault
+room-short l room h = rw (lt-ltb room (length l) h) refl
+
 room-from : (l : List ℕ) (room : ℕ) → roomFault l room ≡ 0 → length l ≤ room
 unfolding roomFault
 room-from l room e = ltb-false room (length l) (passed (ltb room (length l)) 7 0 (omega arith) e .0)
@@ -65,15 +69,36 @@ call-clear sheet formula work room e =
       room-from (wordsOn sheet formula) room (d .1),
     )
 
-pub clear-call : (sheet formula : List ℕ) → Clear sheet formula → (work room : ℕ) → neededWork sheet ≤ work → length (wordsOn sheet formula) ≤ room
-    → callFault sheet formula work room ≡ 0
+-- a clear formula's call has no fault but the work area's and the room's
+clear-fault : (sheet formula : List ℕ) → Clear sheet formula → (work room : ℕ)
+    → callFault sheet formula work room ≡ firstOf (workFault sheet work) (roomFault (wordsOn sheet formula) room)
 unfolding callFault
-clear-call sheet formula c work room l m =
+clear-fault sheet formula c work room =
     next-is (sheetFault sheet) _ (c .sheet-ok)
     ∙ next-is (readingFault sheet formula) _ (c .text-ok)
+    ∙ ap (firstOf (workFault sheet work)) (next-is (workingFault sheet formula) _ (c .parts-ok))
+
+pub clear-call : (sheet formula : List ℕ) → Clear sheet formula → (work room : ℕ) → neededWork sheet ≤ work
+    → length (wordsOn sheet formula) ≤ room
+    → callFault sheet formula work room ≡ 0
+clear-call sheet formula c work room l m =
+    clear-fault sheet formula c work room
     ∙ next-is (workFault sheet work) _ (work-ok sheet work l)
-    ∙ next-is (workingFault sheet formula) _ (c .parts-ok)
     ∙ room-ok (wordsOn sheet formula) room m
+
+pub clear-short : (sheet formula : List ℕ) → Clear sheet formula → (work room : ℕ) → work < neededWork sheet
+    → callFault sheet formula work room ≡ 18
+clear-short sheet formula c work room l =
+    clear-fault sheet formula c work room
+    ∙ first-some (workFault sheet work) (roomFault (wordsOn sheet formula) room) 18 (work-short sheet work l) (omega arith)
+
+pub clear-tight : (sheet formula : List ℕ) → Clear sheet formula → (work room : ℕ) → neededWork sheet ≤ work
+    → room < length (wordsOn sheet formula)
+    → callFault sheet formula work room ≡ 7
+clear-tight sheet formula c work room l m =
+    clear-fault sheet formula c work room
+    ∙ next-is (workFault sheet work) _ (work-ok sheet work l)
+    ∙ room-short (wordsOn sheet formula) room m
 
 pub answered-clear : (sheet formula : List ℕ) → Answered sheet formula → Clear sheet formula
 answered-clear sheet formula a = call-clear sheet formula (a .0) (a .1) (a .2 (a .0) (a .1) (omega arith) (omega arith)) .0
@@ -99,6 +124,12 @@ pub counted : (sheet formula : List ℕ) (work : ℕ) (old : List ℕ) → callF
     → callAnswer sheet formula work old ≡ written.Count (length (wordsOn sheet formula))
 unfolding callAnswer writtenOf
 counted sheet formula work old e = rw (eq-eqb (callFault sheet formula work (length old)) 0 e) refl
+
+pub call-refused : (sheet formula : List ℕ) (work : ℕ) (old : List ℕ) (n : ℕ) → callFault sheet formula work (length old) ≡ n → (¬ (n ≡ 0))
+    → callAnswer sheet formula work old ≡ written.Refused n
+unfolding callAnswer writtenOf
+call-refused sheet formula work old n e h =
+    rw (ne-eqb (callFault sheet formula work (length old)) 0 (λ z. h (sym e ∙ z))) (ap written.Refused e)
 
 -- claims
 pub claim-clear : (sheet F G : List ℕ) (work : ℕ) → claimFault sheet F G work ≡ 0
@@ -146,7 +177,8 @@ pub claim-fault-shown : (sheet F G : List ℕ) (work : ℕ) → faultOfVerdict (
 unfolding claimAnswer
 claim-fault-shown sheet F G work = answersSay .verdict .fault (claimFault sheet F G work) (claimFails sheet (formulaTree F) (formulaTree G))
 
-pub answered-claim : (sheet F G : List ℕ) → Answered sheet F → Answered sheet G → (work : ℕ) → claimFault sheet F G work ≡ workFault sheet work
+pub answered-claim : (sheet F G : List ℕ) → Answered sheet F → Answered sheet G → (work : ℕ)
+    → claimFault sheet F G work ≡ workFault sheet work
 answered-claim sheet F G a b work = clear-claim sheet F G (answered-clear sheet F a) (answered-clear sheet G b) work
 
 pub given-claim : (sheet F G : List ℕ) → Answered sheet F → Answered sheet G → (work : ℕ) → neededWork sheet ≤ work

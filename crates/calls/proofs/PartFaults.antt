@@ -2,7 +2,7 @@
 use Prim.Native.Nat.{ℕ, zero, suc, _<_}
 use native.Mathlib.Omega.{arith}
 use mathlib.Core.Path.{_≡_, refl, _∙_, ap}
-use mathlib.Core.Bool.{true, cond}
+use mathlib.Core.Bool.{Bool, true, false}
 use mathlib.Core.Logic.{_⊎_, inl, inr}
 use mathlib.Core.List.{List, [], _∷_, _++_}
 use lib.Dec.{ltb}
@@ -20,9 +20,8 @@ use Rattle.calls.specs.OnSheet.{signalOn, exactOn}
 use Rattle.calls.specs.Calls.{partFault, partsFault}
 use Rattle.calls.specs.NormalLists.{ListFor}
 use Rattle.calls.specs.Tabled.{Check, NoFault, Meets5, Meets6}
-use Rattle.calls.proofs.FirstFault.{first-some, check-by}
+use Rattle.calls.proofs.FirstFault.{first-some}
 use Rattle.calls.proofs.Settles.{exact-for, one-for}
-use Rattle.signals.specs.Answers.{firstOf}
 use Rattle.signals.proofs.FirstFault.{both-none, next-is}
 
 -- some word is dated after M
@@ -48,20 +47,35 @@ of-late (w ∷ ws) (suc i) m d = or-right (ltb M (dateOf w)) (changesAfterM ws) 
 abbrev pub PartFaultIs : Signal → ℕ → Type 0
 PartFaultIs s = Check 5 (Meets5 s) (Check 6 (Meets6 s) NoFault)
 
-pub part-fault : (s : Signal) (l : List ℕ) → ListFor s l → PartFaultIs s (partFault l)
+long-part : (l : List ℕ) → ltb 256 (length l) ≡ true → partFault l ≡ 5
 unfolding partFault
-part-fault s l h =
-    check-by 5 (cond (changesAfterM l) 6 0) (Meets5 s) (Check 6 (Meets6 s) NoFault) (ltb 256 (length l))
-    (λ e. (l, h, ltb-true 256 (length l) e))
-    (λ e m. let q : m .0 ≡ l = one-for (m .1) h in let z : length (m .0) ≡ length l = ap length q in omega (arith, ltb-false 256 (length l) e, m .2))
-    (λ e.
-    check-by 6 0 (Meets6 s) NoFault (changesAfterM l)
-    (λ a. (l, h, late-of l a))
-    (λ a m.
-    let q : m .0 ≡ l = one-for (m .1) h in
-    let z : changesAfterM (m .0) ≡ true = of-late (m .0) (m .2 .0) (m .2 .1) (m .2 .2) in
-    not-both z (ap changesAfterM q ∙ a))
-    (λ a. refl))
+long-part l p = rw p refl
+
+late-part : (l : List ℕ) → ltb 256 (length l) ≡ false → changesAfterM l ≡ true → partFault l ≡ 6
+unfolding partFault
+late-part l p q = rw (p, q) refl
+
+fine-part : (l : List ℕ) → ltb 256 (length l) ≡ false → changesAfterM l ≡ false → partFault l ≡ 0
+unfolding partFault
+fine-part l p q = rw (p, q) refl
+
+pub part-fault : (s : Signal) (l : List ℕ) → ListFor s l → PartFaultIs s (partFault l)
+part-fault s l h = go (ltb 256 (length l)) refl (changesAfterM l) refl
+  where
+    no5 : ltb 256 (length l) ≡ false → ¬ Meets5 s
+    no5 p m =
+        let q : length (m .0) ≡ length l = ap length (one-for (m .1) h) in
+        omega (arith, ltb-false 256 (length l) p, m .2)
+
+    no6 : changesAfterM l ≡ false → ¬ Meets6 s
+    no6 q m =
+        let z : changesAfterM (m .0) ≡ true = of-late (m .0) (m .2 .0) (m .2 .1) (m .2 .2) in
+        not-both z (ap changesAfterM (one-for (m .1) h) ∙ q)
+
+    go : (b : Bool) → ltb 256 (length l) ≡ b → (c : Bool) → changesAfterM l ≡ c → PartFaultIs s (partFault l)
+    go true p c q = inl ((l, h, ltb-true 256 (length l) p), long-part l p)
+    go false p true q = inr (no5 p, inl ((l, h, late-of l q), late-part l p q))
+    go false p false q = inr (no5 p, inr (no6 q, fine-part l p q))
 
 -- parts in order, the one at a place being found with any default
 module _ (sheet : List ℕ) (ok : sheetFault sheet ≡ 0) (other : Tree) where
@@ -113,13 +127,13 @@ module _ (sheet : List ℕ) (ok : sheetFault sheet ≡ 0) (other : Tree) where
       rest : ℕ
       rest = partsFault sheet ps
 
-      later : Fine t → n ≡ 0 → PartsFaultIs ps rest → PartsFaultIs (t ∷ ps) (firstOf n rest)
+      later : Fine t → n ≡ 0 → PartsFaultIs ps rest → PartsFaultIs (t ∷ ps) (partsFault sheet (t ∷ ps))
       later f z (inl a) = inl (more5 t ps f (a .0), next-is n rest z ∙ a .1)
       later f z (inr (a, inl b)) = inr (λ h. a (less5 t ps (f .0) h .1), inl (more6 t ps f (b .0), next-is n rest z ∙ b .1))
       later f z (inr (a, inr b)) =
           inr (λ h. a (less5 t ps (f .0) h .1), inr (λ h. b .0 (less6 t ps f h), next-is n rest z ∙ b .1))
 
-      go : PartFaultIs (signalOn sheet t) n → PartsFaultIs ps rest → PartsFaultIs (t ∷ ps) (firstOf n rest)
+      go : PartFaultIs (signalOn sheet t) n → PartsFaultIs ps rest → PartsFaultIs (t ∷ ps) (partsFault sheet (t ∷ ps))
       go (inl a) r = inl ((0, omega arith, λ j l. absurd (omega arith), a .0), first-some n rest 5 (a .1) (omega arith))
       go (inr (a, inl b)) r =
           inr (

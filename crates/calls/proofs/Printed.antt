@@ -21,7 +21,7 @@ use Rattle.formulas.proofs.Reading.{tree-of}
 use Rattle.laws.specs.Rewriting.{parts}
 use Rattle.sheets.specs.Bytes.{low16, low32, wordsIn}
 use Rattle.slices.specs.Slices.{before}
-use Rattle.sheets.specs.Names.{letter, digit, lettersOrDigits, wellNamed, unpadded, zeros, fieldFits, same, among}
+use Rattle.sheets.specs.Names.{letter, digit, lettersOrDigits, wellNamed, zeros, fieldFits, same, among}
 use Rattle.sheets.specs.Reading as reading
 use Rattle.sheets.specs.Reading.{wordCount, signalSize, laterWordsFault, sheetWordsFault, signalFault, signalsFault, frontFault, countOn, sheetFault, signalsFrom, signalsOn, names, listNamed, environmentOn}
 use Rattle.calls.specs.OnSheet.{settlingDate, exactOn, namesFound}

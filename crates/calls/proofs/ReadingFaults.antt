@@ -59,7 +59,8 @@ derived formula e =
     refused-of formula (passed (not (accepted formula)) 11 _ (omega arith) (a .1) .0)
 
 -- a tree's names and the sheet's
-pub lacks : (sheet : List ℕ) (t : Tree) → namesFound sheet t ≡ false → (n : List ℕ) × Names t n × (among n (names (signalsOn sheet)) ≡ false)
+pub lacks : (sheet : List ℕ) (t : Tree) → namesFound sheet t ≡ false
+    → (n : List ℕ) × Names t n × (among n (names (signalsOn sheet)) ≡ false)
 unfolding namesFound
 lacks sheet (leaf down) e = absurd (not-both {b = true} {A = ⊥} refl e)
 lacks sheet (leaf up) e = absurd (not-both {b = true} {A = ⊥} refl e)
@@ -70,7 +71,8 @@ lacks sheet (binary o t u) e = go (namesFound sheet t) refl (lacks sheet t) (lac
     Lacks : Tree → Type 0
     Lacks x = (n : List ℕ) × Names x n × (among n (names (signalsOn sheet)) ≡ false)
 
-    go : (b : Bool) → namesFound sheet t ≡ b → (namesFound sheet t ≡ false → Lacks t) → (namesFound sheet u ≡ false → Lacks u) → Lacks (binary o t u)
+    go : (b : Bool) → namesFound sheet t ≡ b → (namesFound sheet t ≡ false → Lacks t) → (namesFound sheet u ≡ false → Lacks u)
+        → Lacks (binary o t u)
     go false q h k = let r = h q in (r .0, inl (r .1), r .2)
     go true q h k = let r = k (rw q at e) in (r .0, inr (r .1), r .2)
 
@@ -90,7 +92,8 @@ text-fault sheet formula rest n e l =
     first-some (firstOf (formulaFault formula) (cond (namesFound sheet (formulaTree formula)) 0 13)) rest n
     (first-some (formulaFault formula) (cond (namesFound sheet (formulaTree formula)) 0 13) n e l) l
 
-names-fault : (sheet formula : List ℕ) → formulaFault formula ≡ 0 → readingFault sheet formula ≡ cond (namesFound sheet (formulaTree formula)) 0 13
+names-fault : (sheet formula : List ℕ) → formulaFault formula ≡ 0
+    → readingFault sheet formula ≡ cond (namesFound sheet (formulaTree formula)) 0 13
 unfolding readingFault
 names-fault sheet formula e = next-is (formulaFault formula) (cond (namesFound sheet (formulaTree formula)) 0 13) e
 

@@ -40,12 +40,12 @@ settles sheet ok (leaf (name n)) = named-settles n (signalsOn sheet) (sheet-soun
 settles sheet ok (unary invert t) = settled-later _ _ _ (settling .not _ _ (settles sheet ok t)) (omega arith)
 settles sheet ok (unary rise t) = settled-later _ _ _ (settling .rises _ _ (settles sheet ok t)) (omega arith)
 settles sheet ok (unary fall t) = settled-later _ _ _ (settling .falls _ _ (settles sheet ok t)) (omega arith)
-settles sheet ok (unary (ton d) t) = settling .ton d _ _ (settles sheet ok t)
-settles sheet ok (unary (tof d) t) = settling .tof d _ _ (settles sheet ok t)
-settles sheet ok (binary and t u) = settling .and _ _ _ _ (settles sheet ok t) (settles sheet ok u)
-settles sheet ok (binary or t u) = settling .or _ _ _ _ (settles sheet ok t) (settles sheet ok u)
-settles sheet ok (binary sr t u) = settling .sr _ _ _ _ (settles sheet ok t) (settles sheet ok u)
-settles sheet ok (binary rs t u) = settling .rs _ _ _ _ (settles sheet ok t) (settles sheet ok u)
+settles sheet ok (unary (ton d) t) = settled-later _ _ _ (settling .ton d _ _ (settles sheet ok t)) (omega arith)
+settles sheet ok (unary (tof d) t) = settled-later _ _ _ (settling .tof d _ _ (settles sheet ok t)) (omega arith)
+settles sheet ok (binary and t u) = settled-later _ _ _ (settling .and _ _ _ _ (settles sheet ok t) (settles sheet ok u)) (omega arith)
+settles sheet ok (binary or t u) = settled-later _ _ _ (settling .or _ _ _ _ (settles sheet ok t) (settles sheet ok u)) (omega arith)
+settles sheet ok (binary sr t u) = settled-later _ _ _ (settling .sr _ _ _ _ (settles sheet ok t) (settles sheet ok u)) (omega arith)
+settles sheet ok (binary rs t u) = settled-later _ _ _ (settling .rs _ _ _ _ (settles sheet ok t) (settles sheet ok u)) (omega arith)
 
 pub exact-for : (sheet : List ℕ) → sheetFault sheet ≡ 0 → (t : Tree) → ListFor (signalOn sheet t) (exactOn sheet t)
 unfolding exactOn

@@ -7,7 +7,6 @@ use mathlib.Core.Logic.{_⊎_, inl, inr}
 use mathlib.Core.List.{List, [], _∷_, _++_}
 use lib.Dec.{leb, ltb, eqb}
 use lib.ListN.{length, drop, take}
-use borrow.Author.Tests.{eqb-true, eqb-false}
 use Rattle.signals.specs.Words.{dateOf, valueAfter, headValue, changesNothing, listFault}
 use Rattle.sheets.specs.Bytes.{Bytes, Words, low16, low32, wordsIn}
 use Rattle.sheets.specs.Names.{wellNamed, fieldFits, same, among}
@@ -30,7 +29,8 @@ abbrev pub AllSound : List Entry → Type 0
 AllSound [] = Unit
 AllSound (e ∷ es) = Sound e × AllSound es
 
-entry-sound : (earlier : List (List ℕ)) (rest : List ℕ) → signalFault earlier rest ≡ 0 → Sound (entry (nameAt rest) (wordsIn (wordCount rest) (drop 10 rest)))
+entry-sound : (earlier : List (List ℕ)) (rest : List ℕ) → signalFault earlier rest ≡ 0
+    → Sound (entry (nameAt rest) (wordsIn (wordCount rest) (drop 10 rest)))
 unfolding nameAt
 entry-sound earlier rest e =
     let s = sound earlier rest e in
@@ -48,7 +48,8 @@ unfolding sheetFault signalsOn firstOf
 sheet-sound sheet e = entries-sound [] (countOn sheet) (drop 7 sheet) (both-none (frontFault sheet) _ e .1)
 
 -- a name among an accepted sheet's is a name, and its list is accepted
-pub named-sound : (n : List ℕ) (es : List Entry) → AllSound es → among n (names es) ≡ true → (wellNamed n ≡ true) × (listFault (listNamed n es) ≡ 0)
+pub named-sound : (n : List ℕ) (es : List Entry) → AllSound es → among n (names es) ≡ true
+    → (wellNamed n ≡ true) × (listFault (listNamed n es) ≡ 0)
 unfolding among names listNamed
 named-sound n [] h e = true-false (sym e)
 named-sound n (x ∷ es) h e = go (same (nameOf x) n) refl (named-sound n es (h .1))

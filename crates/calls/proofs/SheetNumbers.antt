@@ -44,7 +44,8 @@ sentence sheet fault n b l h =
     let x = sheet-faults-exact sheet b n (λ z. omega arith) in
     (λ e. x .0 (h .0 e), λ s. h .1 (x .1 s))
 
-pub call-sheet : (sheet formula : List ℕ) (work room fault n : ℕ) → CallFaultIs sheet formula work room fault → Bytes sheet → 14 ≤ n → n ≤ 17
+pub call-sheet : (sheet formula : List ℕ) (work room fault n : ℕ) → CallFaultIs sheet formula work room fault → Bytes sheet → 14 ≤ n
+    → n ≤ 17
     → (fault ≡ n) ↔ SheetFaulty sheet n
 call-sheet sheet formula work room fault n h b l m =
     sentence sheet fault n b l

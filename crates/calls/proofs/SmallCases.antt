@@ -1,12 +1,12 @@
--- Small cases worked out: the formulas 1, 0, !1 and 1.1 on the empty sheet.
+-- Small cases worked out: the formulas 1, 0 and !1 on the empty sheet.
 use Prim.Native.Nat.{ℕ}
 use native.Mathlib.Omega.{arith}
 use mathlib.Core.Path.{_≡_, refl, _∙_, ap}
 use mathlib.Core.Bool.{true, cond}
 use mathlib.Core.List.{List, [], _∷_}
 use Rattle.signals.specs.Moment.{isGap, tick}
-use Rattle.signals.specs.Signal.{constant, NOT, AND, refuted}
-use Rattle.signals.specs.Words.{dateOf, word, wordsOf, listOf}
+use Rattle.signals.specs.Signal.{constant, NOT, refuted}
+use Rattle.signals.specs.Words.{dateOf, wordsOf, listOf}
 use Rattle.signals.specs.Implication.{earliest, failsIn, firstFailing}
 use Rattle.signals.specs.declared.Verdict.the-variants.{FailsAfter}
 use Rattle.operations.specs.Calls.{changesAfterM}
@@ -31,7 +31,7 @@ use Rattle.signals.proofs.FirstFault.{next-is}
 abbrev pub emptySheet : List ℕ
 emptySheet = 83 ∷ 71 ∷ 76 ∷ 1 ∷ 0 ∷ 0 ∷ 0 ∷ []
 
--- 1, 0, !1 and 1.1
+-- 1, 0 and !1
 abbrev pub one : List ℕ
 one = 49 ∷ []
 
@@ -40,9 +40,6 @@ none = 48 ∷ []
 
 abbrev pub notOne : List ℕ
 notOne = 33 ∷ 49 ∷ []
-
-abbrev pub oneAndOne : List ℕ
-oneAndOne = 49 ∷ 46 ∷ 49 ∷ []
 
 abbrev pub up : Tree
 up = tree.Tree.leaf tree.Leaf.up
@@ -59,9 +56,6 @@ none-writes = Sum.product (Product.factor Factor.zero)
 pub notOne-writes : Writes notOne (tree.Tree.unary tree.Unary.invert up) 1
 notOne-writes = Sum.product (Product.factor (Factor.inverted Factor.one))
 
-pub oneAndOne-writes : Writes oneAndOne (tree.Tree.binary tree.Binary.and up up) 0
-oneAndOne-writes = Sum.product (Product.dot (Product.factor Factor.one) Factor.one)
-
 empty-fine : sheetFault emptySheet ≡ 0
 unfolding sheetFault frontFault signalsFault countOn low16 same firstOf
 empty-fine = refl
@@ -77,10 +71,6 @@ none-fine = refl
 notOne-fine : formulaFault notOne ≡ 0
 unfolding formulaFault accepted longestOf partsOf depthOf readText sumAt sumsAt productAt productsAt factorAt leafAt next stepped put bad expect prefixKind isLower isDigit isNameByte run
 notOne-fine = refl
-
-oneAndOne-fine : formulaFault oneAndOne ≡ 0
-unfolding formulaFault accepted longestOf partsOf depthOf readText sumAt sumsAt productAt productsAt factorAt leafAt next stepped put bad expect prefixKind isLower isDigit isNameByte run
-oneAndOne-fine = refl
 
 -- a formula is clear when its tree is, and its words are its tree's list
 pub tree-clear : (sheet formula : List ℕ) (t : Tree) (d : ℕ) → sheetFault sheet ≡ 0 → Writes formula t d → formulaFault formula ≡ 0
@@ -109,10 +99,6 @@ notOne-clear : Clear emptySheet notOne
 unfolding namesFound partsFault parts partFault firstOf changesAfterM dateOf exactOn settlingDate listOf wordsOf constant NOT
 notOne-clear = tree-clear emptySheet notOne (tree.Tree.unary tree.Unary.invert up) 1 empty-fine notOne-writes notOne-fine refl refl
 
-oneAndOne-clear : Clear emptySheet oneAndOne
-unfolding namesFound partsFault parts partFault firstOf changesAfterM dateOf exactOn settlingDate listOf wordsOf constant AND
-oneAndOne-clear = tree-clear emptySheet oneAndOne (tree.Tree.binary tree.Binary.and up up) 0 empty-fine oneAndOne-writes oneAndOne-fine refl refl
-
 -- they are answered
 pub one-answered : Answered emptySheet one
 one-answered = clear-answered emptySheet one one-clear
@@ -122,9 +108,6 @@ none-answered = clear-answered emptySheet none none-clear
 
 pub notOne-answered : Answered emptySheet notOne
 notOne-answered = clear-answered emptySheet notOne notOne-clear
-
-pub oneAndOne-answered : Answered emptySheet oneAndOne
-oneAndOne-answered = clear-answered emptySheet oneAndOne oneAndOne-clear
 
 -- 1 gives [1], !1 gives [0] and its operand [1]
 pub one-words : wordsOn emptySheet one ≡ 1 ∷ []

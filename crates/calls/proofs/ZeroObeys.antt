@@ -18,7 +18,8 @@ zero-count sheet F work old e =
     let z : callFault sheet F work (length old) ≡ 0 = sym (fault-shown (callFault sheet F work (length old)) (0 ∷ [])) ∙ e in
     rw (eq-eqb (callFault sheet F work (length old)) 0 z) refl
 
-zero-given : (sheet F : List ℕ) (work : ℕ) (old : List ℕ) → Served givesZero sheet F work old → wordsGiven givesZero sheet F work old ≡ 0 ∷ []
+zero-given : (sheet F : List ℕ) (work : ℕ) (old : List ℕ) → Served givesZero sheet F work old
+    → wordsGiven givesZero sheet F work old ≡ 0 ∷ []
 unfolding zeroAnswer zeroOutput writtenOf outputOf
 zero-given sheet F work old e =
     let z : callFault sheet F work (length old) ≡ 0 = sym (fault-shown (callFault sheet F work (length old)) (0 ∷ [])) ∙ e in
@@ -32,6 +33,7 @@ zero-obeys =
             count = λ workF workG oldF oldG x y. zero-count sheet F workF oldF x ∙ sym (zero-count sheet G workG oldG y);
             words = λ workF workG oldF oldG x y. zero-given sheet F workF oldF x ∙ sym (zero-given sheet G workG oldG y);
           };
-      asFirst = λ F G H f g h d e k w v x r sheet a b c. demand3 .third F G H f g h d e k w v x r sheet a b c .asFirst;
-      asSecond = λ F G H f g h d e k w v x r sheet a b c. demand3 .third F G H f g h d e k w v x r sheet a b c .asSecond;
+      verdicts = λ F G H f g d e w v r sheet a b c.
+          let t = demand3 .third F G H f g d e w v r sheet a b c in
+          record { asFirst = t .asFirst; asSecond = t .asSecond };
     }

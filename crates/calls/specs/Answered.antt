@@ -5,7 +5,8 @@ use mathlib.Core.List.{List}
 use lib.ListN.{length}
 use Rattle.calls.specs.Calls.{callFault, neededWork, wordsOn}
 
--- from the bytes of sheet and formula alone: some work area and output are long enough, and with those and with all longer ones there is no fault
+-- from the bytes of sheet and formula alone: some work area and output are long enough, and with those and with all longer ones there
+-- is no fault
 abbrev pub Answered : List ℕ → List ℕ → Type 0
 Answered sheet formula =
     (enoughWork enoughRoom : ℕ)

@@ -1,16 +1,19 @@
 -- Demand 3 as a predicate of an engine, sentence by sentence.
-use Prim.Native.Nat.{ℕ, _≤_}
+use Prim.Native.Nat.{ℕ, _≤_, _<_}
 use mathlib.Core.Path.{_≡_}
 use mathlib.Core.Logic.{_↔_}
 use mathlib.Core.List.{List}
-use lib.ListN.{take}
+use lib.ListN.{length, take}
 use Rattle.signals.specs.Answers.{faultIn, countIn}
+use Rattle.signals.specs.Implication.{faultOfVerdict}
 use Rattle.signals.specs.Settled.{Same}
+use Rattle.signals.specs.declared.Written.the-variants as written
+use Rattle.signals.specs.declared.Verdict.the-variants as verdict
 use Rattle.formulas.specs.Tree.{Tree}
 use Rattle.formulas.specs.Grammar.{Writes}
 use Rattle.laws.specs.Rewriting.{Rewrites}
 use Rattle.calls.specs.OnSheet.{signalOn}
-use Rattle.calls.specs.Calls.{neededWork}
+use Rattle.calls.specs.Calls.{neededWork, wordsOn}
 use Rattle.calls.specs.Answered.{Answered, Enough}
 use Rattle.calls.specs.Engine.{Engine}
 use Rattle.calls.specs.NormalLists.{JudgedAs}
@@ -30,29 +33,44 @@ pub record SameWords (E : Engine) (sheet F G : List ℕ) : Type 0 where
   pub words : (workF workG : ℕ) (oldF oldG : List ℕ) → Served E sheet F workF oldF → Served E sheet G workG oldG
       → wordsGiven E sheet F workF oldF ≡ wordsGiven E sheet G workG oldG
 
--- the third formula H has, as the first side of a claim and as the second, the same verdict with G as with F (the whole answers are
--- equal): the one that the implication gives for the signals as defined
-pub record SameVerdicts (E : Engine) (sheet F G H : List ℕ) (f g h : Tree) : Type 0 where
+-- a refused call: the fault's number is its answer, and the output is the old one
+pub record RefusedAs (E : Engine) (sheet formula : List ℕ) (work : ℕ) (old : List ℕ) (fault : ℕ) : Type 0 where
+  pub answer : E .answer sheet formula work old ≡ written.Refused fault
+  pub output : E .output sheet formula work old ≡ old
+
+-- the third formula H has, as the first side of a claim and as the second, the same verdict with G as with F: the whole answers are
+-- equal, whatever the work area
+pub record SameVerdicts (E : Engine) (sheet F G H : List ℕ) : Type 0 where
   pub asFirst : (work : ℕ) → E .claim sheet H F work ≡ E .claim sheet H G work
   pub asSecond : (work : ℕ) → E .claim sheet F H work ≡ E .claim sheet G H work
-  pub firstWithF : (work : ℕ) → neededWork sheet ≤ work → JudgedAs (signalOn sheet h) (signalOn sheet f) (E .claim sheet H F work)
-  pub firstWithG : (work : ℕ) → neededWork sheet ≤ work → JudgedAs (signalOn sheet h) (signalOn sheet g) (E .claim sheet H G work)
-  pub secondWithF : (work : ℕ) → neededWork sheet ≤ work → JudgedAs (signalOn sheet f) (signalOn sheet h) (E .claim sheet F H work)
-  pub secondWithG : (work : ℕ) → neededWork sheet ≤ work → JudgedAs (signalOn sheet g) (signalOn sheet h) (E .claim sheet G H work)
 
 pub record Demand3 (E : Engine) : Type 0 where
   -- its answered formulas are those defined: with the needed work words and an output at least as long as the answer, an answered formula's
   -- call meets no fault, and a call without a fault is of an answered formula
   pub served : (sheet F : List ℕ) → Answered sheet F → (work : ℕ) (old : List ℕ) → Enough sheet F work old → Served E sheet F work old
   pub answered : (sheet F : List ℕ) (work : ℕ) (old : List ℕ) → Served E sheet F work old → Answered sheet F
+  -- with fewer work words its call is refused as 18, else, with an output shorter than the answer, as 7
+  pub shortWork : (sheet F : List ℕ) → Answered sheet F → (work : ℕ) (old : List ℕ) → work < neededWork sheet
+      → RefusedAs E sheet F work old 18
+  pub shortOutput : (sheet F : List ℕ) → Answered sheet F → (work : ℕ) (old : List ℕ) → neededWork sheet ≤ work
+      → length old < length (wordsOn sheet F) → RefusedAs E sheet F work old 7
   -- "Take any formula F, any one part of it and any equation of document 01's law table that fits that part in either direction, and let
   -- G be F with the part so rewritten. Then on every sheet where both are answered, F and G give the same word count and the same words."
   pub rewritten : (F G : List ℕ) (f g : Tree) (d e : ℕ) → Writes F f d → Writes G g e → Rewrites f g
       → (sheet : List ℕ) → Answered sheet F → Answered sheet G → SameWords E sheet F G
-  -- "Any third formula answered there, as the first side of a claim and as the second, has the same verdict with G as with F: the one that
-  -- document 01's implication gives for the signals as defined."
-  pub third : (F G H : List ℕ) (f g h : Tree) (d e k : ℕ) → Writes F f d → Writes G g e → Writes H h k → Rewrites f g
-      → (sheet : List ℕ) → Answered sheet F → Answered sheet G → Answered sheet H → SameVerdicts E sheet F G H f g h
+  -- "Any third formula answered there, as the first side of a claim and as the second, has the same verdict with G as with F:"
+  pub third : (F G H : List ℕ) (f g : Tree) (d e : ℕ) → Writes F f d → Writes G g e → Rewrites f g
+      → (sheet : List ℕ) → Answered sheet F → Answered sheet G → Answered sheet H → SameVerdicts E sheet F G H
+  -- "the one that document 01's implication gives for the signals as defined." What every claim call without a fault says, of any two
+  -- formulas answered there
+  pub claims : (sheet F G : List ℕ) (f g : Tree) (d e : ℕ) → Writes F f d → Writes G g e → Answered sheet F → Answered sheet G
+      → (work : ℕ) → faultOfVerdict (E .claim sheet F G work) ≡ 0
+      → JudgedAs (signalOn sheet f) (signalOn sheet g) (E .claim sheet F G work)
+  -- "A claim of two formulas answered on the sheet can meet no fault but 18": none with the needed work words, 18 with fewer
+  pub claimServed : (sheet F G : List ℕ) → Answered sheet F → Answered sheet G → (work : ℕ) → neededWork sheet ≤ work
+      → faultOfVerdict (E .claim sheet F G work) ≡ 0
+  pub claimShortWork : (sheet F G : List ℕ) → Answered sheet F → Answered sheet G → (work : ℕ) → work < neededWork sheet
+      → E .claim sheet F G work ≡ verdict.Refused 18
   -- "Each answered formula gives the one normal list of its signal,"
   pub lists : (sheet F : List ℕ) → Answered sheet F → (work : ℕ) (old : List ℕ) → Served E sheet F work old
       → GivesTheList E sheet F work old

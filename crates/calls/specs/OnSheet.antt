@@ -9,7 +9,8 @@ use Rattle.formulas.specs.Code.{ticksOf}
 use Rattle.sheets.specs.Names.{among}
 use Rattle.sheets.specs.Reading.{signalsOn, names, listNamed, environmentOn}
 
--- A formula's signal on a sheet is what the operations make of its names' signals there: a name stands for the signal that the sheet gives it.
+-- A formula's signal on a sheet is what the operations make of its names' signals there: a name stands for the signal that the sheet
+-- gives it.
 abbrev pub signalOn : List ℕ → Tree → Signal
 signalOn sheet t = signal (environmentOn sheet) t
 

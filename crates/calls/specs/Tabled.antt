@@ -69,7 +69,8 @@ Breaks5 sheet formula =
 abbrev pub Breaks6 : List ℕ → List ℕ → Type 0
 Breaks6 sheet formula =
     (t : Tree) × (d : ℕ) × Writes formula t d
-    × ((i : ℕ) × (i < length (parts t)) × FineBefore sheet t i × (¬ Meets5 (signalOn sheet (partAt t i))) × Meets6 (signalOn sheet (partAt t i)))
+    × ((i : ℕ) × (i < length (parts t)) × FineBefore sheet t i
+    × (¬ Meets5 (signalOn sheet (partAt t i))) × Meets6 (signalOn sheet (partAt t i)))
 
 -- 7: output, of so many words, shorter than the answer
 abbrev pub Breaks7 : List ℕ → List ℕ → ℕ → Type 0

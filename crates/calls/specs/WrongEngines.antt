@@ -1,6 +1,5 @@
--- Six wrong engines in document 01's order, each the defined engine but for the one thing named; and the statement that demands 2 and 3 shut each out.
+-- Seven wrong engines, document 01's six in its order first, each the defined one but for the thing named; demands 2 and 3 shut out each.
 use Prim.Native.Nat.{ℕ, _+_}
-use mathlib.Core.Path.{_≡_}
 use mathlib.Core.Bool.{cond}
 use mathlib.Core.List.{List, [], _∷_}
 use lib.Dec.{eqb}
@@ -19,7 +18,7 @@ use Rattle.calls.specs.Calls.{callFault, roomFault, claimFault, callAnsw
 use Rattle.calls.specs.Engine.{Engine}
 use Rattle.calls.specs.Demand2.{Demand2}
 use Rattle.calls.specs.Answered.{Answered}
-use Rattle.calls.specs.Demand3.{SameWords, Demand3}
+use Rattle.calls.specs.Demand3.{SameWords, SameVerdicts, Demand3}
 use Rattle.signals.specs.Answers.{firstOf}
 
 -- gives [0] for all formulas: where the defined call has no fault, the one word 0
@@ -83,27 +82,33 @@ abbrev pub inventsCount : Engine
 inventsCount =
     record { answer = λ sheet formula work old. oneMore (callAnswer sheet formula work old); output = callOutput; claim = claimAnswer }
 
+-- answers holds to every claim whose work area is short: where the defined claim is refused as 18
+unfoldable pub shortClaim : List ℕ → List ℕ → List ℕ → ℕ → Verdict
+shortClaim sheet F G work = cond (eqb (claimFault sheet F G work) 18) verdict.Holds (claimAnswer sheet F G work)
+
+abbrev pub holdsWhenShort : Engine
+holdsWhenShort = record { answer = callAnswer; output = callOutput; claim = shortClaim }
+
 -- neither demand holds of the engine
 pub record ShutOut (E : Engine) : Type 0 where
   pub byDemand2 : ¬ Demand2 E
   pub byDemand3 : ¬ Demand3 E
 
-pub record SixShutOut : Type 0 where
+pub record SevenShutOut : Type 0 where
   pub zero : ShutOut givesZero
   pub true : ShutOut claimsTrue
   pub five : ShutOut faultsAs5
   pub old : ShutOut leavesOld
   pub copy : ShutOut copiesOperand
   pub count : ShutOut inventsCount
+  pub short : ShutOut holdsWhenShort
 
 -- F and G of demand 3 give the same words, and have the same verdicts with a third formula
 pub record ObeysEveryLaw (E : Engine) : Type 0 where
   pub words : (F G : List ℕ) (f g : Tree) (d e : ℕ) → Writes F f d → Writes G g e → Rewrites f g
       → (sheet : List ℕ) → Answered sheet F → Answered sheet G → SameWords E sheet F G
-  pub asFirst : (F G H : List ℕ) (f g h : Tree) (d e k : ℕ) → Writes F f d → Writes G g e → Writes H h k → Rewrites f g
-      → (sheet : List ℕ) → Answered sheet F → Answered sheet G → Answered sheet H → (work : ℕ) → E .claim sheet H F work ≡ E .claim sheet H G work
-  pub asSecond : (F G H : List ℕ) (f g h : Tree) (d e k : ℕ) → Writes F f d → Writes G g e → Writes H h k → Rewrites f g
-      → (sheet : List ℕ) → Answered sheet F → Answered sheet G → Answered sheet H → (work : ℕ) → E .claim sheet F H work ≡ E .claim sheet G H work
+  pub verdicts : (F G H : List ℕ) (f g : Tree) (d e : ℕ) → Writes F f d → Writes G g e → Rewrites f g
+      → (sheet : List ℕ) → Answered sheet F → Answered sheet G → Answered sheet H → SameVerdicts E sheet F G H
 
 -- The engine that gives [0] for all formulas obeys every law, and is shut out all the same.
 abbrev pub ZeroObeysEveryLaw : Type 0
