@@ -10,7 +10,7 @@ enum Input {
 }
 
 // Reads until the input ends, the buffer is full or a read fails.
-fn read_input(buffer: &mut [u8; 65536]) -> Input {
+fn read_input(buffer: &mut [u8; report::BYTES]) -> Input {
     let space: &mut [u8] = buffer;
     let mut done: usize = 0;
     while done < space.len() {
@@ -27,16 +27,20 @@ fn read_input(buffer: &mut [u8; 65536]) -> Input {
     Input::Bytes(done)
 }
 
+// Writes the line of what was read.
+fn print(input: &[u8; report::BYTES], n: usize) {
+    let line = report::report(input, n);
+    let bytes = line.bytes;
+    let count = line.count;
+    if !io::write_all(STDOUT_FILENO, &bytes[..count]) {
+        io::write_all(STDERR_FILENO, b"claim: standard output cannot be written\n");
+    }
+}
+
 fn main() {
-    let mut input = [0u8; 65536];
+    let mut input = report::buffer();
     match read_input(&mut input) {
-        Input::Bytes(n) => {
-            let mut line = [0u8; 23];
-            let count = report::report(&input, n, &mut line);
-            if !io::write_all(STDOUT_FILENO, &line[..count]) {
-                io::write_all(STDERR_FILENO, b"claim: standard output cannot be written\n");
-            }
-        }
+        Input::Bytes(n) => print(&input, n),
         Input::Failed => {
             io::write_all(STDERR_FILENO, b"claim: standard input cannot be read\n");
         }

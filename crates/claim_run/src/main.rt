@@ -13,13 +13,14 @@ fn fill(buffer: &mut [u8], input: &[u8]) {
 
 // The report of an input.
 fn reported(label: &[u8], input: &[u8]) {
-    let mut buffer = [0u8; 65536];
-    let mut out = [0u8; 23];
+    let mut buffer = report::buffer();
     fill(&mut buffer, input);
-    let count = report::report(&buffer, input.len(), &mut out);
+    let line = report::report(&buffer, input.len());
+    let bytes = line.bytes;
+    let count = line.count;
     io::write_all(STDOUT_FILENO, label);
     io::write_all(STDOUT_FILENO, b": ");
-    io::write_all(STDOUT_FILENO, &out[..count]);
+    io::write_all(STDOUT_FILENO, &bytes[..count]);
 }
 
 // The claim of f and g on the sheet of one signal, a = [0,23,36].

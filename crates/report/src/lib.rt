@@ -1,12 +1,32 @@
 // What the program prints for what it reads: the input split into F, G and the sheet, their claim, and the line of its answer.
 ghost use mathlib.Core.Path.{_≡_};
 ghost use Prim.Native.Nat.{_+_, _≤_, _<_};
-ghost use lib.ListN.{length, take, drop};
+ghost use lib.ListN.{length, take, drop, replicate};
 ghost use Rattle.report.specs.Input.{limit};
 ghost use Rattle.report.specs.Line.{decimal as Line·decimal, line as Line·line, lineOf};
 ghost use Rattle.report.specs.OneLine.{longest};
 ghost use Rattle.report.specs.Reporting.{printed, over};
 use signals::Verdict;
+
+// The most bytes of the input that count.
+pub const BYTES: usize = 65536;
+
+// The bytes of the longest line, "fails after 1073741823" with its line feed.
+pub const LONGEST: usize = 23;
+
+// A line: as many bytes as the count says, those past them being zeros.
+pub struct Line {
+    pub bytes: [u8; LONGEST],
+    pub count: usize,
+}
+
+// A buffer for the input: zeros, as many as bytes count.
+pub fn buffer() -> [u8; BYTES]
+    ensures { λ r. ⌜ r ≡ replicate limit 0 ⌝ }
+    ensures { λ r. ⌜ limit ≡ length r ⌝ }
+{
+    [0; BYTES]
+}
 
 // The first n bytes of a text; all of it when it has no more.
 fn first(text: &[u8], n: usize) -> &[u8]
@@ -70,12 +90,11 @@ fn tell(verdict: Verdict, out: &mut [u8]) -> usize
     }
 }
 
-// The report of the first n bytes of an input: writes the line of the claim that they make, and says how many bytes it has. The types have the
-// 65,536 bytes that count and the bytes of the longest line, so that no line is refused with 7; the work area is long enough, so that no
-// claim is refused with 18.
-pub fn report(input: &[u8; 65536], n: usize, out: &mut [u8; 23]) -> usize
-    ensures { λ r. ⌜ (length (now (input .entry)) ≡ limit) × (r ≡ length (printed (take n (now (input .entry))))) × (now (out .exit) ≡ over (printed (take n (now (input .entry)))) (now (out .entry))) ⌝ }
-    ensures { λ r. ⌜ (r ≤ length (now (out .exit))) × (r ≡ length (take r (now (out .exit)))) ⌝ }
+// The report of the first n bytes of an input: the line of the claim that they make. The type of the input has the bytes that count, and the
+// line has those of the longest, so that it is never refused with 7; the work area is long enough, so that no claim is refused with 18.
+pub fn report(input: &[u8; BYTES], n: usize) -> Line
+    ensures { λ r. ⌜ (length (now (input .entry)) ≡ limit) × (r .«count» ≡ length (printed (take n (now (input .entry))))) × (r .«bytes» ≡ over (printed (take n (now (input .entry)))) (replicate longest 0)) ⌝ }
+    ensures { λ r. ⌜ (r .«count» ≤ length (r .«bytes»)) × (r .«count» ≡ length (take (r .«count») (r .«bytes»))) ⌝ }
 {
     let text = first(input, n);
     let after = slices::part_after(text, b'\n');
@@ -84,5 +103,10 @@ pub fn report(input: &[u8; 65536], n: usize, out: &mut [u8; 23]) -> usize
     let g = slices::part_before(after, b'\n');
     let mut work = [0u32; 8192];
     let verdict = evaluation::claim(sheet, f, g, &mut work);
-    tell(verdict, out)
+    let mut bytes = [0u8; LONGEST];
+    let count = tell(verdict, &mut bytes);
+    Line {
+        bytes: bytes,
+        count: count,
+    }
 }
