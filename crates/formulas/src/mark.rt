@@ -1,7 +1,7 @@
 // Where the reader of a formula is, and the steps that read no sum. Each leaves a bad mark as it is. The text is lent as the first
 // bytes of an array and the mark as an array, so that a reader that calls another holds neither on the stack.
 ghost use mathlib.Core.Path.{_≡_};
-ghost use mathlib.Core.Bool.{cond, true};
+ghost use mathlib.Core.Bool.{true};
 ghost use Prim.Native.Nat.{_+_, _-_, _≤_, _<_, max};
 ghost use lib.ListN.{length, take, drop};
 ghost use Rattle.formulas.specs.Grammar.{isLower, isDigit};

@@ -5,16 +5,16 @@ use mathlib.Core.Path.{_≡_, refl, sym, ap, _∙_}
 use mathlib.Core.Bool.{Bool, true, false, cond}
 use mathlib.Core.Logic.{_⊎_, inl, inr}
 use mathlib.Core.List.{List}
-use lib.Dec.{eqb, leb}
+use mathlib.Core.Option.{Option, none, some}
+use lib.Dec.{eqb}
 use borrow.Author.Tests.{eqb-false}
-use Rattle.signals.specs.Moment.{isGap, tick, gap}
-use Rattle.signals.specs.Signal.{Signal, refuted}
-use Rattle.signals.specs.Implication.{earliest, failsIn, verdictOf, faultOfVerdict}
+use Rattle.signals.specs.Moment.{isGap, tick}
+use Rattle.signals.specs.Answers.{failsIn, judgedBy, verdictFor, faultOfVerdict}
 use Rattle.signals.specs.declared.Verdict.{Verdict}
 use Rattle.signals.specs.declared.Verdict.the-variants.{Holds, FailsAt, FailsAfter, Refused}
 use Rattle.formulas.specs.Formula.{formulaTree}
 use Rattle.sheets.specs.Reading.{sheetFault}
-use Rattle.calls.specs.Calls.{neededWork, claimFault, claimVerdict, claimAnswer}
+use Rattle.calls.specs.Calls.{neededWork, claimFault, claimFails, claimVerdict, claimAnswer}
 use Rattle.calls.specs.Tabled.{Check, NoFault, SheetBreaks, Breaks18, ReadingChecks, WorkingChecks, ClaimFaultIs}
 use Rattle.calls.proofs.OneEngine.{one-fault}
 
@@ -84,16 +84,12 @@ failing t = go (isGap t)
     go true = refl
     go false = refl
 
-judging : (f g : Signal) (n : ℕ) → refusing (verdictOf f g n) ≡ 0
-unfolding verdictOf
-judging f g n = go (leb (earliest (refuted f g) 0 (gap n + 1)) (gap n)) (earliest (refuted f g) 0 (gap n + 1))
-  where
-    go : (b : Bool) (t : ℕ) → refusing (cond b (failsIn t) Holds) ≡ 0
-    go true t = failing t
-    go false t = refl
+judging : (first : Option ℕ) → refusing (judgedBy first) ≡ 0
+judging none = refl
+judging (some t) = failing t
 
 pub refused-given : (sheet F G : List ℕ) (n : ℕ) → claimAnswer sheet F G (neededWork sheet) ≡ Refused n → Given n
-unfolding claimAnswer claimVerdict
+unfolding claimAnswer verdictFor
 refused-given sheet F G n e = go (eqb fault 0) refl e (only-claim sheet F G fault (one-fault .claim sheet F G (neededWork sheet)))
   where
     fault : ℕ
@@ -103,6 +99,6 @@ refused-given sheet F G n e = go (eqb fault 0) refl e (only-claim sheet F G faul
     v = claimVerdict sheet (formulaTree F) (formulaTree G)
 
     go : (b : Bool) → eqb fault 0 ≡ b → cond b v (Refused fault) ≡ Refused n → (fault ≡ 0) ⊎ Given fault → Given n
-    go true q r h = let z : _≡_ {A = ℕ} 0 1 = sym (judging _ _ _) ∙ ap refusing r in absurd (omega arith)
+    go true q r h = let z : _≡_ {A = ℕ} 0 1 = sym (judging (claimFails sheet (formulaTree F) (formulaTree G))) ∙ ap refusing r in absurd (omega arith)
     go false q r (inl z) = absurd (eqb-false fault 0 q z)
     go false q r (inr h) = given fault n h (sym (ap faultOfVerdict r))

@@ -2,10 +2,10 @@
 use borrow.Author.Needs.{needs}
 use borrow.Author.Tests.{eq-eqb, ne-eqb}
 use native.Mathlib.Omega.{arith}
-use mathlib.Core.Path.{sym, ap, _∙_}
+use mathlib.Core.Path.{sym, _∙_}
 use lib.ListN.{take}
 use lib.Seq.{length-take-le}
-use Rattle.formulas.specs.Marks.{Mark, markOf, nextMark, expectMark, movedMark}
+use Rattle.formulas.specs.Marks.{markOf, nextMark, expectMark}
 use Rattle.formulas.proofs.Marking.{inside}
 use Rattle.formulas.proofs.mark.expect.Statement.{statement}
 use Rattle.formulas.proofs.mark.expect.Tie as tie

@@ -5,13 +5,11 @@ use Prim.Native.Nat.{ℕ, _+_, _*_, _-_, _≤_, _<_}
 use native.Mathlib.Omega.{arith}
 use mathlib.Core.Path.{_≡_, refl, sym, ap, _∙_}
 use mathlib.Core.Bool.{true, false}
-use mathlib.Core.List.{List}
-use lib.ListN.{length, take, drop}
-use lib.Seq.{length-take-le}
+use lib.ListN.{take, drop}
 use Rattle.formulas.specs.Grammar.{isLower, isNameByte}
 use Rattle.formulas.specs.Reader.{run}
 use Rattle.formulas.specs.Formula.{nameWord}
-use Rattle.formulas.specs.Marks.{Mark, markOf, nextMark, movedMark, putCode, Begun}
+use Rattle.formulas.specs.Marks.{markOf, nextMark, movedMark, putCode}
 use Rattle.formulas.proofs.Lending.{text-long}
 use Rattle.formulas.proofs.LeafPaths.{constant-room, constant-path, zero-is, one-is, name-room, name-path, bad-path, long-is, other-is}
 use Rattle.formulas.proofs.reader.leaf.Statement.{statement}
