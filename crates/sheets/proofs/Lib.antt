@@ -15,6 +15,7 @@ pub mod ReadBack
 pub mod Appending
 pub mod Named
 pub mod Theorems
+pub mod LookupPlace
 pub mod NameRule
 pub mod WordCuts
 pub mod Exactly

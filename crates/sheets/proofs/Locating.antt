@@ -118,7 +118,7 @@ lookup-none sheet name h =
     go true false a b z q = absurd (omega arith)
     go false k a b z q = absurd (omega arith)
 
-held-from : (sheet name : List ℕ) → among name (names (signalsOn sheet)) ≡ true
+pub held-from : (sheet name : List ℕ) → among name (names (signalsOn sheet)) ≡ true
     → among name (names (signalsFrom (countOn sheet) (drop 7 sheet))) ≡ true
 unfolding signalsOn
 held-from sheet name h = h

@@ -5,6 +5,7 @@ pub mod Reading
 pub mod Writing
 pub mod Calls
 pub mod PlaceSays
+pub mod LookupPlace
 pub mod Walk
 pub mod Theorems
 pub mod Sentences
