@@ -14,7 +14,7 @@ use Rattle.report.specs.Line.{digit, leading, decimal}
 use Rattle.report.specs.Decimal.{DecimalRight}
 
 -- one digit more
-from-more : (before : ℕ) (w : List ℕ) (b : ℕ) → valueFrom before (w ++ (b ∷ [])) ≡ valueFrom before w * 10 + (b - 48)
+pub from-more : (before : ℕ) (w : List ℕ) (b : ℕ) → valueFrom before (w ++ (b ∷ [])) ≡ valueFrom before w * 10 + (b - 48)
 unfolding valueFrom
 from-more before [] b = refl
 from-more before (a ∷ w) b = from-more (before * 10 + (a - 48)) w b
@@ -40,7 +40,7 @@ value-leading (suc k) n h = go (eqb n 0) refl (value-leading k (n / 10) (less k 
 tenth : (n : ℕ) → n < 10 ^ 10 → n / 10 < 10 ^ 9
 tenth n h = omega arith
 
-value-decimal : (n : ℕ) → n < 10 ^ 10 → value (decimal n) ≡ n
+pub value-decimal : (n : ℕ) → n < 10 ^ 10 → value (decimal n) ≡ n
 unfolding value decimal
 value-decimal n h =
     from-more 0 (leading 9 (n / 10)) (digit n)

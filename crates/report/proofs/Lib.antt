@@ -5,4 +5,5 @@ pub mod DecimalRight
 pub mod Filling
 pub mod Telling
 pub mod Refusals
+pub mod Reading
 pub mod OneLine

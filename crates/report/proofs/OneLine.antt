@@ -18,6 +18,7 @@ use Rattle.report.specs.OneLine.{longest, OneLine}
 use Rattle.report.specs.Reporting.{claimOf, printed}
 use Rattle.report.proofs.Filling.{length-line}
 use Rattle.report.proofs.Refusals.{Given, refused-given}
+use Rattle.report.proofs.Reading.{line-tells}
 
 -- a number has at most ten digits
 leading-length : (k n : ℕ) → length (leading k n) ≤ k
@@ -116,4 +117,5 @@ one-line =
       no7 = λ input e. given input 7 e .2 refl;
       no18 = λ input e. omega (arith, given input 18 e .1);
       refusals = given;
+      tells = line-tells;
     }
