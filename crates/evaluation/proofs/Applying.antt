@@ -23,9 +23,14 @@ use Rattle.operations.proofs.BuildingLaws.{slot-short}
 use Rattle.formulas.specs.Tree.{Unary, Binary, invert, rise, fall, ton, tof, and, or, sr, rs}
 use Rattle.formulas.specs.Code.{ticksOf}
 use Rattle.calls.specs.Calls.{partFault}
-use Rattle.evaluation.specs.Machine.{Given, Applied, partAnswer, unaryOf, binaryOf, unaryExact, binaryExact, AND-table, OR-table}
+use Rattle.evaluation.specs.Machine.{Given, partAnswer, unaryOf, binaryOf, unaryExact, binaryExact, AND-table, OR-table}
 use Rattle.signals.specs.Answers.{firstOf}
 use Rattle.signals.proofs.FirstFault.{next-is}
+
+-- the part's answer: 5 or 6, or its words
+pub record Applied (exact buffer : List ℕ) (answer : Written) : Type 0 where
+  pub answer-is : answer ≡ writtenOf (partFault exact) exact
+  pub stands : partFault exact ≡ 0 → take (length exact) buffer ≡ exact
 
 pub part-none : (exact : List ℕ) → partFault exact ≡ 0 → (length exact ≤ 256) × (changesAfterM exact ≡ false)
 unfolding partFault

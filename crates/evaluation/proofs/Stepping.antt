@@ -19,10 +19,10 @@ use Rattle.sheets.specs.Reading.{sheetFault}
 use Rattle.calls.specs.OnSheet.{exactOn}
 use Rattle.calls.specs.Calls.{partFault}
 use Rattle.evaluation.specs.declared.Next.{Next}
-use Rattle.evaluation.specs.Machine.{InSlot, Stacked, Enough, Known, Stepped, Applied, Ready, Room, Loaded, unaryExact, binaryExact, worked}
+use Rattle.evaluation.specs.Machine.{InSlot, Stacked, Enough, Known, Stepped, Ready, Room, Loaded, unaryExact, binaryExact, worked}
 use Rattle.evaluation.proofs.SlotFacts.{short, push-slot, below}
 use Rattle.evaluation.proofs.Exact.{unary-exact, binary-exact, accepted-part}
-use Rattle.evaluation.proofs.Applying.{part-none}
+use Rattle.evaluation.proofs.Applying.{Applied, part-none}
 
 -- what an answer says
 pub counted : (f : ℕ) (l : List ℕ) (n : ℕ) → writtenOf f l ≡ Count n → (f ≡ 0) × (n ≡ length l)

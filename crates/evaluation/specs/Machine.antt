@@ -138,11 +138,6 @@ partAnswer TooLong = written.Refused 5
 partAnswer TooLate = written.Refused 6
 partAnswer NotBegun = written.Count 0
 
--- the part's answer: 5 or 6, or its words
-pub record Applied (exact buffer : List ℕ) (answer : Written) : Type 0 where
-  pub answer-is : answer ≡ writtenOf (partFault exact) exact
-  pub stands : partFault exact ≡ 0 → take (length exact) buffer ≡ exact
-
 -- what a step may rely on: the stack that the slots hold, with the part's operands
 pub record Ready (sheet work counts : List ℕ) (base height : ℕ) (p : Part) : Type 0 where
   pub stack : List Tree

@@ -63,7 +63,7 @@ sum-every (sum.On date) h = rw (le-ltb M (date .0) h)
 sum-every (sum.PastM total) h = rw (lt-ltb M total h)
 sum-every (sum.Refused f) h = rw (is-fault f h)
 
-sumSays : SumSays
+pub sumSays : SumSays
 sumSays =
     record {
       fault = sum-fault;
@@ -96,7 +96,7 @@ module _ (words : List ℕ) where
   written-every (written.Count n) h e = ap written.Count e
   written-every (written.Refused f) h e = rw (is-fault f h)
 
-writtenSays : WrittenSays
+pub writtenSays : WrittenSays
 writtenSays =
     record {
       fault = λ f words. written-fault words f;
@@ -132,7 +132,7 @@ told-every told.Yes h = refl
 told-every told.No h = refl
 told-every (told.Refused f) h = rw (is-fault f h)
 
-toldSays : ToldSays
+pub toldSays : ToldSays
 toldSays = record { fault = told-fault; value = told-value; refused = told-refused; given = told-given; every = told-every }
 
 -- a claim's
@@ -163,7 +163,7 @@ verdict-every (verdict.FailsAt k) h = failsIn-instant k h
 verdict-every (verdict.FailsAfter k) h = failsIn-gap k
 verdict-every (verdict.Refused f) h = rw (is-fault f h)
 
-verdictSays : VerdictSays
+pub verdictSays : VerdictSays
 unfolding verdictFor
 verdictSays =
     record {

@@ -15,6 +15,9 @@ calls-OneEngine-AgreeingMeets = Rattle.calls.proofs.OneEngine.agreeing-meets
 pub calls-OneEngine-OneEngine : Rattle.calls.specs.OneEngine.OneEngine
 calls-OneEngine-OneEngine = Rattle.calls.proofs.OneEngine.one-engine
 
+pub calls-OneEngine-OneEngineWhereAnswered : Rattle.calls.specs.OneEngine.OneEngineWhereAnswered
+calls-OneEngine-OneEngineWhereAnswered = Rattle.calls.proofs.OneEngine.one-engine-where-answered
+
 pub calls-OneFault-OneFault : Rattle.calls.specs.OneFault.OneFault
 calls-OneFault-OneFault = Rattle.calls.proofs.OneEngine.one-fault
 
@@ -27,8 +30,8 @@ calls-Printed-Printed = Rattle.calls.proofs.Printed.printed
 pub calls-TreesOnSheets-TreesOnSheets : Rattle.calls.specs.TreesOnSheets.TreesOnSheets
 calls-TreesOnSheets-TreesOnSheets = Rattle.calls.proofs.NamedFormula.trees-on-sheets
 
-pub calls-WrongEngines-SixShutOut : Rattle.calls.specs.WrongEngines.SixShutOut
-calls-WrongEngines-SixShutOut = Rattle.calls.proofs.WrongEngines.six-shut-out
+pub calls-WrongEngines-SevenShutOut : Rattle.calls.specs.WrongEngines.SevenShutOut
+calls-WrongEngines-SevenShutOut = Rattle.calls.proofs.WrongEngines.seven-shut-out
 
 pub calls-WrongEngines-ZeroObeysEveryLaw : Rattle.calls.specs.WrongEngines.ZeroObeysEveryLaw
 calls-WrongEngines-ZeroObeysEveryLaw = Rattle.calls.proofs.ZeroObeys.zero-obeys
@@ -78,6 +81,15 @@ laws-Places-RewritingGoesBack = Rattle.laws.proofs.Places.rewriting-goes-back
 pub laws-Places-RewritingReachesEveryPart : Rattle.laws.specs.Places.RewritingReachesEveryPart
 laws-Places-RewritingReachesEveryPart = Rattle.laws.proofs.Places.rewriting-reaches-every-part
 
+pub laws-Printed-EverySubstitutionWritten : Rattle.laws.specs.Printed.EverySubstitutionWritten
+laws-Printed-EverySubstitutionWritten = Rattle.laws.proofs.Substitutions.every-substitution-written
+
+pub laws-Printed-RowsAsPrinted : Rattle.laws.specs.Printed.RowsAsPrinted
+laws-Printed-RowsAsPrinted = Rattle.laws.proofs.Printed.rows-as-printed
+
+pub laws-Printed-RowsWithFormulas : Rattle.laws.specs.Printed.RowsWithFormulas
+laws-Printed-RowsWithFormulas = Rattle.laws.proofs.Printed.rows-with-formulas
+
 pub laws-Soundness-EveryLawHolds : Rattle.laws.specs.Soundness.EveryLawHolds
 laws-Soundness-EveryLawHolds = Rattle.laws.proofs.Table.every-law-holds
 
@@ -90,14 +102,23 @@ laws-Soundness-RewritingKeepsTheSignal = Rattle.laws.proofs.Soundness.rewriting
 pub laws-Soundness-RewritingKeepsVerdicts : Rattle.laws.specs.Soundness.RewritingKeepsVerdicts
 laws-Soundness-RewritingKeepsVerdicts = Rattle.laws.proofs.Consequences.rewriting-keeps-verdicts
 
+pub laws-Substitutions-SubstitutionsExact : Rattle.laws.specs.Substitutions.SubstitutionsExact
+laws-Substitutions-SubstitutionsExact = Rattle.laws.proofs.Substitutions.substitutions-exact
+
 pub laws-WrongTurns-WrongTurns : Rattle.laws.specs.WrongTurns.WrongTurns
 laws-WrongTurns-WrongTurns = Rattle.laws.proofs.WrongTurns.wrong-turns
 
 pub lists-Equality-Equality : Rattle.lists.specs.Equality.Equality
 lists-Equality-Equality = Rattle.lists.proofs.Equality.equality
 
+pub lists-Giving-TidyingGives : Rattle.lists.specs.Giving.TidyingGives
+lists-Giving-TidyingGives = Rattle.lists.proofs.Giving.tidyingGives
+
 pub lists-Implication-Implication : Rattle.lists.specs.Implication.Implication
 lists-Implication-Implication = Rattle.lists.proofs.Implication.implication
+
+pub lists-ReaderSays-ReaderSays : Rattle.lists.specs.ReaderSays.ReaderSays
+lists-ReaderSays-ReaderSays = Rattle.lists.proofs.ReaderSays.readerSays
 
 pub operations-CallFaults-CallFaultsExact : Rattle.operations.specs.CallFaults.CallFaultsExact
 operations-CallFaults-CallFaultsExact = Rattle.operations.proofs.CallFaults.callFaultsExact
@@ -108,8 +129,20 @@ operations-CallFaults-ChangeIsWord = Rattle.operations.proofs.LateWords.changeI
 pub operations-CallFaults-NeverMet : Rattle.operations.specs.CallFaults.NeverMet
 operations-CallFaults-NeverMet = Rattle.operations.proofs.NeverMet.neverMet
 
+pub operations-OperationsGive-OperationsGive : Rattle.operations.specs.OperationsGive.OperationsGive
+operations-OperationsGive-OperationsGive = Rattle.operations.proofs.OperationsGive.operationsGive
+
 pub report-Decimal-DecimalRight : Rattle.report.specs.Decimal.DecimalRight
 report-Decimal-DecimalRight = Rattle.report.proofs.DecimalRight.decimal-right
+
+pub report-OneLine-OneLine : Rattle.report.specs.OneLine.OneLine
+report-OneLine-OneLine = Rattle.report.proofs.OneLine.one-line
+
+pub sheets-LookupPlace-LookupPlace : Rattle.sheets.specs.LookupPlace.LookupPlace
+sheets-LookupPlace-LookupPlace = Rattle.sheets.proofs.LookupPlace.lookup-place
+
+pub sheets-PlaceSays-PlaceSays : Rattle.sheets.specs.PlaceSays.PlaceSays
+sheets-PlaceSays-PlaceSays = Rattle.sheets.proofs.PlaceSays.place-says
 
 pub sheets-Sentences-AppendFaultsExact : Rattle.sheets.specs.Sentences.AppendFaultsExact
 sheets-Sentences-AppendFaultsExact = Rattle.sheets.proofs.ExactCalls.append-faults-exact
@@ -146,6 +179,21 @@ sheets-Theorems-ReadWritesBack = Rattle.sheets.proofs.Theorems.read-writes-back
 
 pub sheets-Theorems-WrittenReadsBack : Rattle.sheets.specs.Theorems.WrittenReadsBack
 sheets-Theorems-WrittenReadsBack = Rattle.sheets.proofs.Theorems.written-reads-back
+
+pub signals-AnswersSay-AnswersSay : Rattle.signals.specs.AnswersSay.AnswersSay
+signals-AnswersSay-AnswersSay = Rattle.signals.proofs.AnswersSay.answersSay
+
+pub signals-AnswersSay-SumSays : Rattle.signals.specs.AnswersSay.SumSays
+signals-AnswersSay-SumSays = Rattle.signals.proofs.AnswersSay.sumSays
+
+pub signals-AnswersSay-ToldSays : Rattle.signals.specs.AnswersSay.ToldSays
+signals-AnswersSay-ToldSays = Rattle.signals.proofs.AnswersSay.toldSays
+
+pub signals-AnswersSay-VerdictSays : Rattle.signals.specs.AnswersSay.VerdictSays
+signals-AnswersSay-VerdictSays = Rattle.signals.proofs.AnswersSay.verdictSays
+
+pub signals-AnswersSay-WrittenSays : Rattle.signals.specs.AnswersSay.WrittenSays
+signals-AnswersSay-WrittenSays = Rattle.signals.proofs.AnswersSay.writtenSays
 
 pub signals-Earliest-Earliest : Rattle.signals.specs.Earliest.Earliest
 signals-Earliest-Earliest = Rattle.signals.proofs.Implication.earliestFails
