@@ -24,6 +24,9 @@ use signals::Length;
 use signals::Verdict;
 use signals::Written;
 
+// The work words that a call needs.
+const WORK_WORDS: usize = 8192;
+
 // What working one part out gives: its fault or 0, the height of the stack after it and the word count of the list on top.
 struct Next {
     fault: u32,
@@ -431,7 +434,7 @@ pub fn evaluate(sheet: &[u8], formula: &[u8], work: &mut [u32], out: &mut [u32])
     let parts = prepare(sheet, formula, &mut codes);
     match parts {
         Written::Count(n) => {
-            if work.len() < 8192 {
+            if work.len() < WORK_WORDS {
                 return Written::Refused(18);
             }
             run_formula(sheet, formula, &codes, n, work, out)
@@ -500,7 +503,7 @@ fn claim_on(
     let parts = prepare(sheet, g, &mut g_codes);
     match parts {
         Written::Count(g_n) => {
-            if work.len() < 8192 {
+            if work.len() < WORK_WORDS {
                 return Verdict::Refused(18);
             }
             judge(sheet, f, f_codes, f_n, g, &g_codes, g_n, work)

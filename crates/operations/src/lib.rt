@@ -27,6 +27,9 @@ use signals::Date;
 use signals::M;
 use signals::Written;
 
+// The most words that an answer has.
+const WORDS: usize = 256;
+
 // The answer being built in a slot: the value after its last word, its words counted, and whether one is dated after M.
 struct Made {
     value: bool,
@@ -120,7 +123,7 @@ fn deliver(slot: &[u32], made: Made, out: &mut [u32]) -> Written
     ensures { λ r. ⌜ ((exact old : List ℕ) → Built exact old (now (slot .entry)) made → (r ≡ writtenOf (answerFault exact (length (now (out .entry)))) exact) × (now (out .exit) ≡ outputOf (answerFault exact (length (now (out .entry)))) exact (now (out .entry)))) ⌝ }
 {
     let count = made.count;
-    if 256 < count {
+    if WORDS < count {
         return Written::Refused(5);
     }
     if made.late {
@@ -345,7 +348,7 @@ fn finish(made: Made) -> SlotAnswer
     ensures { λ r. ⌜ ((exact old slot : List ℕ) → Built exact old slot made → r ≡ builtAnswer exact) ⌝ }
 {
     let count = made.count;
-    if 256 < count {
+    if WORDS < count {
         return SlotAnswer::TooLong;
     }
     if made.late {
