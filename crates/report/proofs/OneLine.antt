@@ -53,7 +53,10 @@ without (b ∷ bs) = not (eqb b 10) && without bs
 plain : (l : List ℕ) → without l ≡ true → Plain l
 unfolding without
 plain [] h = tt
-plain (b ∷ bs) h = (eqb-false b 10 (not-true (eqb b 10) (and-left (not (eqb b 10)) (without bs) h)), plain bs (and-right (not (eqb b 10)) (without bs) h))
+plain (b ∷ bs) h = (
+  eqb-false b 10 (not-true (eqb b 10) (and-left (not (eqb b 10)) (without bs) h)),
+  plain bs (and-right (not (eqb b 10)) (without bs) h),
+)
   where
     not-true : (t : Bool) → not t ≡ true → t ≡ false
     not-true true e = sym e

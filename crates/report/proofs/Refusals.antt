@@ -67,7 +67,8 @@ only-claim sheet F G =
     only-sheet sheet _
     (only-reading sheet F _
     (only-reading sheet G _
-    (only-passed 18 (Breaks18 sheet (neededWork sheet)) _ (λ l. omega arith) (only-working sheet F _ (only-working sheet G NoFault only-none)))))
+    (only-passed 18 (Breaks18 sheet (neededWork sheet)) _ (λ l. omega arith)
+    (only-working sheet F _ (only-working sheet G NoFault only-none)))))
 
 -- a verdict is no refusal
 abbrev refusing : Verdict → ℕ

@@ -1,5 +1,6 @@
 -- The program's work on an input: the claim that the input makes, the line of its answer, and the output that it is written to.
 use Prim.Native.Nat.{ℕ}
+use mathlib.Core.Path.{_≡_}
 use mathlib.Core.List.{List, _++_}
 use lib.ListN.{length, drop}
 use Rattle.signals.specs.declared.Verdict.{Verdict}
@@ -18,3 +19,7 @@ printed input = lineOf (claimOf input)
 -- an output that a line was written to: its bytes, those past them being the old ones
 unfoldable pub over : List ℕ → List ℕ → List ℕ
 over line old = line ++ drop (length line) old
+
+-- a line of so many bytes was written to an output
+abbrev pub Filled : List ℕ → List ℕ → List ℕ → ℕ → Type 0
+Filled line old exit count = (count ≡ length line) × (exit ≡ over line old)

@@ -5,7 +5,7 @@ ghost use lib.ListN.{length, take, drop, replicate};
 ghost use Rattle.report.specs.Input.{limit};
 ghost use Rattle.report.specs.Line.{decimal as Line·decimal, line as Line·line, lineOf};
 ghost use Rattle.report.specs.OneLine.{longest};
-ghost use Rattle.report.specs.Reporting.{printed, over};
+ghost use Rattle.report.specs.Reporting.{printed, Filled};
 use signals::Verdict;
 
 // The most bytes of the input that count.
@@ -57,7 +57,7 @@ fn decimal(n: u32, text: &mut [u8; 10]) -> usize
 // Writes a text, digits and a line feed, and says how many bytes these are.
 fn write_line(text: &[u8], digits: &[u8], out: &mut [u8]) -> usize
     requires { ⌜ (length (now text) ≤ 12) × (length (now digits) ≤ 10) × (length (now out) ≡ longest) ⌝ }
-    ensures { λ r. ⌜ (r ≡ length (Line·line (now (text .entry)) (now (digits .entry)))) × (now (out .exit) ≡ over (Line·line (now (text .entry)) (now (digits .entry))) (now (out .entry))) ⌝ }
+    ensures { λ r. ⌜ Filled (Line·line (now (text .entry)) (now (digits .entry))) (now (out .entry)) (now (out .exit)) r ⌝ }
 {
     let first = text.len();
     let last = first + digits.len();
@@ -70,7 +70,7 @@ fn write_line(text: &[u8], digits: &[u8], out: &mut [u8]) -> usize
 // Writes a text, a number in decimal and a line feed.
 fn write_number(text: &[u8], n: u32, out: &mut [u8]) -> usize
     requires { ⌜ (length (now text) ≤ 12) × (length (now out) ≡ longest) ⌝ }
-    ensures { λ r. ⌜ (r ≡ length (Line·line (now (text .entry)) (Line·decimal n))) × (now (out .exit) ≡ over (Line·line (now (text .entry)) (Line·decimal n)) (now (out .entry))) ⌝ }
+    ensures { λ r. ⌜ Filled (Line·line (now (text .entry)) (Line·decimal n)) (now (out .entry)) (now (out .exit)) r ⌝ }
 {
     let mut digits = [0u8; 10];
     let at = decimal(n, &mut digits);
@@ -80,7 +80,7 @@ fn write_number(text: &[u8], n: u32, out: &mut [u8]) -> usize
 // Writes the line of a claim's answer.
 fn tell(verdict: Verdict, out: &mut [u8]) -> usize
     requires { ⌜ length (now out) ≡ longest ⌝ }
-    ensures { λ r. ⌜ (r ≡ length (lineOf verdict)) × (now (out .exit) ≡ over (lineOf verdict) (now (out .entry))) ⌝ }
+    ensures { λ r. ⌜ Filled (lineOf verdict) (now (out .entry)) (now (out .exit)) r ⌝ }
 {
     match verdict {
         Verdict::Holds => write_line(b"holds", b"", out),
@@ -90,10 +90,11 @@ fn tell(verdict: Verdict, out: &mut [u8]) -> usize
     }
 }
 
-// The report of the first n bytes of an input: the line of the claim that they make. The type of the input has the bytes that count, and the
-// line has those of the longest, so that it is never refused with 7; the work area is long enough, so that no claim is refused with 18.
+// The report of the first n bytes of an input: the line of the claim that they make. The type of the input has the bytes that count, and
+// the line has those of the longest, so that it is never refused with 7; the work area is long enough, so that no claim is refused with 18.
 pub fn report(input: &[u8; BYTES], n: usize) -> Line
-    ensures { λ r. ⌜ (length (now (input .entry)) ≡ limit) × (r .«count» ≡ length (printed (take n (now (input .entry))))) × (r .«bytes» ≡ over (printed (take n (now (input .entry)))) (replicate longest 0)) ⌝ }
+    ensures { λ r. ⌜ length (now (input .entry)) ≡ limit ⌝ }
+    ensures { λ r. ⌜ Filled (printed (take n (now (input .entry)))) (replicate longest 0) (r .«bytes») (r .«count») ⌝ }
     ensures { λ r. ⌜ (r .«count» ≤ length (r .«bytes»)) × (r .«count» ≡ length (take (r .«count») (r .«bytes»))) ⌝ }
 {
     let text = first(input, n);

@@ -53,7 +53,7 @@ returns c =
     let room : length (told .last .1 .0) ≡ longest = search needs in
     let counts = counted-first (a .n) (now (a .input)) (now (text .result)) whole (text .ensures) in
     let filled = report-told (take (a .n) (now (a .input))) (now (text .result)) (now (after .result)) (now (sheet .result)) (now (f .result)) (now (g .result)) counts (after .ensures) (sheet .ensures) (f .ensures) (g .ensures) (said .result) (replicate longest 0) (told .last .1 .0) _ (told .result) (search needs) (said .ensures .0) (told .ensures) in
-    ((whole, filled .0, filled .1), within (said .result) (replicate longest 0) (told .last .1 .0) (told .result) room (told .ensures))
+    (whole, (filled, within (said .result) (replicate longest 0) (told .last .1 .0) (told .result) room (told .ensures)))
 
 pub report-spec : {M : Type 1} → statement M
 report-spec =
