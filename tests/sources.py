@@ -7,6 +7,8 @@ ANTT = re.compile(r'\s+|--[^\n]*|"(?:\\.|[^"\\])*"|«[^»]*»|[(){}.;,@]|[^\s(){
 RATTLE = re.compile(r"""\s+|//[^\n]*|b?"(?:\\.|[^"\\])*"|b'(?:\\.|[^'\\])'|'\w+|->|\w+|.""", re.S)
 MARKS = ("pub", "unfoldable", "abbrev", "axiom")
 CLAUSES = ("ghost", "requires", "ensures")
+# the libraries of the test programs, no part of the product
+TEST_SUPPORT = {"fields", "random_formulas", "random_sheets"}
 
 
 class Token(str):
