@@ -63,7 +63,8 @@ def shown(words):
 
 
 def call(label, operation, d, operands, room, slot):
-    """A call's line. A slot must have 256 words, and keeps the words up to M of an answer that changes after M."""
+    """A call's line. In a slot, which must have 256 words, a call that does not begin shows 0, and the words up to M of an answer
+    that changes after M stay."""
     fault = next(filter(None, map(list_fault, operands)), 0) or (8 if d > M else 0)
     words = [] if fault else operation(d, *map(Signal, (operands * 2)[:2]))
     if not fault:
@@ -71,7 +72,8 @@ def call(label, operation, d, operands, room, slot):
     count = 0 if fault else len(words)
     left = [word for word in words if word // 4 <= M] if slot and fault == 6 else words[:count]
     out = left + [7] * (room - len(left))
-    return "%s%s = %d %d%s" % (label, "".join(map(shown, operands)), fault, count, shown(out))
+    number = 0 if slot and fault not in (5, 6) else fault
+    return "%s%s = %d %d%s" % (label, "".join(map(shown, operands)), number, count, shown(out))
 
 
 def row_line(row):

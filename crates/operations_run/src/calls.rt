@@ -3,6 +3,7 @@ use super::list;
 use super::print;
 use super::show;
 use super::word;
+use operations::SlotAnswer;
 use signals::Length;
 use signals::Written;
 
@@ -73,7 +74,7 @@ fn show_call(operation: u32, d: u32, a: &[u32], b: &[u32]) {
     }
 }
 
-fn answer_in(operation: u32, d: u32, a: &[u32], b: &[u32], out: &mut [u32]) -> Written {
+fn given_in(operation: u32, d: u32, a: &[u32], b: &[u32], out: &mut [u32]) -> SlotAnswer {
     match operation {
         NOT_IN => operations::not_in(a, out),
         RISING_IN => operations::rising_in(a, out),
@@ -83,6 +84,16 @@ fn answer_in(operation: u32, d: u32, a: &[u32], b: &[u32], out: &mut [u32]) -> W
         RS_IN => operations::rs_in(a, b, out),
         TON_IN => operations::delay::ton_in(Length(d), a, out),
         _ => operations::delay::tof_in(Length(d), a, out),
+    }
+}
+
+// A slot's answer, to be shown: too long as 5, too late as 6, a call that did not begin as 0.
+fn shown_as(answer: SlotAnswer) -> Written {
+    match answer {
+        SlotAnswer::Stands(count) => Written::Count(count),
+        SlotAnswer::TooLong => Written::Refused(5),
+        SlotAnswer::TooLate => Written::Refused(6),
+        SlotAnswer::NotBegun => Written::Refused(0),
     }
 }
 
@@ -96,7 +107,7 @@ fn answer(operation: u32, d: u32, a: &[u32], b: &[u32], out: &mut [u32]) -> Writ
         RS => operations::rs(a, b, out),
         TON => operations::delay::ton(Length(d), a, out),
         TOF => operations::delay::tof(Length(d), a, out),
-        _ => answer_in(operation, d, a, b, out),
+        _ => shown_as(given_in(operation, d, a, b, out)),
     }
 }
 
