@@ -239,7 +239,7 @@ pub fn value_at(list: &[u32], k: u32) -> Told
     if k == 0 {
         return Told::Refused(9);
     }
-    if M < k {
+    if k > M {
         return Told::Refused(9);
     }
     let step = search(list, Date(k));
