@@ -31,7 +31,8 @@ use Rattle.calls.specs.Demand2.{Delivered}
 use Rattle.calls.specs.Demand3.{Served, wordsGiven, RefusedAs, Demand3}
 use Rattle.calls.specs.OneEngine.{AgreesWhereAnswered}
 use Rattle.calls.proofs.ReadingFaults.{derived, text-fine}
-use Rattle.calls.proofs.NotRefused.{Clear, answered-clear, clear-short, clear-tight, no-fault, call-refused, enough-served, claim-fault-shown, given-claim, short-claim, not-refused}
+use Rattle.calls.proofs.NotRefused.{Clear, answered-clear, clear-answered, clear-short, clear-tight, no-fault, call-refused, enough-served}
+use Rattle.calls.proofs.NotRefused.{claim-clear, claim-fault-shown, given-claim, short-claim, not-refused}
 use Rattle.calls.proofs.Demand2.{clear-list, output-kept, delivered, words-given, shown, judged-as, claim-judged}
 
 -- one verdict for two signals
@@ -145,6 +146,7 @@ module _ (E : Engine) (A : AgreesWhereAnswered E) where
             rw (A .claim sheet F G a b work) (claim-judged sheet F G work (sym (claim-shows sheet F G a b work) ∙ z) f g d e w v);
         claimServed = λ sheet F G a b work l. ap faultOfVerdict (A .claim sheet F G a b work) ∙ not-refused .verdicts sheet F G a b work l;
         claimShortWork = λ sheet F G a b work l. A .claim sheet F G a b work ∙ short-claim sheet F G a b work l;
+        claimAnswered = A .noOtherClaim;
         lists = λ sheet F a work old e.
             let c = answered-clear sheet F a in
             let w = derived F (text-fine sheet F (c .text-ok)) in
@@ -166,6 +168,12 @@ module _ (E : Engine) (A : AgreesWhereAnswered E) where
             );
       }
 
+-- a claim without a fault is of two answered formulas
+judged-answered : (sheet F G : List ℕ) (work : ℕ) → faultOfVerdict (claimAnswer sheet F G work) ≡ 0 → Answered sheet F × Answered sheet G
+judged-answered sheet F G work e =
+    let c = claim-clear sheet F G work (sym (claim-fault-shown sheet F G work) ∙ e) in
+    (clear-answered sheet F (c .0), clear-answered sheet G (c .1))
+
 pub demand3 : Demand3 defined
 demand3 =
     meets3 defined
@@ -174,4 +182,5 @@ demand3 =
       output = λ sheet formula a work old. refl;
       claim = λ sheet F G a b work. refl;
       noOther = not-refused .means;
+      noOtherClaim = judged-answered;
     })

@@ -192,6 +192,7 @@ one-engine-where-answered E = (
         output = λ sheet formula a work old. alike-answered E D sheet formula a work old .1;
         claim = alike-claim E D;
         noOther = D .answered;
+        noOtherClaim = D .claimAnswered;
       },
   meets3 E,
 )

@@ -1,4 +1,4 @@
--- Demand 3 as a predicate of an engine, sentence by sentence.
+-- Demand 3 said of any engine, sentence by sentence.
 use Prim.Native.Nat.{ℕ, _≤_, _<_}
 use mathlib.Core.Path.{_≡_}
 use mathlib.Core.Logic.{_↔_}
@@ -26,7 +26,7 @@ Served E sheet formula work old = faultIn (E .answer sheet formula work old) ≡
 abbrev pub wordsGiven : Engine → List ℕ → List ℕ → ℕ → List ℕ → List ℕ
 wordsGiven E sheet formula work old = take (countIn (E .answer sheet formula work old)) (E .output sheet formula work old)
 
--- F and G give the same word count and the same words, whatever work areas they had and whatever their outputs held
+-- F and G give the same word count and the same words, however many work words they had and whatever their outputs held
 pub record SameWords (E : Engine) (sheet F G : List ℕ) : Type 0 where
   pub count : (workF workG : ℕ) (oldF oldG : List ℕ) → Served E sheet F workF oldF → Served E sheet G workG oldG
       → countIn (E .answer sheet F workF oldF) ≡ countIn (E .answer sheet G workG oldG)
@@ -71,6 +71,9 @@ pub record Demand3 (E : Engine) : Type 0 where
       → faultOfVerdict (E .claim sheet F G work) ≡ 0
   pub claimShortWork : (sheet F G : List ℕ) → Answered sheet F → Answered sheet G → (work : ℕ) → work < neededWork sheet
       → E .claim sheet F G work ≡ verdict.Refused 18
+  -- a claim call without a fault is of two answered formulas
+  pub claimAnswered : (sheet F G : List ℕ) (work : ℕ) → faultOfVerdict (E .claim sheet F G work) ≡ 0
+      → Answered sheet F × Answered sheet G
   -- "Each answered formula gives the one normal list of its signal,"
   pub lists : (sheet F : List ℕ) → Answered sheet F → (work : ℕ) (old : List ℕ) → Served E sheet F work old
       → GivesTheList E sheet F work old

@@ -6,7 +6,8 @@ use Rattle.signals.specs.declared.Verdict.{Verdict}
 use Rattle.calls.specs.Calls.{callAnswer, callOutput, claimAnswer}
 
 pub record Engine : Type 0 where
-  -- sheet bytes, formula bytes, number of work words, output words: the answer, and the output words after the call
+  -- sheet bytes, formula bytes, number of work words (the contracts say that nothing else of the work area counts), output words: the
+  -- answer, and the output words after the call
   pub answer : List ℕ → List ℕ → ℕ → List ℕ → Written
   pub output : List ℕ → List ℕ → ℕ → List ℕ → List ℕ
   -- sheet bytes, F, G, number of work words: the answer

@@ -131,12 +131,12 @@ pub record Given (exact buffer : List ℕ) (answer : SlotAnswer) : Type 0 where
   pub answer-is : answer ≡ builtAnswer exact
   pub stands : partFault exact ≡ 0 → take (length exact) buffer ≡ exact
 
--- document 01's number for each case of it: 5 or 6, or the word count; one that did not begin, which is not met, has no words
+-- document 01's number for each case of it: 5 or 6, or the word count; one that did not begin, which is not met, passes for no answer
 abbrev pub partAnswer : SlotAnswer → Written
 partAnswer (Stands n) = written.Count n
 partAnswer TooLong = written.Refused 5
 partAnswer TooLate = written.Refused 6
-partAnswer NotBegun = written.Count 0
+partAnswer NotBegun = written.Refused 5
 
 -- what a step may rely on: the stack that the slots hold, with the part's operands
 pub record Ready (sheet work counts : List ℕ) (base height : ℕ) (p : Part) : Type 0 where

@@ -174,7 +174,7 @@ fn part_answer(given: SlotAnswer) -> Written
         SlotAnswer::Stands(count) => Written::Count(count),
         SlotAnswer::TooLong => Written::Refused(5),
         SlotAnswer::TooLate => Written::Refused(6),
-        SlotAnswer::NotBegun => Written::Count(0),
+        SlotAnswer::NotBegun => Written::Refused(5),
     }
 }
 

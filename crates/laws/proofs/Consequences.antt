@@ -43,8 +43,8 @@ lists f g e n m p q = one-list f n m p (rw e q) ∙ ap (λ s. listOf s m) e
 verdicts : (f g third : Signal) → f ≡ g → (n m : ℕ) → SettledFrom f n → SettledFrom third n → SettledFrom g m → SettledFrom third m → SameVerdicts f g third n m
 verdicts f g third e n m a b c d =
     record {
-      asFirst = one-verdict f third n m a b (rw e c) d ∙ ap (λ s. verdictOf s third m) e;
-      asSecond = one-verdict third f n m b a d (rw e c) ∙ ap (λ s. verdictOf third s m) e;
+      asSecond = one-verdict f third n m a b (rw e c) d ∙ ap (λ s. verdictOf s third m) e;
+      asFirst = one-verdict third f n m b a d (rw e c) ∙ ap (λ s. verdictOf third s m) e;
     }
 
 pub rewriting-keeps-the-list : RewritingKeepsTheList

@@ -93,7 +93,7 @@ unfoldable pub rightOf : List ℕ → List ℕ
 rightOf [] = []
 rightOf (b ∷ w) = cond (eqb b 61) w (rightOf w)
 
--- signs of the texts, each with what is put for it: the length terms, d+e before d, with which it begins; the letters
+-- The signs in the texts, each with what is put for it: the length terms, d+e before d because it begins with d; the letters.
 unfoldable pub lengthSigns : (LengthTerm → List ℕ) → List (String × List ℕ)
 lengthSigns w = ("the larger", w larger) ∷ ("the smaller", w smaller) ∷ ("d+e", w d+e) ∷ ("d", w d) ∷ ("e", w e) ∷ []
 
@@ -148,7 +148,7 @@ pub record RowsAsPrinted : Type 0 where
   pub rows : (n : ℕ) → 1 ≤ n → n ≤ 55 → (x : Substitution) → OwnNames x → (w : LengthTerm → List ℕ) → Digits w x
       → AsPrinted (lengthSigns w) (textOf n) x (equation n)
 
--- The texts write what is put for the letters, d and e: a formula "in brackets where the grouping needs them", which makes it a factor.
+-- The texts of what is put for the letters, d and e: a formula is written as a factor, in brackets if it is not one already.
 pub record Write (v : Letter → List ℕ) (w : LengthTerm → List ℕ) (x : Substitution) : Type 0 where
   pub formulas : (l : Letter) → (depth : ℕ) × Factor (v l) (x .formula l) depth
   pub lengths : Digits w x

@@ -47,7 +47,7 @@ abbrev pub after : Direction → Equation → Scheme
 after forward q = q .right
 after backward q = q .left
 
--- a step: an equation's number, the direction, what is put for the letters, and the part's place
+-- a step: an equation's number, the direction, what is put for the letters, d and e, and the part's place
 pub record Step : Type 0 where
   pub number : ℕ
   pub direction : Direction

@@ -31,8 +31,8 @@ RewritingKeepsTheList =
 
 -- two signals that settle have equal verdicts with a third, as the first side of a claim and as the second
 pub record SameVerdicts (f g third : Signal) (n m : ℕ) : Type 0 where
-  pub asFirst : verdictOf f third n ≡ verdictOf g third m
-  pub asSecond : verdictOf third f n ≡ verdictOf third g m
+  pub asFirst : verdictOf third f n ≡ verdictOf third g m
+  pub asSecond : verdictOf f third n ≡ verdictOf g third m
 
 abbrev pub RewritingKeepsVerdicts : Type 0
 RewritingKeepsVerdicts =

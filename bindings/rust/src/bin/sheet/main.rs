@@ -18,7 +18,7 @@ A text has one line a signal, with a name of 1 to 8 lowercase letters and digits
   NAME = 0 23 38                                   the words themselves
 Empty lines and lines that begin with # say nothing.
 
-A sheet file is written whole or left as it was. One that is there keeps its mode; a link stays and the file that it points
+A sheet file is written whole or left as it was. One that is there keeps its mode; a symbolic link stays and the file that it points
 to is written. Refused: what is no regular file, the file TEXT itself, and a file that may not be written.
 
 Exit status: 0 done, 1 not done, 2 wrong use.
