@@ -67,7 +67,7 @@ counted c =
     (read16 .result) (read16 .ensures .0) (c .before .before .if4 .left) (c .before .if5 .left) (c .read162 .result) (c .read162 .ensures .0)
 
 returns-5 : tie.Need-returns-5
-returns-5 c = sym (counted (c .before) ∙ rw (lt-ltb _ _ (c .if6 .taken)) refl)
+returns-5 c = sym (counted (c .before) ∙ rw (lt-ltb 32 (c .before .read162 .result) (c .if6 .taken)) refl)
 
 returns-6 : tie.Need-returns-6
 returns-6 c = sym (counted (c .before) ∙ rw (le-ltb _ _ (c .if6 .left)) refl)
