@@ -1,4 +1,4 @@
--- One step of rewriting a formula's tree: one part, the whole included, found by its place in working-out order, by one equation either way.
+-- One step of rewriting a formula's tree: one part, the whole included, found by its place in working-out order, by an equation either way.
 use Prim.Native.Nat.{ℕ, _+_, _-_, _≤_, _<_}
 use mathlib.Core.Path.{_≡_}
 use mathlib.Core.Bool.{cond}
