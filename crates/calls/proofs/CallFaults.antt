@@ -17,8 +17,10 @@ use Rattle.sheets.specs.Reading.{sheetFault}
 use Rattle.calls.specs.OnSheet.{signalOn, exactOn}
 use Rattle.calls.specs.Calls.{neededWork, readingFault, workFault, partsFault, workingFault, wordsOn, roomFault, callFault, claimFault}
 use Rattle.calls.specs.NormalLists.{ListFor}
-use Rattle.calls.specs.Tabled.{Check, NoFault, SheetBreaks, Breaks18, Meets5, Meets6, FineBefore, Breaks5, Breaks6, Breaks7, ReadingChecks, WorkingChecks, CallFaultIs, ClaimFaultIs}
-use Rattle.calls.proofs.FirstFault.{first-some, zero-or-not, check-by}
+use Rattle.calls.specs.Tabled.{SheetBreaks, Breaks18, Meets5, Meets6, FineBefore, Breaks5, Breaks6, Breaks7, ReadingChecks, WorkingChecks, CallFaultIs, ClaimFaultIs}
+use Rattle.signals.specs.Checks.{Check, NoFault}
+use Rattle.calls.proofs.FirstFault.{first-some, zero-or-not}
+use Rattle.signals.proofs.Checks.{check-by}
 use Rattle.calls.proofs.Settles.{exact-for, one-for}
 use Rattle.calls.proofs.PartFaults.{parts-fault}
 use Rattle.calls.proofs.ReadingFaults.{derived, text-fine, reading-fault}

@@ -1,12 +1,11 @@
 -- Tests and checks that give a fault.
 use Prim.Native.Nat.{ℕ, _<_}
 use native.Mathlib.Omega.{arith}
-use mathlib.Core.Path.{_≡_, refl, sym, _∙_}
+use mathlib.Core.Path.{_≡_, refl, _∙_}
 use mathlib.Core.Bool.{Bool, true, false, cond}
 use mathlib.Core.Logic.{_⊎_, inl, inr}
 use lib.Dec.{eqb}
 use borrow.Author.Tests.{eqb-true, eqb-false}
-use Rattle.calls.specs.Tabled.{Check}
 use Rattle.signals.specs.Answers.{firstOf}
 use Rattle.signals.proofs.FirstFault.{first-is}
 
@@ -30,19 +29,3 @@ zero-or-not n = go (eqb n 0) refl
     go : (b : Bool) → eqb n 0 ≡ b → (n ≡ 0) ⊎ (¬ (n ≡ 0))
     go true q = inl (eqb-true n 0 q)
     go false q = inr (eqb-false n 0 q)
-
--- checks give one fault
-abbrev pub Single : (ℕ → Type 0) → Type 0
-Single P = (n m : ℕ) → P n → P m → n ≡ m
-
-pub check-single : {number : ℕ} {Broken : Type 0} {later : ℕ → Type 0} → Single later → Single (Check number Broken later)
-check-single h n m (inl a) (inl b) = a .1 ∙ sym (b .1)
-check-single h n m (inl a) (inr b) = absurd (b .0 (a .0))
-check-single h n m (inr a) (inl b) = absurd (a .0 (b .0))
-check-single h n m (inr a) (inr b) = h n m (a .1) (b .1)
-
--- a check by its test
-pub check-by : (number rest : ℕ) (Broken : Type 0) (later : ℕ → Type 0) (b : Bool) → (b ≡ true → Broken) → (b ≡ false → ¬ Broken)
-    → (b ≡ false → later rest) → Check number Broken later (cond b number rest)
-check-by number rest Broken later true held free next = inl (held refl, refl)
-check-by number rest Broken later false held free next = inr (free refl, next refl)

@@ -16,13 +16,15 @@ use Rattle.signals.specs.declared.Verdict.{Verdict}
 use Rattle.signals.specs.declared.Verdict.the-variants as verdict
 use Rattle.calls.specs.Calls.{neededWork, wordsOn, callFault, callAnswer, callOutput, claimFault, claimAnswer}
 use Rattle.calls.specs.Engine.{Engine, defined}
-use Rattle.calls.specs.Tabled.{NoFault, ReadingChecks, WorkingChecks, CallFaultIs, ClaimFaultIs}
+use Rattle.calls.specs.Tabled.{ReadingChecks, WorkingChecks, CallFaultIs, ClaimFaultIs}
+use Rattle.signals.specs.Checks.{NoFault}
 use Rattle.calls.specs.Demand2.{GivesTheList, Demand2}
 use Rattle.calls.specs.Demand3.{RefusedAs, Demand3}
 use Rattle.calls.specs.Answered.{Answered, Enough}
 use Rattle.calls.specs.OneFault.{OneFault}
 use Rattle.calls.specs.OneEngine.{Agrees, OneEngine, OneEngineWhereAnswered, AgreeingMeets}
-use Rattle.calls.proofs.FirstFault.{Single, check-single, zero-or-not}
+use Rattle.calls.proofs.FirstFault.{zero-or-not}
+use Rattle.signals.proofs.Checks.{Single, check-single}
 use Rattle.calls.proofs.SheetLists.{sheet-of}
 use Rattle.calls.proofs.ReadingFaults.{derived, text-fine}
 use Rattle.calls.proofs.CallFaults.{call-fault, claim-fault}

@@ -17,7 +17,8 @@ use Rattle.sheets.specs.Names.{among}
 use Rattle.sheets.specs.Reading.{signalsOn, names}
 use Rattle.calls.specs.OnSheet.{namesFound}
 use Rattle.calls.specs.Calls.{readingFault}
-use Rattle.calls.specs.Tabled.{Check, Names, Breaks13, ReadingChecks}
+use Rattle.calls.specs.Tabled.{Names, Breaks13, ReadingChecks}
+use Rattle.signals.specs.Checks.{Check}
 use Rattle.calls.proofs.FirstFault.{passed, first-some}
 use Rattle.signals.specs.Answers.{firstOf}
 use Rattle.signals.proofs.FirstFault.{both-none, next-is}

@@ -8,7 +8,8 @@ use Rattle.sheets.specs.Bytes.{Bytes}
 use Rattle.sheets.specs.Reading.{sheetFault}
 use Rattle.sheets.specs.Sentences.{SheetFaulty}
 use Rattle.sheets.proofs.ExactSheets.{sheet-faults-exact}
-use Rattle.calls.specs.Tabled.{Check, NoFault, SheetBreaks, Breaks7, Breaks18, ReadingChecks, WorkingChecks, CallFaultIs, ClaimFaultIs}
+use Rattle.calls.specs.Tabled.{SheetBreaks, Breaks7, Breaks18, ReadingChecks, WorkingChecks, CallFaultIs, ClaimFaultIs}
+use Rattle.signals.specs.Checks.{Check, NoFault}
 
 -- none of the numbers 14 to 17
 abbrev Other : (ℕ → Type 0) → Type 0

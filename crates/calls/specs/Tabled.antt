@@ -8,6 +8,7 @@ use lib.ListN.{length, getD}
 use Rattle.signals.specs.Moment.{M}
 use Rattle.signals.specs.Signal.{Signal}
 use Rattle.signals.specs.Words.{dateOf}
+use Rattle.signals.specs.Checks.{Check, NoFault}
 use Rattle.formulas.specs.Tree.{Tree, Leaf, leaf, unary, binary, down, up, name}
 use Rattle.formulas.specs.Grammar.{Writes}
 use Rattle.formulas.specs.Exactness.{Ten, Eleven, Eight, Twelve}
@@ -17,13 +18,6 @@ use Rattle.sheets.specs.Reading.{sheetFault, signalsOn, names}
 use Rattle.calls.specs.OnSheet.{signalOn}
 use Rattle.calls.specs.Calls.{neededWork}
 use Rattle.calls.specs.NormalLists.{ListFor}
-
--- the fault that a check and those after it give: its number where its sentence holds, else what those after it give
-abbrev pub Check : ℕ → Type 0 → (ℕ → Type 0) → ℕ → Type 0
-Check number Broken later fault = (Broken × (fault ≡ number)) ⊎ ((¬ Broken) × later fault)
-
-abbrev pub NoFault : ℕ → Type 0
-NoFault fault = fault ≡ 0
 
 -- 14 to 17, by the sheet's own fault
 abbrev pub SheetBreaks : List ℕ → Type 0

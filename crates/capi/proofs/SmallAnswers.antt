@@ -15,7 +15,7 @@ use Rattle.signals.specs.declared.Written.the-variants as written
 use Rattle.signals.specs.declared.Verdict.{Verdict}
 use Rattle.signals.specs.declared.Verdict.the-variants as verdict
 use Rattle.signals.proofs.AnswersSay.{answersSay}
-use Rattle.signals.proofs.ListFaults.{listFaultsExact}
+use Rattle.signals.proofs.ListFaults.{list-fault-range}
 use Rattle.capi.specs.Packing.{SmallWritten, SmallVerdict}
 use Rattle.signals.specs.Answers.{firstOf}
 
@@ -28,7 +28,7 @@ unfolding firstOf
 first-small f g a b = choice (eqb f 0) g f b a
 
 pub list-small : (l : List ℕ) → listFault l < 65536
-list-small l = omega (arith, listFaultsExact .range l)
+list-small l = omega (arith, list-fault-range l)
 
 pub written-small : (fault : ℕ) (words : List ℕ) → fault < 65536 → (fault ≡ 0 → length words < 65536) → SmallWritten (writtenOf fault words)
 unfolding writtenOf

@@ -13,6 +13,7 @@ pub mod Implication
 pub mod AnswersSay
 pub mod Starred
 pub mod Settling
+pub mod Checks
 pub mod WordFaults
 pub mod HeadFaults
 pub mod ListFaults

@@ -1,98 +1,80 @@
--- Faults 1 to 4 are given exactly when their sentences hold.
-use Prim.Native.Nat.{ℕ, zero, suc, _≤_}
+-- Faults 1 to 4 are given exactly when their sentences hold and none before them does.
+use Prim.Native.Nat.{ℕ, zero, suc, _≤_, _<_}
 use native.Mathlib.Omega.{arith}
-use mathlib.Core.Path.{_≡_, refl, _∙_}
-use mathlib.Core.Logic.{inl}
+use mathlib.Core.Path.{_≡_, refl}
+use mathlib.Core.Bool.{Bool, true, false}
+use mathlib.Core.Logic.{_⊎_, inl, inr}
 use mathlib.Core.List.{List, [], _∷_}
-use borrow.Author.Tests.{lt-ltb}
+use lib.Dec.{ltb}
+use borrow.Author.Tests.{ltb-true, ltb-false}
 use Rattle.signals.specs.Words.{headValue, wordsFault, listFault}
-use Rattle.signals.specs.ListFaults.{Breaks1, Breaks2, Breaks3, Breaks4, SoundBefore, AllSound, ListFaultsExact}
-use Rattle.signals.proofs.WordFaults.{Says, says-words, gives-0, gives-3, gives-4, low-of, of-low, idle-of, of-idle, fine-of, of-fine}
-use Rattle.signals.proofs.HeadFaults.{not-long, long-test, headFault, past-head, Head, long, high, past, head-ways}
+use Rattle.signals.specs.Checks.{Check, NoFault}
+use Rattle.signals.specs.ListFaults.{Breaks3, Breaks4, First3, First4, ListFaultIs, ListFaultsExact}
+use Rattle.signals.proofs.Checks.{Single, none-single, check-single, exactly}
+use Rattle.signals.proofs.HeadFaults.{head-checks}
+use Rattle.signals.proofs.WordFaults.{Fine, Says, says-words, low-of, of-low, idle-of, of-idle, of-fine}
 
--- what the fault of a list says of it
-abbrev Gets : ℕ → List ℕ → Type 0
-Gets zero l = (¬ Breaks1 l) × (¬ Breaks2 l) × AllSound l
-Gets (suc zero) l = Breaks1 l
-Gets (suc (suc zero)) l = (¬ Breaks1 l) × Breaks2 l
-Gets (suc (suc (suc zero))) l = (¬ Breaks1 l) × (¬ Breaks2 l) × ((i : ℕ) × Breaks3 l i × SoundBefore l i)
-Gets (suc (suc (suc (suc zero)))) l =
-    (¬ Breaks1 l) × (¬ Breaks2 l) × ((i : ℕ) × Breaks4 l i × (¬ Breaks3 l i) × SoundBefore l i)
-Gets (suc (suc (suc (suc (suc n))))) l = ⊥
-
-gets-words : (h : ℕ) (ws : List ℕ) → (¬ Breaks1 (h ∷ ws)) → (¬ Breaks2 (h ∷ ws)) → (n : ℕ) → Says n 0 (headValue h) ws → Gets n (h ∷ ws)
-gets-words h ws a b zero s = (a, b, λ i. of-fine h ws i (λ j l. s j) i (omega arith))
-gets-words h ws a b (suc zero) s = absurd s
-gets-words h ws a b (suc (suc zero)) s = absurd s
-gets-words h ws a b (suc (suc (suc zero))) s = (a, b, (suc (s .0), of-low h ws (s .0) (s .1), of-fine h ws (s .0) (s .2)))
-gets-words h ws a b (suc (suc (suc (suc zero)))) s =
-    (a, b, (suc (s .0), of-idle h ws (s .0) (s .1), (λ c. s .2 (low-of h ws (s .0) c)), of-fine h ws (s .0) (s .3)))
-gets-words h ws a b (suc (suc (suc (suc (suc n))))) s = absurd s
-
-gets : (l : List ℕ) → Gets (listFault l) l
-unfolding listFault
-gets [] = inl refl
-gets (h ∷ ws) = go (head-ways h ws (wordsFault 0 (headValue h) ws))
+order : (a b : ℕ) → (a < b) ⊎ ((b < a) ⊎ (a ≡ b))
+order a b = go (ltb a b) (ltb b a) refl refl
   where
-    go : Head h ws (wordsFault 0 (headValue h) ws) → Gets (headFault h ws (wordsFault 0 (headValue h) ws)) (h ∷ ws)
-    go (long b e) = rw e b
-    go (high a b e) = rw e (a, b)
-    go (past a b e) = rw e (gets-words h ws a b (wordsFault 0 (headValue h) ws) (says-words 0 (headValue h) ws))
+    go : (t u : Bool) → ltb a b ≡ t → ltb b a ≡ u → (a < b) ⊎ ((b < a) ⊎ (a ≡ b))
+    go true u p q = inl (ltb-true a b p)
+    go false true p q = inr (inl (ltb-true b a q))
+    go false false p q = inr (inr (omega (arith, ltb-false a b p, ltb-false b a q)))
 
-gets-range : (n : ℕ) (l : List ℕ) → Gets n l → n ≤ 4
-gets-range zero l g = omega arith
-gets-range (suc zero) l g = omega arith
-gets-range (suc (suc zero)) l g = omega arith
-gets-range (suc (suc (suc zero))) l g = omega arith
-gets-range (suc (suc (suc (suc zero)))) l g = omega arith
-gets-range (suc (suc (suc (suc (suc n))))) l g = absurd g
+module _ (h : ℕ) (ws : List ℕ) where
+  none3 : ((i : ℕ) → Fine 0 (headValue h) ws i) → ¬ First3 (h ∷ ws)
+  none3 f (zero, b, s) = omega (arith, b .0)
+  none3 f (suc i, b, s) = f i .0 (low-of h ws i b)
 
-back-none : (l : List ℕ) → (¬ Breaks1 l) × (¬ Breaks2 l) × AllSound l → listFault l ≡ 0
+  none4 : ((i : ℕ) → Fine 0 (headValue h) ws i) → ¬ First4 (h ∷ ws)
+  none4 f (zero, b, s) = omega (arith, b .0)
+  none4 f (suc i, b, s) = f i .1 (idle-of h ws i b)
+
+  -- where the first such word breaks 4 and not 3, none breaks 3 first
+  not3 : (i : ℕ) → Breaks4 (h ∷ ws) (suc i) → (¬ Breaks3 (h ∷ ws) (suc i))
+      → ((j : ℕ) → j < suc i → (¬ Breaks3 (h ∷ ws) j) × (¬ Breaks4 (h ∷ ws) j)) → ¬ First3 (h ∷ ws)
+  not3 i b c before (j, d, s) = go (order j (suc i))
+    where
+      go : (j < suc i) ⊎ ((suc i < j) ⊎ (j ≡ suc i)) → ⊥
+      go (inl l) = before j l .0 d
+      go (inr (inl l)) = s (suc i) l .1 b
+      go (inr (inr e)) = c (rw e at d)
+
+  word-checks : (n : ℕ) → Says n 0 (headValue h) ws → Check 3 (First3 (h ∷ ws)) (Check 4 (First4 (h ∷ ws)) NoFault) n
+  word-checks zero s = inr (none3 s, inr (none4 s, refl))
+  word-checks (suc zero) s = absurd s
+  word-checks (suc (suc zero)) s = absurd s
+  word-checks (suc (suc (suc zero))) s = inl ((suc (s .0), of-low h ws (s .0) (s .1), of-fine h ws (s .0) (s .2)), refl)
+  word-checks (suc (suc (suc (suc zero)))) s =
+      let b = of-idle h ws (s .0) (s .1) in
+      let before = of-fine h ws (s .0) (s .3) in
+      inr (not3 (s .0) b (λ c. s .2 (low-of h ws (s .0) c)) before, inl ((suc (s .0), b, before), refl))
+  word-checks (suc (suc (suc (suc (suc n))))) s = absurd s
+
+given : (l : List ℕ) → ListFaultIs l (listFault l)
 unfolding listFault
-back-none [] g = absurd (g .0 (inl refl))
-back-none (h ∷ ws) g =
-    past-head h ws (wordsFault 0 (headValue h) ws) (g .0) (g .1) ∙ gives-0 0 (headValue h) ws (λ i. fine-of h ws i (g .2 (suc i)))
-
-back-one : (l : List ℕ) → Breaks1 l → listFault l ≡ 1
-unfolding listFault
-back-one [] b = refl
-back-one (h ∷ ws) b = rw (long-test h ws b)
-
-back-two : (l : List ℕ) → (¬ Breaks1 l) × Breaks2 l → listFault l ≡ 2
-unfolding listFault
-back-two [] g = absurd (g .0 (inl refl))
-back-two (h ∷ ws) g = rw (not-long h ws (g .0), lt-ltb 1 h (g .1))
-
-back-three : (l : List ℕ) → (¬ Breaks1 l) → (¬ Breaks2 l) → (i : ℕ) → Breaks3 l i → SoundBefore l i → listFault l ≡ 3
-unfolding listFault
-back-three l a b zero c s = absurd (omega (arith, c .0))
-back-three [] a b (suc i) c s = absurd (a (inl refl))
-back-three (h ∷ ws) a b (suc i) c s =
-    past-head h ws (wordsFault 0 (headValue h) ws) a b ∙
-    gives-3 0 (headValue h) ws i (low-of h ws i c) (λ j l. fine-of h ws j (s (suc j) (omega arith)))
-
-back-four : (l : List ℕ) → (¬ Breaks1 l) → (¬ Breaks2 l) → (i : ℕ) → Breaks4 l i → (¬ Breaks3 l i) → SoundBefore l i → listFault l ≡ 4
-unfolding listFault
-back-four l a b zero c d s = absurd (omega (arith, c .0))
-back-four [] a b (suc i) c d s = absurd (a (inl refl))
-back-four (h ∷ ws) a b (suc i) c d s =
-    past-head h ws (wordsFault 0 (headValue h) ws) a b ∙
-    gives-4
-    0
-    (headValue h)
+given [] = inl (inl refl, refl)
+given (h ∷ ws) =
+    head-checks
+    h
     ws
-    i
-    (idle-of h ws i c)
-    (λ e. d (of-low h ws i e))
-    (λ j l. fine-of h ws j (s (suc j) (omega arith)))
+    (wordsFault 0 (headValue h) ws)
+    (Check 3 (First3 (h ∷ ws)) (Check 4 (First4 (h ∷ ws)) NoFault))
+    (word-checks h ws (wordsFault 0 (headValue h) ws) (says-words 0 (headValue h) ws))
 
-pub listFaultsExact : ListFaultsExact
-listFaultsExact =
-    record {
-      none = λ l. (λ e. rw e at (gets l), back-none l);
-      one = λ l. (λ e. rw e at (gets l), back-one l);
-      two = λ l. (λ e. rw e at (gets l), back-two l);
-      three = λ l. (λ e. rw e at (gets l), λ g. back-three l (g .0) (g .1) (g .2 .0) (g .2 .1) (g .2 .2));
-      four = λ l. (λ e. rw e at (gets l), λ g. back-four l (g .0) (g .1) (g .2 .0) (g .2 .1) (g .2 .2) (g .2 .3));
-      range = λ l. gets-range (listFault l) l (gets l);
-    }
+single : (l : List ℕ) → Single (ListFaultIs l)
+single l = check-single (check-single (check-single (check-single none-single)))
+
+pub list-faults-exact : ListFaultsExact
+list-faults-exact l = exactly (ListFaultIs l) (listFault l) (single l) (given l)
+
+pub list-fault-range : (l : List ℕ) → listFault l ≤ 4
+list-fault-range l = go (listFault l) (given l)
+  where
+    go : (n : ℕ) → ListFaultIs l n → n ≤ 4
+    go n (inl a) = omega (arith, a .1)
+    go n (inr (b, inl a)) = omega (arith, a .1)
+    go n (inr (b, inr (c, inl a))) = omega (arith, a .1)
+    go n (inr (b, inr (c, inr (d, inl a)))) = omega (arith, a .1)
+    go n (inr (b, inr (c, inr (d, inr (e, a))))) = omega (arith, a)

@@ -44,9 +44,6 @@ Says (suc (suc (suc (suc (suc n))))) k v ws = ⊥
 pub fine-cons : (k : ℕ) (v : Bool) (w : ℕ) (ws : List ℕ) (i : ℕ) → Fine (dateOf w) (valueAfter w) ws i → Fine k v (w ∷ ws) (suc i)
 fine-cons k v w ws i f = (λ h. f .0 (omega (arith, h .0), h .1), λ h. f .1 (omega (arith, h .0), h .1, h .2))
 
-pub fine-tail : (k : ℕ) (v : Bool) (w : ℕ) (ws : List ℕ) (i : ℕ) → Fine k v (w ∷ ws) (suc i) → Fine (dateOf w) (valueAfter w) ws i
-fine-tail k v w ws i f = (λ h. f .0 (omega (arith, h .0), h .1), λ h. f .1 (omega (arith, h .0), h .1, h .2))
-
 -- all words up to i are fine when the first is and the following up to i are
 pub fine-all : (k : ℕ) (v : Bool) (w : ℕ) (ws : List ℕ) → Fine k v (w ∷ ws) 0 → (i : ℕ) → ((j : ℕ) → j < i → Fine (dateOf w) (valueAfter w) ws j)
     → (j : ℕ) → j < suc i → Fine k v (w ∷ ws) j
@@ -76,17 +73,6 @@ pub idle-test : (v : Bool) (w : ℕ) → valueAt w ≡ v → valueAfter w ≡ v 
 unfolding changesNothing
 idle-test v w a b = rw (a, b) (idle v)
 
-pub tests-fine : (k : ℕ) (v : Bool) (w : ℕ) (ws : List ℕ) → Fine k v (w ∷ ws) 0 → (leb (dateOf w) k ≡ false) × (changesNothing v w ≡ false)
-unfolding changesNothing
-tests-fine k v w ws f = (
-  down-of (leb (dateOf w) k) (λ t. f .0 (omega arith, leb-true (dateOf w) k t)),
-  down-of
-      (changesNothing v w)
-      (λ t.
-      let e = same-values (valueAt w) (valueAfter w) v t in
-      f .1 (omega arith, e .0, e .1)),
-)
-
 pub first-fine : (k : ℕ) (v : Bool) (w : ℕ) (ws : List ℕ) → leb (dateOf w) k ≡ false → changesNothing v w ≡ false → Fine k v (w ∷ ws) 0
 first-fine k v w ws p q =
     (λ h. omega (arith, leb-false (dateOf w) k p, h .1), λ h. true≢false (sym (idle-test v w (h .1) (h .2)) ∙ q))
@@ -108,41 +94,6 @@ says-words k v (w ∷ ws) = go (leb (dateOf w) k) (changesNothing v w) refl refl
           λ j l. absurd (omega arith),
         )
     go false false p q rec = rw (p, q) (says-cons (wordsFault (dateOf w) (valueAfter w) ws) k v w ws (first-fine k v w ws p q) rec)
-
--- and back: the sentence gives the fault
-pub skip-fine : (k : ℕ) (v : Bool) (w : ℕ) (ws : List ℕ) → Fine k v (w ∷ ws) 0 → wordsFault k v (w ∷ ws) ≡ wordsFault (dateOf w) (valueAfter w) ws
-unfolding wordsFault
-skip-fine k v w ws f = rw (tests-fine k v w ws f .0, tests-fine k v w ws f .1)
-
-pub gives-0 : (k : ℕ) (v : Bool) (ws : List ℕ) → ((i : ℕ) → Fine k v ws i) → wordsFault k v ws ≡ 0
-unfolding wordsFault
-gives-0 k v [] h = refl
-gives-0 k v (w ∷ ws) h =
-    skip-fine k v w ws (h 0) ∙ gives-0 (dateOf w) (valueAfter w) ws (λ i. fine-tail k v w ws i (h (suc i)))
-
-pub gives-3 : (k : ℕ) (v : Bool) (ws : List ℕ) (i : ℕ) → Low k ws i → ((j : ℕ) → j < i → Fine k v ws j) → wordsFault k v ws ≡ 3
-unfolding wordsFault
-gives-3 k v [] i h f = absurd (omega (arith, h .0))
-gives-3 k v (w ∷ ws) zero h f = rw (le-leb (dateOf w) k (h .1))
-gives-3 k v (w ∷ ws) (suc i) h f =
-    skip-fine k v w ws (f 0 (omega arith)) ∙
-    gives-3 (dateOf w) (valueAfter w) ws i (omega (arith, h .0), h .1) (λ j l. fine-tail k v w ws j (f (suc j) (omega arith)))
-
-pub gives-4 : (k : ℕ) (v : Bool) (ws : List ℕ) (i : ℕ) → Idle v ws i → (¬ Low k ws i) → ((j : ℕ) → j < i → Fine k v ws j) → wordsFault k v ws ≡ 4
-unfolding wordsFault
-gives-4 k v [] i h b f = absurd (omega (arith, h .0))
-gives-4 k v (w ∷ ws) zero h b f =
-    rw (down-of (leb (dateOf w) k) (λ t. b (omega arith, leb-true (dateOf w) k t)), idle-test v w (h .1) (h .2))
-gives-4 k v (w ∷ ws) (suc i) h b f =
-    skip-fine k v w ws (f 0 (omega arith)) ∙
-    gives-4
-    (dateOf w)
-    (valueAfter w)
-    ws
-    i
-    (omega (arith, h .0), h .1, h .2)
-    (λ c. b (omega (arith, c .0), c .1))
-    (λ j l. fine-tail k v w ws j (f (suc j) (omega arith)))
 
 -- from the words after the first to the list
 pub prior-date : (w : ℕ) (ws : List ℕ) (i : ℕ) → i < suc (length ws) → priorDate (dateOf w) ws i ≡ dateOf (getD (w ∷ ws) i 0)
@@ -183,9 +134,6 @@ idle-of h ws i b =
 pub of-idle : (h : ℕ) (ws : List ℕ) (i : ℕ) → Idle (headValue h) ws i → Breaks4 (h ∷ ws) (suc i)
 of-idle h ws i b =
     (omega arith, omega (arith, b .0), b .1 ∙ sym (value-before h ws i (b .0)), b .2 ∙ sym (value-before h ws i (b .0)))
-
-pub fine-of : (h : ℕ) (ws : List ℕ) (i : ℕ) → (¬ Breaks3 (h ∷ ws) (suc i)) × (¬ Breaks4 (h ∷ ws) (suc i)) → Fine 0 (headValue h) ws i
-fine-of h ws i f = (λ b. f .0 (of-low h ws i b), λ b. f .1 (of-idle h ws i b))
 
 pub of-fine : (h : ℕ) (ws : List ℕ) (i : ℕ) → ((j : ℕ) → j < i → Fine 0 (headValue h) ws j) → SoundBefore (h ∷ ws) (suc i)
 of-fine h ws i f zero l = (λ b. omega (arith, b .0), λ b. omega (arith, b .0))

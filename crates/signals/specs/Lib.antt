@@ -15,5 +15,6 @@ pub mod Passing
 pub mod Earliest
 pub mod Starred
 pub mod Settling
+pub mod Checks
 pub mod ListFaults
 pub mod Tidying

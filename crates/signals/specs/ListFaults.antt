@@ -2,10 +2,11 @@
 use Prim.Native.Nat.{ℕ, zero, suc, _≤_, _<_}
 use mathlib.Core.Bool.{Bool, false}
 use mathlib.Core.List.{List}
-use mathlib.Core.Logic.{_⊎_, _↔_}
+use mathlib.Core.Logic.{_⊎_}
 use mathlib.Core.Path.{_≡_}
 use lib.ListN.{length, getD}
 use Rattle.signals.specs.Words.{dateOf, valueAt, valueAfter, headValue, listFault, tidyFault}
+use Rattle.signals.specs.Checks.{Check, NoFault, Exactly}
 
 -- 1: list empty or over 256 words
 abbrev pub Breaks1 : List ℕ → Type 0
@@ -39,23 +40,22 @@ Breaks4 l i =
 abbrev pub SoundBefore : List ℕ → ℕ → Type 0
 SoundBefore l i = (j : ℕ) → j < i → (¬ Breaks3 l j) × (¬ Breaks4 l j)
 
--- no word breaks 3 or 4
-abbrev pub AllSound : List ℕ → Type 0
-AllSound l = (i : ℕ) → (¬ Breaks3 l i) × (¬ Breaks4 l i)
+-- the first word that breaks 3 or 4 breaks 3; it breaks 4
+abbrev pub First3 : List ℕ → Type 0
+First3 l = (i : ℕ) × Breaks3 l i × SoundBefore l i
 
--- 1, 2, then word by word 3, 4; 0 is none, and there is no other answer
-pub record ListFaultsExact : Type 0 where
-  pub none : (l : List ℕ) → (listFault l ≡ 0) ↔ ((¬ Breaks1 l) × (¬ Breaks2 l) × AllSound l)
-  pub one : (l : List ℕ) → (listFault l ≡ 1) ↔ Breaks1 l
-  pub two : (l : List ℕ) → (listFault l ≡ 2) ↔ ((¬ Breaks1 l) × Breaks2 l)
-  pub three : (l : List ℕ) → (listFault l ≡ 3) ↔ ((¬ Breaks1 l) × (¬ Breaks2 l) × ((i : ℕ) × Breaks3 l i × SoundBefore l i))
-  pub four : (l : List ℕ) → (listFault l ≡ 4) ↔ ((¬ Breaks1 l) × (¬ Breaks2 l) × ((i : ℕ) × Breaks4 l i × (¬ Breaks3 l i) × SoundBefore l i))
-  pub range : (l : List ℕ) → listFault l ≤ 4
+abbrev pub First4 : List ℕ → Type 0
+First4 l = (i : ℕ) × Breaks4 l i × SoundBefore l i
 
--- Tidying skips 4.
-pub record TidyFaultsExact : Type 0 where
-  pub none : (l : List ℕ) → (tidyFault l ≡ 0) ↔ ((¬ Breaks1 l) × (¬ Breaks2 l) × ((i : ℕ) → ¬ Breaks3 l i))
-  pub one : (l : List ℕ) → (tidyFault l ≡ 1) ↔ Breaks1 l
-  pub two : (l : List ℕ) → (tidyFault l ≡ 2) ↔ ((¬ Breaks1 l) × Breaks2 l)
-  pub three : (l : List ℕ) → (tidyFault l ≡ 3) ↔ ((¬ Breaks1 l) × (¬ Breaks2 l) × ((i : ℕ) × Breaks3 l i))
-  pub range : (l : List ℕ) → tidyFault l ≤ 3
+-- 1, 2, then word by word 3, 4; tidying skips 4
+abbrev pub ListFaultIs : List ℕ → ℕ → Type 0
+ListFaultIs l = Check 1 (Breaks1 l) (Check 2 (Breaks2 l) (Check 3 (First3 l) (Check 4 (First4 l) NoFault)))
+
+abbrev pub TidyFaultIs : List ℕ → ℕ → Type 0
+TidyFaultIs l = Check 1 (Breaks1 l) (Check 2 (Breaks2 l) (Check 3 ((i : ℕ) × Breaks3 l i) NoFault))
+
+abbrev pub ListFaultsExact : Type 0
+ListFaultsExact = (l : List ℕ) → Exactly (ListFaultIs l) (listFault l)
+
+abbrev pub TidyFaultsExact : Type 0
+TidyFaultsExact = (l : List ℕ) → Exactly (TidyFaultIs l) (tidyFault l)
