@@ -10,8 +10,8 @@ use Rattle.signals.specs.Implication.{firstFailing}
 use Rattle.signals.specs.declared.Written.{Written}
 use Rattle.signals.specs.declared.Verdict.{Verdict}
 use Rattle.operations.specs.Calls.{changesAfterM}
-use Rattle.formulas.specs.Tree.{Tree}
-use Rattle.formulas.specs.Formula.{formulaFault, formulaTree}
+use Rattle.grammar.specs.Tree.{Tree}
+use Rattle.grammar.specs.Formula.{formulaFault, formulaTree}
 use Rattle.laws.specs.Rewriting.{parts}
 use Rattle.sheets.specs.Reading.{sheetFault}
 use Rattle.calls.specs.OnSheet.{signalOn, settlingDate, exactOn, namesFound}

@@ -17,8 +17,8 @@ use Rattle.signals.specs.declared.Verdict.{Verdict}
 use Rattle.signals.specs.declared.Verdict.the-variants.{Refused}
 use Rattle.signals.proofs.Settling.{settled-later}
 use Rattle.lists.specs.Questions.{impliesOf, laterLast}
-use Rattle.formulas.specs.Tree.{Tree}
-use Rattle.formulas.specs.Formula.{formulaTree}
+use Rattle.grammar.specs.Tree.{Tree}
+use Rattle.grammar.specs.Formula.{formulaTree}
 use Rattle.laws.specs.Rewriting.{parts}
 use Rattle.laws.proofs.Consequences.{one-verdict}
 use Rattle.sheets.specs.Reading.{sheetFault}

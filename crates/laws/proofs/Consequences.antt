@@ -11,7 +11,7 @@ use Rattle.signals.specs.Words.{listOf}
 use Rattle.signals.specs.Implication.{verdictOf}
 use Rattle.signals.proofs.Scan.{listOf-more}
 use Rattle.signals.proofs.Implication.{verdict-judged}
-use Rattle.formulas.specs.Tree.{signal}
+use Rattle.grammar.specs.Tree.{signal}
 use Rattle.laws.specs.Soundness.{RewritingKeepsTheList, SameVerdicts, RewritingKeepsVerdicts}
 use Rattle.laws.proofs.Soundness.{same-signal}
 

@@ -8,7 +8,7 @@ use lib.Dec.{ltb}
 use lib.ListN.{length, getD, length-append}
 use lib.Seq.{getD-at}
 use borrow.Author.Tests.{ltb-true, ltb-false, lt-ltb, le-ltb}
-use Rattle.formulas.specs.Tree.{Tree, leaf, unary, binary}
+use Rattle.grammar.specs.Tree.{Tree, leaf, unary, binary}
 use Rattle.laws.specs.Scheme.{Equation, put}
 use Rattle.laws.specs.Laws.{equation}
 use Rattle.laws.specs.Rewriting.{parts, size, partAt, replaceAt, Direction, forward, backward, before, after, Step, Leads, Rewrites}

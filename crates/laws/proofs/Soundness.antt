@@ -1,6 +1,6 @@
 -- Rewriting keeps the signal at every moment: the equation holds, and every operation respects equal signals.
 use mathlib.Core.Path.{_≡_, sym, _∙_, ap, fun-ext}
-use Rattle.formulas.specs.Tree.{Tree, Environment, signal, applyUnary, applyBinary}
+use Rattle.grammar.specs.Tree.{Tree, Environment, signal, applyUnary, applyBinary}
 use Rattle.laws.specs.Scheme.{Equation, Substitution, put}
 use Rattle.laws.specs.Laws.{equation}
 use Rattle.laws.specs.Rewriting.{Direction, forward, backward, before, after, Rewrites}

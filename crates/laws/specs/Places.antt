@@ -3,7 +3,7 @@ use Prim.Native.Nat.{ℕ, _+_, _-_, _≤_, _<_}
 use mathlib.Core.Path.{_≡_}
 use mathlib.Core.Logic.{_↔_}
 use lib.ListN.{length}
-use Rattle.formulas.specs.Tree.{Tree, Unary, Binary, unary, binary}
+use Rattle.grammar.specs.Tree.{Tree, Unary, Binary, unary, binary}
 use Rattle.laws.specs.Scheme.{Substitution, put}
 use Rattle.laws.specs.Laws.{table, equation}
 use Rattle.laws.specs.Rewriting.{parts, size, partAt, replaceAt, Direction, before, after, Rewrites}

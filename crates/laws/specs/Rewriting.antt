@@ -5,7 +5,7 @@ use mathlib.Core.Bool.{cond}
 use mathlib.Core.List.{List, [], _∷_, _++_}
 use lib.Dec.{ltb}
 use lib.ListN.{length, getD}
-use Rattle.formulas.specs.Tree.{Tree, leaf, unary, binary}
+use Rattle.grammar.specs.Tree.{Tree, leaf, unary, binary}
 use Rattle.laws.specs.Scheme.{Scheme, Equation, Substitution, put}
 use Rattle.laws.specs.Laws.{table, equation}
 

@@ -6,9 +6,9 @@ use mathlib.Core.Path.{_≡_, refl, sym, ap, _∙_}
 use mathlib.Core.List.{List, [], _∷_, _++_, append-assoc, append-nil}
 use lib.ListN.{length, take, drop, length-append}
 use lib.Seq.{take-at, drop-at}
-use Rattle.formulas.specs.Tree.{Tree, Leaf, Unary, Binary, leaf, unary, binary}
-use Rattle.formulas.specs.Code.{Part, one, two, code}
-use Rattle.formulas.specs.Places.{Around, whole, under, first, second, with-part, before, EndsAt, OnePartEnds, SegmentReplaced}
+use Rattle.grammar.specs.Tree.{Tree, Leaf, Unary, Binary, leaf, unary, binary}
+use Rattle.grammar.specs.Code.{Part, one, two, code}
+use Rattle.grammar.specs.Places.{Around, whole, under, first, second, with-part, before, EndsAt, OnePartEnds, SegmentReplaced}
 
 -- the code before and after a part's own
 front : Around → List Part

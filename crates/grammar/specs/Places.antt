@@ -3,8 +3,8 @@ use Prim.Native.Nat.{ℕ, suc, _+_, _<_}
 use mathlib.Core.Path.{_≡_}
 use mathlib.Core.List.{_++_}
 use lib.ListN.{length, take, drop}
-use Rattle.formulas.specs.Tree.{Tree, Unary, Binary, unary, binary}
-use Rattle.formulas.specs.Code.{code}
+use Rattle.grammar.specs.Tree.{Tree, Unary, Binary, unary, binary}
+use Rattle.grammar.specs.Code.{code}
 
 -- The code of a tree in working-out order determines the tree.
 abbrev pub CodeDetermines : Type 0
