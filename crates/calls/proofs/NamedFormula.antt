@@ -19,7 +19,7 @@ use Rattle.grammar.specs.Grammar.{Sum, Product, Factor, isName}
 use Rattle.grammar.specs.Formula.{formulaTree, formulaFault}
 use Rattle.grammar.specs.Exactness.{LengthIn}
 use Rattle.grammar.proofs.Reading.{tree-of, one-tree, faults-exact}
-use Rattle.laws.specs.Rewriting.{parts}
+use Rattle.grammar.specs.Parts.{parts}
 use Rattle.sheets.specs.Bytes.{Bytes, Words}
 use Rattle.sheets.specs.Names.{letter, lettersOrDigits, wellNamed, among}
 use Rattle.sheets.specs.Reading.{sheetFault, signalsOn, names, listNamed, environmentOn}

@@ -18,7 +18,7 @@ use Rattle.grammar.specs.Grammar as grammar
 use Rattle.grammar.specs.Reader.{run, next, bad, stepped, expect, put, passLength, valueBetween, prefixKind, leafAt, timed, sumAt, sumsAt, productAt, productsAt, factorAt, latchAt, timerAt, readText}
 use Rattle.grammar.specs.Formula.{timedPart, nameAt, accepted, partsOf, depthOf, longestOf, formulaFault}
 use Rattle.grammar.proofs.Reading.{tree-of}
-use Rattle.laws.specs.Rewriting.{parts}
+use Rattle.grammar.specs.Parts.{parts}
 use Rattle.sheets.specs.Bytes.{low16, low32, wordsIn}
 use Rattle.slices.specs.Slices.{before}
 use Rattle.sheets.specs.Names.{letter, digit, lettersOrDigits, wellNamed, zeros, fieldFits, same, among}

@@ -16,7 +16,7 @@ use Rattle.grammar.specs.Grammar.{Writes, Sum, Product, Factor, isLower, isDigi
 use Rattle.grammar.specs.Reader.{run, next, bad, stepped, expect, put, prefixKind, leafAt, sumAt, sumsAt, productAt, productsAt, factorAt, readText}
 use Rattle.grammar.specs.Formula.{accepted, partsOf, formulaTree, depthOf, longestOf, formulaFault}
 use Rattle.grammar.proofs.Reading.{tree-of}
-use Rattle.laws.specs.Rewriting.{parts}
+use Rattle.grammar.specs.Parts.{parts}
 use Rattle.sheets.specs.Bytes.{low16}
 use Rattle.sheets.specs.Names.{same}
 use Rattle.sheets.specs.Reading.{signalsFault, frontFault, countOn, sheetFault}

@@ -24,7 +24,7 @@ use Rattle.sheets.specs.Names.{wellNamed, among}
 use Rattle.sheets.specs.Reading.{signalsOn, names}
 use Rattle.calls.specs.OnSheet.{exactOn, leafFound}
 use Rattle.calls.specs.Calls.{partFault, partsFault, readingFault, workFault, workingFault, roomFault, wordsOn, claimFails}
-use Rattle.laws.specs.Rewriting.{parts}
+use Rattle.grammar.specs.Parts.{parts}
 use Rattle.evaluation.specs.declared.Next.{Next}
 use Rattle.signals.specs.Answers.{firstOf}
 

@@ -16,7 +16,7 @@ ghost use Rattle.evaluation.specs.Work.{firstFault, firstClaimFault};
 ghost use Rattle.signals.specs.Answers.{writtenOf, outputOf, verdictFor};
 ghost use Rattle.calls.specs.Calls.{roomFault, wordsOn, callAnswer, callOutput, claimFails, claimAnswer};
 ghost use Rattle.grammar.specs.Formula.{formulaTree};
-ghost use Rattle.laws.specs.Rewriting.{parts};
+ghost use Rattle.grammar.specs.Parts.{parts};
 ghost use Rattle.calls.specs.OnSheet.{exactOn};
 ghost use Rattle.calls.specs.Calls.{partsFault, workingFault};
 use operations::SlotAnswer;

@@ -2,6 +2,7 @@
 pub mod Tree
 pub mod Grammar
 pub mod Code
+pub mod Parts
 pub mod Reader
 pub mod Formula
 pub mod Exactness

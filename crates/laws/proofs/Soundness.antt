@@ -4,7 +4,7 @@ use Rattle.grammar.specs.Tree.{Tree, Environment, signal, applyUnary, applyBina
 use Rattle.laws.specs.Scheme.{Equation, Substitution, put}
 use Rattle.laws.specs.Laws.{equation}
 use Rattle.laws.specs.Rewriting.{Direction, forward, backward, before, after, Rewrites}
-use Rattle.laws.specs.Places.{Surroundings, whole, under, onLeft, onRight, around}
+use Rattle.grammar.specs.Places.{Surroundings, whole, under, onLeft, onRight, around}
 use Rattle.laws.specs.Soundness.{Holds, RewritingKeepsTheSignal}
 use Rattle.laws.proofs.Table.{every-law-holds}
 use Rattle.laws.proofs.Places.{rewriting-reaches-every-part}
