@@ -8,11 +8,11 @@ use mathlib.Core.List.{List}
 use lib.Dec.{ltb}
 use lib.ListN.{length}
 use borrow.Author.Tests.{ltb-true, ltb-false}
-use Rattle.formulas.specs.Tree.{Tree}
-use Rattle.formulas.specs.Grammar.{Writes}
-use Rattle.formulas.specs.Formula.{formulaTree}
-use Rattle.formulas.proofs.Reading.{tree-of}
-use Rattle.laws.specs.Rewriting.{parts, partAt}
+use Rattle.grammar.specs.Tree.{Tree}
+use Rattle.grammar.specs.Grammar.{Writes}
+use Rattle.grammar.specs.Formula.{formulaTree}
+use Rattle.grammar.proofs.Reading.{tree-of}
+use Rattle.grammar.specs.Parts.{parts, partAt}
 use Rattle.sheets.specs.Reading.{sheetFault}
 use Rattle.calls.specs.OnSheet.{signalOn, exactOn}
 use Rattle.calls.specs.Calls.{neededWork, readingFault, workFault, partsFault, workingFault, wordsOn, roomFault, callFault, claimFault}

@@ -20,9 +20,9 @@ use Rattle.signals.proofs.Implication.{verdict-judged}
 use Rattle.signals.proofs.Settling.{settled-later}
 use Rattle.signals.proofs.Truth.{not-both}
 use Rattle.operations.specs.Calls.{changesAfterM}
-use Rattle.formulas.specs.Tree.{Tree}
-use Rattle.formulas.specs.Grammar.{Writes}
-use Rattle.formulas.proofs.Reading.{tree-of}
+use Rattle.grammar.specs.Tree.{Tree}
+use Rattle.grammar.specs.Grammar.{Writes}
+use Rattle.grammar.proofs.Reading.{tree-of}
 use Rattle.sheets.specs.Bytes.{Bytes, Words}
 use Rattle.sheets.specs.Names.{among}
 use Rattle.sheets.specs.Reading.{sheetFault, signalsOn, names, listNamed, environmentOn, entry}

@@ -15,10 +15,10 @@ use Rattle.signals.specs.Answers.{faultIn, countIn}
 use Rattle.signals.specs.Implication.{failsIn, faultOfVerdict}
 use Rattle.signals.specs.declared.Verdict.{Verdict}
 use Rattle.signals.specs.declared.Verdict.the-variants.{Holds}
-use Rattle.formulas.specs.Tree.{Tree}
-use Rattle.formulas.specs.Grammar.{Writes}
-use Rattle.formulas.specs.Formula.{formulaTree}
-use Rattle.formulas.proofs.Reading.{tree-of}
+use Rattle.grammar.specs.Tree.{Tree}
+use Rattle.grammar.specs.Grammar.{Writes}
+use Rattle.grammar.specs.Formula.{formulaTree}
+use Rattle.grammar.proofs.Reading.{tree-of}
 use Rattle.laws.specs.Rewriting.{Rewrites}
 use Rattle.laws.proofs.Soundness.{same-signal}
 use Rattle.sheets.specs.Reading.{environmentOn}

@@ -13,13 +13,13 @@ use Rattle.signals.specs.Words.{dateOf, listFault, wordsOf, listOf}
 use Rattle.signals.proofs.Truth.{and-left, down-of, not-both}
 use Rattle.signals.proofs.Normal.{acceptedNormal, readBack}
 use Rattle.operations.specs.Calls.{changesAfterM}
-use Rattle.formulas.specs.Tree.{Tree, Leaf, leaf, unary, binary, down, up, name}
-use Rattle.formulas.specs.Code.{code}
-use Rattle.formulas.specs.Grammar.{Sum, Product, Factor, isName}
-use Rattle.formulas.specs.Formula.{formulaTree, formulaFault}
-use Rattle.formulas.specs.Exactness.{LengthIn}
-use Rattle.formulas.proofs.Reading.{tree-of, one-tree, faults-exact}
-use Rattle.laws.specs.Rewriting.{parts}
+use Rattle.grammar.specs.Tree.{Tree, Leaf, leaf, unary, binary, down, up, name}
+use Rattle.grammar.specs.Code.{code}
+use Rattle.grammar.specs.Grammar.{Sum, Product, Factor, isName}
+use Rattle.grammar.specs.Formula.{formulaTree, formulaFault}
+use Rattle.grammar.specs.Exactness.{LengthIn}
+use Rattle.grammar.proofs.Reading.{tree-of, one-tree, faults-exact}
+use Rattle.grammar.specs.Parts.{parts}
 use Rattle.sheets.specs.Bytes.{Bytes, Words}
 use Rattle.sheets.specs.Names.{letter, lettersOrDigits, wellNamed, among}
 use Rattle.sheets.specs.Reading.{sheetFault, signalsOn, names, listNamed, environmentOn}

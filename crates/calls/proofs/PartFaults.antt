@@ -13,8 +13,8 @@ use Rattle.signals.specs.Signal.{Signal}
 use Rattle.signals.specs.Words.{dateOf}
 use Rattle.signals.proofs.Truth.{or-cases, or-left, or-right, not-both}
 use Rattle.operations.specs.Calls.{changesAfterM}
-use Rattle.formulas.specs.Tree.{Tree, leaf, unary, binary}
-use Rattle.laws.specs.Rewriting.{parts}
+use Rattle.grammar.specs.Tree.{Tree, leaf, unary, binary}
+use Rattle.grammar.specs.Parts.{parts}
 use Rattle.sheets.specs.Reading.{sheetFault}
 use Rattle.calls.specs.OnSheet.{signalOn, exactOn}
 use Rattle.calls.specs.Calls.{partFault, partsFault}

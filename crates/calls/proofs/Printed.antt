@@ -11,14 +11,14 @@ use Rattle.signals.specs.Words.{word, dateOf, valueAt, valueAfter, headValue, c
 use Rattle.signals.specs.Implication.{earliest, failsIn, firstFailing}
 use Rattle.signals.specs.declared.Verdict.the-variants.{FailsAt}
 use Rattle.operations.specs.Calls.{changesAfterM}
-use Rattle.formulas.specs.Tree as tree
-use Rattle.formulas.specs.Tree.{Tree}
-use Rattle.formulas.specs.Grammar.{Writes, Sum, Product, Factor, isLower, isDigit, isNameByte, allOf, isName, isLength, value}
-use Rattle.formulas.specs.Grammar as grammar
-use Rattle.formulas.specs.Reader.{run, next, bad, stepped, expect, put, passLength, valueBetween, prefixKind, leafAt, timed, sumAt, sumsAt, productAt, productsAt, factorAt, latchAt, timerAt, readText}
-use Rattle.formulas.specs.Formula.{timedPart, nameAt, accepted, partsOf, depthOf, longestOf, formulaFault}
-use Rattle.formulas.proofs.Reading.{tree-of}
-use Rattle.laws.specs.Rewriting.{parts}
+use Rattle.grammar.specs.Tree as tree
+use Rattle.grammar.specs.Tree.{Tree}
+use Rattle.grammar.specs.Grammar.{Writes, Sum, Product, Factor, isLower, isDigit, isNameByte, allOf, isName, isLength, value}
+use Rattle.grammar.specs.Grammar as grammar
+use Rattle.grammar.specs.Reader.{run, next, bad, stepped, expect, put, passLength, valueBetween, prefixKind, leafAt, timed, sumAt, sumsAt, productAt, productsAt, factorAt, latchAt, timerAt, readText}
+use Rattle.grammar.specs.Formula.{timedPart, nameAt, accepted, partsOf, depthOf, longestOf, formulaFault}
+use Rattle.grammar.proofs.Reading.{tree-of}
+use Rattle.grammar.specs.Parts.{parts}
 use Rattle.sheets.specs.Bytes.{low16, low32, wordsIn}
 use Rattle.slices.specs.Slices.{before}
 use Rattle.sheets.specs.Names.{letter, digit, lettersOrDigits, wellNamed, zeros, fieldFits, same, among}

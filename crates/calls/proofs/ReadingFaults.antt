@@ -9,10 +9,10 @@ use lib.Dec.{ltb, eqb}
 use lib.ListN.{length}
 use Rattle.signals.specs.Moment.{M}
 use Rattle.signals.proofs.Truth.{and-left, and-right, not-both}
-use Rattle.formulas.specs.Tree.{Tree, leaf, unary, binary, down, up, name}
-use Rattle.formulas.specs.Grammar.{Writes}
-use Rattle.formulas.specs.Formula.{accepted, partsOf, depthOf, longestOf, formulaTree, formulaFault}
-use Rattle.formulas.proofs.Reading.{tree-of, refused-of, faults-exact}
+use Rattle.grammar.specs.Tree.{Tree, leaf, unary, binary, down, up, name}
+use Rattle.grammar.specs.Grammar.{Writes}
+use Rattle.grammar.specs.Formula.{accepted, partsOf, depthOf, longestOf, formulaTree, formulaFault}
+use Rattle.grammar.proofs.Reading.{tree-of, refused-of, faults-exact}
 use Rattle.sheets.specs.Names.{among}
 use Rattle.sheets.specs.Reading.{signalsOn, names}
 use Rattle.calls.specs.OnSheet.{namesFound}

@@ -9,7 +9,7 @@ use Rattle.signals.specs.Words.{signalOf, lastDate}
 use Rattle.signals.specs.Settled.{SettledFrom}
 use Rattle.signals.proofs.Settling.{settling, settled-later}
 use Rattle.signals.proofs.Normal.{accepted-settled, listOfSignal, unique}
-use Rattle.formulas.specs.Tree.{Tree, leaf, unary, binary, down, up, name, invert, rise, fall, ton, tof, and, or, sr, rs}
+use Rattle.grammar.specs.Tree.{Tree, leaf, unary, binary, down, up, name, invert, rise, fall, ton, tof, and, or, sr, rs}
 use Rattle.sheets.specs.Names.{same}
 use Rattle.sheets.specs.Reading.{sheetFault, Entry, nameOf, listOn, signalsOn, listNamed, environmentOn}
 use Rattle.calls.specs.OnSheet.{signalOn, settlingDate, exactOn}

@@ -10,13 +10,13 @@ use Rattle.signals.specs.Words.{dateOf, wordsOf, listOf}
 use Rattle.signals.specs.Implication.{earliest, failsIn, firstFailing}
 use Rattle.signals.specs.declared.Verdict.the-variants.{FailsAfter}
 use Rattle.operations.specs.Calls.{changesAfterM}
-use Rattle.formulas.specs.Tree as tree
-use Rattle.formulas.specs.Tree.{Tree}
-use Rattle.formulas.specs.Grammar.{Writes, Sum, Product, Factor, isLower, isDigit, isNameByte}
-use Rattle.formulas.specs.Reader.{run, next, bad, stepped, expect, put, prefixKind, leafAt, sumAt, sumsAt, productAt, productsAt, factorAt, readText}
-use Rattle.formulas.specs.Formula.{accepted, partsOf, formulaTree, depthOf, longestOf, formulaFault}
-use Rattle.formulas.proofs.Reading.{tree-of}
-use Rattle.laws.specs.Rewriting.{parts}
+use Rattle.grammar.specs.Tree as tree
+use Rattle.grammar.specs.Tree.{Tree}
+use Rattle.grammar.specs.Grammar.{Writes, Sum, Product, Factor, isLower, isDigit, isNameByte}
+use Rattle.grammar.specs.Reader.{run, next, bad, stepped, expect, put, prefixKind, leafAt, sumAt, sumsAt, productAt, productsAt, factorAt, readText}
+use Rattle.grammar.specs.Formula.{accepted, partsOf, formulaTree, depthOf, longestOf, formulaFault}
+use Rattle.grammar.proofs.Reading.{tree-of}
+use Rattle.grammar.specs.Parts.{parts}
 use Rattle.sheets.specs.Bytes.{low16}
 use Rattle.sheets.specs.Names.{same}
 use Rattle.sheets.specs.Reading.{signalsFault, frontFault, countOn, sheetFault}

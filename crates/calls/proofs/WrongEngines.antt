@@ -8,8 +8,8 @@ use borrow.Author.Tests.{eq-eqb}
 use Rattle.signals.specs.Answers.{outputOf}
 use Rattle.signals.specs.declared.Written.the-variants as written
 use Rattle.signals.specs.declared.Verdict.the-variants as verdict
-use Rattle.formulas.specs.Tree as tree
-use Rattle.formulas.proofs.Reading.{tree-of}
+use Rattle.grammar.specs.Tree as tree
+use Rattle.grammar.proofs.Reading.{tree-of}
 use Rattle.calls.specs.Calls.{neededWork, wordsOn, roomFault, callFault, callAnswer, callOutput, claimFault, claimAnswer}
 use Rattle.calls.specs.Engine.{Engine}
 use Rattle.calls.specs.OneEngine.{AgreesWhereAnswered}

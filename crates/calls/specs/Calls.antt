@@ -10,9 +10,9 @@ use Rattle.signals.specs.Implication.{firstFailing}
 use Rattle.signals.specs.declared.Written.{Written}
 use Rattle.signals.specs.declared.Verdict.{Verdict}
 use Rattle.operations.specs.Calls.{changesAfterM}
-use Rattle.formulas.specs.Tree.{Tree}
-use Rattle.formulas.specs.Formula.{formulaFault, formulaTree}
-use Rattle.laws.specs.Rewriting.{parts}
+use Rattle.grammar.specs.Tree.{Tree}
+use Rattle.grammar.specs.Formula.{formulaFault, formulaTree}
+use Rattle.grammar.specs.Parts.{parts}
 use Rattle.sheets.specs.Reading.{sheetFault}
 use Rattle.calls.specs.OnSheet.{signalOn, settlingDate, exactOn, namesFound}
 use Rattle.signals.specs.Answers.{firstOf}

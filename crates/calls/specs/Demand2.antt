@@ -9,8 +9,8 @@ use Rattle.signals.specs.Answers.{faultIn}
 use Rattle.signals.specs.Implication.{faultOfVerdict}
 use Rattle.signals.specs.Settled.{Same}
 use Rattle.signals.specs.declared.Written.the-variants.{Count}
-use Rattle.formulas.specs.Tree.{Tree}
-use Rattle.formulas.specs.Grammar.{Writes}
+use Rattle.grammar.specs.Tree.{Tree}
+use Rattle.grammar.specs.Grammar.{Writes}
 use Rattle.sheets.specs.Bytes.{Bytes, Words}
 use Rattle.sheets.specs.Names.{among}
 use Rattle.sheets.specs.Reading.{sheetFault, signalsOn, names, listNamed, environmentOn}

@@ -11,7 +11,7 @@ use Rattle.signals.specs.declared.Verdict.the-variants.{Refused}
 use Rattle.sheets.specs.Reading.{sheetFault}
 use Rattle.calls.specs.Calls.{neededWork, readingFault, workingFault, wordsOn, callAnswer, claimAnswer, claimVerdict}
 use Rattle.calls.specs.Answered.{Answered, Enough}
-use Rattle.formulas.specs.Formula.{formulaTree}
+use Rattle.grammar.specs.Formula.{formulaTree}
 
 pub record NotRefused : Type 0 where
   -- the needed work words are 8,192 on every sheet

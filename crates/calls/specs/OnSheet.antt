@@ -4,8 +4,8 @@ use mathlib.Core.Bool.{Bool, true, _&&_}
 use mathlib.Core.List.{List}
 use Rattle.signals.specs.Signal.{Signal}
 use Rattle.signals.specs.Words.{lastDate, listOf}
-use Rattle.formulas.specs.Tree.{Tree, Leaf, leaf, unary, binary, down, up, name, signal}
-use Rattle.formulas.specs.Code.{ticksOf}
+use Rattle.grammar.specs.Tree.{Tree, Leaf, leaf, unary, binary, down, up, name, signal}
+use Rattle.grammar.specs.Code.{ticksOf}
 use Rattle.sheets.specs.Names.{among}
 use Rattle.sheets.specs.Reading.{signalsOn, names, listNamed, environmentOn}
 

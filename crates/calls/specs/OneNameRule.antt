@@ -2,7 +2,7 @@
 use mathlib.Core.Path.{_≡_}
 use mathlib.Core.List.{List}
 use Prim.Native.Nat.{ℕ}
-use Rattle.formulas.specs.Grammar.{isName}
+use Rattle.grammar.specs.Grammar.{isName}
 use Rattle.sheets.specs.Names.{wellNamed}
 
 abbrev pub OneNameRule : Type 0

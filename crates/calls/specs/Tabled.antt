@@ -9,10 +9,10 @@ use Rattle.signals.specs.Moment.{M}
 use Rattle.signals.specs.Signal.{Signal}
 use Rattle.signals.specs.Words.{dateOf}
 use Rattle.signals.specs.Checks.{Check, NoFault}
-use Rattle.formulas.specs.Tree.{Tree, Leaf, leaf, unary, binary, down, up, name}
-use Rattle.formulas.specs.Grammar.{Writes}
-use Rattle.formulas.specs.Exactness.{Ten, Eleven, Eight, Twelve}
-use Rattle.laws.specs.Rewriting.{parts, partAt}
+use Rattle.grammar.specs.Tree.{Tree, Leaf, leaf, unary, binary, down, up, name}
+use Rattle.grammar.specs.Grammar.{Writes}
+use Rattle.grammar.specs.Exactness.{Ten, Eleven, Eight, Twelve}
+use Rattle.grammar.specs.Parts.{parts, partAt}
 use Rattle.sheets.specs.Names.{among}
 use Rattle.sheets.specs.Reading.{sheetFault, signalsOn, names}
 use Rattle.calls.specs.OnSheet.{signalOn}

@@ -4,7 +4,7 @@ use mathlib.Core.Path.{_≡_}
 use mathlib.Core.Bool.{true}
 use mathlib.Core.List.{List}
 use Rattle.signals.specs.Settled.{SettledFrom}
-use Rattle.formulas.specs.Tree.{Tree, Leaf, leaf}
+use Rattle.grammar.specs.Tree.{Tree, Leaf, leaf}
 use Rattle.sheets.specs.Bytes.{Bytes}
 use Rattle.sheets.specs.Reading.{sheetFault}
 use Rattle.calls.specs.OnSheet.{signalOn, settlingDate, exactOn, leafFound}

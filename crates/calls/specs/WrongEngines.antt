@@ -9,9 +9,9 @@ use Rattle.signals.specs.declared.Written.{Written}
 use Rattle.signals.specs.declared.Written.the-variants as written
 use Rattle.signals.specs.declared.Verdict.{Verdict}
 use Rattle.signals.specs.declared.Verdict.the-variants as verdict
-use Rattle.formulas.specs.Tree.{Tree, leaf, unary, binary}
-use Rattle.formulas.specs.Grammar.{Writes}
-use Rattle.formulas.specs.Formula.{formulaTree}
+use Rattle.grammar.specs.Tree.{Tree, leaf, unary, binary}
+use Rattle.grammar.specs.Grammar.{Writes}
+use Rattle.grammar.specs.Formula.{formulaTree}
 use Rattle.laws.specs.Rewriting.{Rewrites}
 use Rattle.calls.specs.OnSheet.{exactOn}
 use Rattle.calls.specs.Calls.{callFault, roomFault, claimFault, callAnswer, callOutput, claimAnswer}

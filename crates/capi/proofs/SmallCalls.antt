@@ -9,9 +9,9 @@ use lib.ListN.{length}
 use borrow.Author.Tests.{ltb-false}
 use Rattle.signals.specs.Moment.{M}
 use Rattle.operations.specs.Calls.{changesAfterM}
-use Rattle.formulas.specs.Tree.{Tree}
-use Rattle.formulas.specs.Formula.{formulaFault, formulaTree, accepted, longestOf, partsOf, depthOf}
-use Rattle.laws.specs.Rewriting.{parts}
+use Rattle.grammar.specs.Tree.{Tree}
+use Rattle.grammar.specs.Formula.{formulaFault, formulaTree, accepted, longestOf, partsOf, depthOf}
+use Rattle.grammar.specs.Parts.{parts}
 use Rattle.sheets.specs.Reading.{sheetFault}
 use Rattle.calls.specs.OnSheet.{exactOn, namesFound}
 use Rattle.calls.specs.Calls.{neededWork, readingFault, workFault, partFault, partsFault, workingFault, wordsOn, roomFault, callFault, callAnswer, claimFault, claimAnswer}

@@ -20,8 +20,8 @@ use Rattle.operations.specs.declared.SlotAnswer.{SlotAnswer}
 use Rattle.operations.specs.declared.SlotAnswer.the-variants.{Stands, TooLong, TooLate}
 use Rattle.operations.specs.Building.{slotWith}
 use Rattle.operations.proofs.BuildingLaws.{slot-short}
-use Rattle.formulas.specs.Tree.{Unary, Binary, invert, rise, fall, ton, tof, and, or, sr, rs}
-use Rattle.formulas.specs.Code.{ticksOf}
+use Rattle.grammar.specs.Tree.{Unary, Binary, invert, rise, fall, ton, tof, and, or, sr, rs}
+use Rattle.grammar.specs.Code.{ticksOf}
 use Rattle.calls.specs.Calls.{partFault}
 use Rattle.evaluation.specs.Machine.{Given, partAnswer, unaryOf, binaryOf, unaryExact, binaryExact, AND-table, OR-table}
 use Rattle.signals.specs.Answers.{firstOf}

@@ -18,11 +18,11 @@ use Rattle.signals.specs.declared.Verdict.the-variants as verdict
 use Rattle.signals.proofs.Settling.{settled-later}
 use Rattle.lists.specs.Questions as questions
 use Rattle.operations.proofs.JudgedCalls.{refused, passes-on}
-use Rattle.formulas.specs.Tree.{Tree}
-use Rattle.formulas.specs.Code.{code}
-use Rattle.formulas.specs.Formula.{codeOf, formulaTree}
-use Rattle.laws.specs.Rewriting.{parts}
-use Rattle.laws.proofs.Consequences.{one-verdict}
+use Rattle.grammar.specs.Tree.{Tree}
+use Rattle.grammar.specs.Code.{code}
+use Rattle.grammar.specs.Formula.{codeOf, formulaTree}
+use Rattle.grammar.specs.Parts.{parts}
+use Rattle.signals.proofs.AnyDate.{one-verdict}
 use Rattle.sheets.specs.Reading.{sheetFault}
 use Rattle.calls.specs.OnSheet.{exactOn, signalOn, settlingDate}
 use Rattle.calls.specs.Calls.{readingFault, workFault, neededWork, partsFault, workingFault, wordsOn, roomFault, callFault, callAnswer, callOutput, claimFault, claimVerdict, claimAnswer}

@@ -17,10 +17,10 @@ use Rattle.signals.specs.declared.Verdict.{Verdict}
 use Rattle.signals.specs.declared.Verdict.the-variants.{Refused}
 use Rattle.signals.proofs.Settling.{settled-later}
 use Rattle.lists.specs.Questions.{impliesOf, laterLast}
-use Rattle.formulas.specs.Tree.{Tree}
-use Rattle.formulas.specs.Formula.{formulaTree}
-use Rattle.laws.specs.Rewriting.{parts}
-use Rattle.laws.proofs.Consequences.{one-verdict}
+use Rattle.grammar.specs.Tree.{Tree}
+use Rattle.grammar.specs.Formula.{formulaTree}
+use Rattle.grammar.specs.Parts.{parts}
+use Rattle.signals.proofs.AnyDate.{one-verdict}
 use Rattle.sheets.specs.Reading.{sheetFault}
 use Rattle.calls.specs.OnSheet.{exactOn, signalOn, settlingDate}
 use Rattle.calls.specs.Calls.{readingFault, workFault, neededWork, partsFault, workingFault, claimFault, claimFails, claimVerdict, claimAnswer}

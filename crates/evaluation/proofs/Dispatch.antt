@@ -2,8 +2,8 @@
 use Prim.Native.Nat.{ℕ}
 use mathlib.Core.Path.{_≡_, refl, sym, _∙_, ap}
 use mathlib.Core.List.{List}
-use Rattle.formulas.specs.Tree.{Leaf}
-use Rattle.formulas.specs.Code.{Part, operand}
+use Rattle.grammar.specs.Tree.{Leaf}
+use Rattle.grammar.specs.Code.{Part, operand}
 use Rattle.evaluation.specs.declared.Next.{Next}
 use Rattle.evaluation.specs.Machine.{Ready, Steps, leafKnown}
 

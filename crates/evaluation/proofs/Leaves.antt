@@ -25,8 +25,8 @@ use Rattle.sheets.specs.declared.Place.the-variants.{At, Refused}
 use Rattle.sheets.proofs.Digits.{bytes-drop, wordsIn-below}
 use Rattle.sheets.specs.Theorems.{decoded, PartIsList}
 use Rattle.sheets.proofs.Theorems.{lookup-gives-the-list}
-use Rattle.formulas.specs.Tree.{Leaf, leaf, down, up, name}
-use Rattle.formulas.specs.Formula.{nameAt}
+use Rattle.grammar.specs.Tree.{Leaf, leaf, down, up, name}
+use Rattle.grammar.specs.Formula.{nameAt}
 use Rattle.calls.specs.OnSheet.{exactOn, settlingDate, signalOn}
 use Rattle.evaluation.specs.Machine.{leafOf, leafKnown, Loaded}
 use Rattle.evaluation.proofs.SlotFacts.{short}

@@ -12,11 +12,11 @@ use borrow.Author.Tests.{eq-eqb, ne-eqb}
 use Rattle.signals.specs.Answers.{writtenOf}
 use Rattle.signals.specs.declared.Written.{Written}
 use Rattle.signals.specs.declared.Written.the-variants.{Count, Refused}
-use Rattle.formulas.specs.Tree.{Tree}
-use Rattle.formulas.specs.Code.{Part, operand, one, two, code, work, top}
-use Rattle.formulas.specs.Formula.{partOf}
-use Rattle.formulas.proofs.Working.{code-determines}
-use Rattle.laws.specs.Rewriting.{parts}
+use Rattle.grammar.specs.Tree.{Tree}
+use Rattle.grammar.specs.Code.{Part, operand, one, two, code, work, top}
+use Rattle.grammar.specs.Formula.{partOf}
+use Rattle.grammar.proofs.Working.{code-determines}
+use Rattle.grammar.specs.Parts.{parts}
 use Rattle.sheets.specs.Reading.{sheetFault}
 use Rattle.calls.specs.OnSheet.{exactOn}
 use Rattle.calls.specs.Calls.{partFault, partsFault}

@@ -6,9 +6,9 @@ use mathlib.Core.Bool.{Bool, true, false, cond, _||_}
 use mathlib.Core.List.{List}
 use lib.Dec.{leb, ltb, eqb}
 use borrow.Author.Tests.{lt-ltb, le-ltb, le-leb, lt-leb}
-use Rattle.formulas.specs.Tree.{Tree, Leaf, Unary, Binary, down, up, name}
-use Rattle.formulas.specs.Code.{Part, operand, one, two}
-use Rattle.formulas.specs.Formula.{partOf, plainPart, timedPart, nameAt}
+use Rattle.grammar.specs.Tree.{Tree, Leaf, Unary, Binary, down, up, name}
+use Rattle.grammar.specs.Code.{Part, operand, one, two}
+use Rattle.grammar.specs.Formula.{partOf, plainPart, timedPart, nameAt}
 use Rattle.evaluation.specs.Machine.{leafOf, unaryOf, binaryOf}
 
 -- a kind is below 16: what holds of each holds of all

@@ -14,12 +14,12 @@ use Rattle.signals.specs.Answers.{writtenOf}
 use Rattle.signals.specs.declared.Written.{Written}
 use Rattle.signals.specs.declared.Written.the-variants.{Count, Refused}
 use Rattle.signals.proofs.Truth.{and-left, and-right}
-use Rattle.formulas.specs.Tree.{Tree, Leaf, Unary, Binary, leaf, unary, binary, down, up, name}
-use Rattle.formulas.specs.Code.{Part, operand, one, two, code, longest, ticksOf}
-use Rattle.formulas.specs.Formula.{partOf, codeOf, codeAfter, formulaFault, formulaTree, longestOf, partsOf, depthOf, accepted, nameAt}
-use Rattle.formulas.proofs.Coding.{code-exact}
-use Rattle.formulas.proofs.Reading.{reader-exact, parts-exact, longest-of, faults-exact}
-use Rattle.formulas.proofs.Storing.{code-after-front}
+use Rattle.grammar.specs.Tree.{Tree, Leaf, Unary, Binary, leaf, unary, binary, down, up, name}
+use Rattle.grammar.specs.Code.{Part, operand, one, two, code, longest, ticksOf}
+use Rattle.grammar.specs.Formula.{partOf, codeOf, codeAfter, formulaFault, formulaTree, longestOf, partsOf, depthOf, accepted, nameAt}
+use Rattle.grammar.proofs.Coding.{code-exact}
+use Rattle.grammar.proofs.Reading.{reader-exact, parts-exact, longest-of, faults-exact}
+use Rattle.grammar.proofs.Storing.{code-after-front}
 use Rattle.sheets.specs.Names.{wellNamed, same, among}
 use Rattle.sheets.specs.Reading.{sheetFault, signalsOn, names, Entry, nameOf}
 use Rattle.sheets.specs.Calls.{lookupFault}

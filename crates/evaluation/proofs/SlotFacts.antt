@@ -7,7 +7,7 @@ use lib.ListN.{length, take, drop, getD, set, length-append, length-take, take-a
 use lib.Seq.{paste, take-append-le, drop-append-le, take-at, drop-at, length-take-le, getD-set-same, getD-set-other, take-length, take-take}
 use Rattle.signals.specs.Words.{listFault}
 use Rattle.signals.proofs.Normal.{acceptedNormal}
-use Rattle.formulas.specs.Tree.{Tree}
+use Rattle.grammar.specs.Tree.{Tree}
 use Rattle.calls.specs.OnSheet.{exactOn}
 use Rattle.evaluation.specs.Machine.{InSlot, Stacked}
 

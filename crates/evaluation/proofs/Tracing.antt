@@ -4,10 +4,10 @@ use native.Mathlib.Omega.{arith}
 use mathlib.Core.Path.{_≡_, refl, sym, _∙_, ap}
 use mathlib.Core.List.{List, [], _∷_, _++_, append-assoc, append-nil}
 use lib.ListN.{length, length-append}
-use Rattle.formulas.specs.Tree.{Tree, Leaf, Unary, Binary, leaf, unary, binary}
-use Rattle.formulas.specs.Code.{Part, operand, one, two, code, work, top}
-use Rattle.formulas.proofs.Working.{worked as work-code}
-use Rattle.laws.specs.Rewriting.{parts}
+use Rattle.grammar.specs.Tree.{Tree, Leaf, Unary, Binary, leaf, unary, binary}
+use Rattle.grammar.specs.Code.{Part, operand, one, two, code, work, top}
+use Rattle.grammar.proofs.Working.{worked as work-code}
+use Rattle.grammar.specs.Parts.{parts}
 use Rattle.evaluation.specs.Machine.{worked, Enough, trace}
 
 pub traced : (t : Tree) (ps : List Part) (st : List Tree) → trace (code t ++ ps) st ≡ parts t ++ trace ps (t ∷ st)

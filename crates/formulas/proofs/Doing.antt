@@ -9,12 +9,12 @@ use lib.Dec.{eqb}
 use lib.ListN.{length, take, drop, set, length-set, length-drop}
 use lib.Seq.{take-suc-set}
 use borrow.Author.Tests.{eqb-true}
-use Rattle.formulas.specs.Grammar.{isDigit}
-use Rattle.formulas.specs.Reader.{State, next, bad, stepped, expect, put, passLength}
+use Rattle.grammar.specs.Grammar.{isDigit}
+use Rattle.grammar.specs.Reader.{State, next, bad, stepped, expect, put, passLength}
 use Rattle.formulas.specs.Marks.{Mark, viewOf, nextMark, movedMark, expectMark, lengthMark, putMark, putCode, Ready, Done}
-use Rattle.formulas.proofs.Bytes.{by-cond, never}
-use Rattle.formulas.proofs.Standing.{state-eq}
-use Rattle.formulas.proofs.Carried.{both-ways}
+use Rattle.grammar.proofs.Bytes.{by-cond, never}
+use Rattle.grammar.proofs.Standing.{state-eq}
+use Rattle.grammar.proofs.Carried.{both-ways}
 use Rattle.formulas.proofs.Marking.{inside, run-most}
 
 pub view-next : (text : List ℕ) (m : Mark) (code : List ℕ) → next text (viewOf m code) ≡ nextMark text m

@@ -7,11 +7,11 @@ use mathlib.Core.List.{List}
 use lib.Dec.{eqb}
 use lib.ListN.{length, getD, drop, length-drop}
 use borrow.Author.Tests.{le-leb, lt-leb}
-use Rattle.formulas.specs.Grammar.{isLower, isNameByte}
-use Rattle.formulas.specs.Reader.{State, run, bad, stepped, put, leafAt}
-use Rattle.formulas.specs.Formula.{coded, nameWord}
+use Rattle.grammar.specs.Grammar.{isLower, isNameByte}
+use Rattle.grammar.specs.Reader.{State, run, bad, stepped, put, leafAt}
+use Rattle.grammar.specs.Formula.{coded, nameWord}
 use Rattle.formulas.specs.Marks.{Mark, viewOf, nextMark, badMark, movedMark, putMark, putCode, Ready, LeafRead}
-use Rattle.formulas.proofs.Bytes.{lower-low, lower-not}
+use Rattle.grammar.proofs.Bytes.{lower-low, lower-not}
 use Rattle.formulas.proofs.Marking.{inside, run-on, run-most}
 use Rattle.formulas.proofs.Doing.{view-next, starting, moving-by, moving, putting, becoming, turned, roomy}
 

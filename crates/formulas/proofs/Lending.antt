@@ -6,7 +6,7 @@ use mathlib.Core.List.{List, [], _∷_}
 use lib.ListN.{length, getD, set, take, drop}
 use lib.Seq.{take-take, length-take-le}
 use borrow.Author.Tests.{eq-eqb}
-use Rattle.formulas.specs.Reader.{valueBetween}
+use Rattle.grammar.specs.Reader.{valueBetween}
 use Rattle.formulas.specs.Marks.{markOf, Marked, Lent, badMark, movedMark, putMark}
 
 -- a list of five is five elements

@@ -1,24 +1,8 @@
--- Lemmas on the grammar, its reader and code words.
-pub mod Standing
-pub mod Bytes
-pub mod Steps
-pub mod Branches
-pub mod Complete
-pub mod Found
-pub mod FoundLeaves
-pub mod FoundBlocks
-pub mod Sound
-pub mod Working
-pub mod Reading
-pub mod Segments
-pub mod Writing
-pub mod Carried
-pub mod Coding
+-- Lemmas on the reader's steps and paths.
 pub mod Lending
 pub mod Marking
 pub mod Doing
 pub mod LeafPaths
 pub mod ReaderPaths
 pub mod ReaderChains
-pub mod Storing
 pub mod WholeRead

@@ -9,11 +9,11 @@ use mathlib.Core.List.{List, [], _∷_}
 use lib.ListN.{length, getD, take, drop, List·getD-eq-default, drop-of-length-le, length-drop}
 use lib.Seq.{drop-cons, take-suc, getD-drop}
 use Rattle.signals.specs.Moment.{M}
-use Rattle.formulas.specs.Grammar.{value, valueFrom}
-use Rattle.formulas.specs.Reader.{run, valueBetween}
-use Rattle.formulas.specs.Formula.{capped}
+use Rattle.grammar.specs.Grammar.{value, valueFrom}
+use Rattle.grammar.specs.Reader.{run, valueBetween}
+use Rattle.grammar.specs.Formula.{capped}
 use Rattle.formulas.specs.Marks.{Mark, nextMark}
-use Rattle.formulas.proofs.Writing.{value-more}
+use Rattle.grammar.proofs.Writing.{value-more}
 
 -- a byte above 0 is next: all is well and the end is not reached
 pub record Inside (text : List ℕ) (m : Mark) : Type 0 where

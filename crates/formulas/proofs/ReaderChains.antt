@@ -7,10 +7,10 @@ use mathlib.Core.List.{List}
 use lib.Dec.{eqb}
 use lib.ListN.{length}
 use borrow.Author.Tests.{eq-eqb}
-use Rattle.formulas.specs.Reader.{State, stepped, put}
-use Rattle.formulas.specs.Formula.{coded}
+use Rattle.grammar.specs.Reader.{State, stepped, put}
+use Rattle.grammar.specs.Formula.{coded}
 use Rattle.formulas.specs.Marks.{Mark, viewOf, nextMark, putMark, putCode, Ready, Done}
-use Rattle.formulas.proofs.Branches.{Chain}
+use Rattle.grammar.proofs.Branches.{Chain}
 use Rattle.formulas.proofs.Doing.{view-next, put-is, ready-on, starting, turned, calling, put-needs, putting, finishing}
 use Rattle.formulas.proofs.ReaderPaths.{Step, before, one-on, past, own-byte}
 

@@ -7,11 +7,11 @@ use mathlib.Core.List.{List}
 use lib.Dec.{eqb}
 use lib.ListN.{length}
 use borrow.Author.Tests.{lt-ltb, le-ltb}
-use Rattle.formulas.specs.Reader.{State, next, stepped, expect, passLength, valueBetween, prefixKind, timed, sumAt, factorAt, latchAt, timerAt}
-use Rattle.formulas.specs.Formula.{coded, capped, timerWord}
+use Rattle.grammar.specs.Reader.{State, next, stepped, expect, passLength, valueBetween, prefixKind, timed, sumAt, factorAt, latchAt, timerAt}
+use Rattle.grammar.specs.Formula.{coded, capped, timerWord}
 use Rattle.formulas.specs.Marks.{Mark, viewOf, nextMark, movedMark, expectMark, lengthMark, putMark, putCode, Ready, Done, LeafRead, SumRead, FactorRead, LatchRead, TimerRead}
 use Rattle.formulas.proofs.Marking.{inside}
-use Rattle.formulas.proofs.Branches.{Latch}
+use Rattle.grammar.proofs.Branches.{Latch}
 use Rattle.formulas.proofs.Doing.{view-next, expected, ready-deeper, starting, turned, moving, expecting, passing, calling, put-needs, putting, closing, finishing}
 
 -- a byte with a prefix's kind is not 0

@@ -12,11 +12,11 @@ use borrow.Author.Tests.{eq-eqb, ne-eqb, lt-ltb, le-ltb}
 use Rattle.signals.specs.Moment.{M}
 use Rattle.signals.specs.Answers.{writtenOf}
 use Rattle.signals.specs.declared.Written.the-variants as written
-use Rattle.formulas.specs.Reader.{State, readText}
-use Rattle.formulas.specs.Formula.{spelled, coded, capped, partOf, accepted, partsOf, depthOf, longestOf, formulaFault, codeOf, codeAfter}
+use Rattle.grammar.specs.Reader.{State, readText}
+use Rattle.grammar.specs.Formula.{spelled, coded, capped, partOf, accepted, partsOf, depthOf, longestOf, formulaFault, codeOf, codeAfter}
 use Rattle.formulas.specs.Marks.{Mark, markOf, viewOf, Ready, SumRead, Begun, markFault}
-use Rattle.formulas.proofs.Coding.{coded-run, cutPart}
-use Rattle.formulas.proofs.Storing.{sets-front}
+use Rattle.grammar.proofs.Coding.{coded-run, cutPart}
+use Rattle.grammar.proofs.Storing.{sets-front}
 
 abbrev pub first : Mark
 first = record { ok = true; at = 0; parts = 0; deepest = 0; longest = 0 }

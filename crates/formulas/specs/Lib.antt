@@ -1,9 +1,2 @@
--- Document 01, "Formulas", as definitions.
-pub mod Tree
-pub mod Grammar
-pub mod Code
-pub mod Reader
-pub mod Formula
-pub mod Exactness
-pub mod Places
+-- What the reader's private contracts cite.
 pub mod Marks

@@ -6,9 +6,9 @@ use mathlib.Core.List.{List}
 use lib.Dec.{ltb, eqb}
 use lib.ListN.{length, getD, take, drop, set}
 use Rattle.signals.specs.Moment.{M}
-use Rattle.formulas.specs.Grammar.{isDigit, isNameByte}
-use Rattle.formulas.specs.Formula.{coded}
-use Rattle.formulas.specs.Reader.{State, run, leafAt, sumAt, sumsAt, productAt, productsAt, factorAt, latchAt, timerAt}
+use Rattle.grammar.specs.Grammar.{isDigit, isNameByte}
+use Rattle.grammar.specs.Formula.{coded}
+use Rattle.grammar.specs.Reader.{State, run, leafAt, sumAt, sumsAt, productAt, productsAt, factorAt, latchAt, timerAt}
 
 -- whether all is well, the bytes passed, the parts put out, and the largest depth and length of a part
 pub record Mark : Type 0 where

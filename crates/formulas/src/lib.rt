@@ -8,7 +8,7 @@ ghost use Prim.Native.Nat.{_≤_};
 ghost use lib.ListN.{length, take};
 ghost use lib.Seq.{sets};
 ghost use Rattle.signals.specs.Answers.{writtenOf};
-ghost use Rattle.formulas.specs.Formula.{formulaFault, codeOf, codeAfter};
+ghost use Rattle.grammar.specs.Formula.{formulaFault, codeOf, codeAfter};
 ghost use Rattle.formulas.specs.Marks.{markOf, markFault};
 use mark::AT;
 use mark::DEEPEST;

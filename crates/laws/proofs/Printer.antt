@@ -2,9 +2,9 @@
 use Prim.Native.Nat.{ℕ, _+_, max}
 use mathlib.Core.Path.{_≡_, refl, sym, _∙_, ap}
 use mathlib.Core.List.{List, [], _∷_, _++_, append-assoc}
-use Rattle.formulas.specs.Tree as tree
-use Rattle.formulas.specs.Tree.{Tree, and, or, sr, rs}
-use Rattle.formulas.specs.Grammar.{Sum, Product, Factor}
+use Rattle.grammar.specs.Tree as tree
+use Rattle.grammar.specs.Tree.{Tree, and, or, sr, rs}
+use Rattle.grammar.specs.Grammar.{Sum, Product, Factor}
 use Rattle.laws.specs.Scheme.{Letter, LengthTerm, Scheme, Substitution, put, letter, down, up, unary, binary, invert, rise, fall, ton, tof}
 use Rattle.laws.specs.Printed.{Write}
 

@@ -3,10 +3,10 @@ use Prim.Native.Nat.{ℕ, _+_, _≤_}
 use native.Mathlib.Omega.{arith}
 use mathlib.Core.Path.{refl}
 use mathlib.Core.List.{List, [], _∷_, _++_}
-use Rattle.formulas.specs.Tree.{Tree}
-use Rattle.formulas.specs.Grammar.{Factor}
-use Rattle.formulas.specs.Exactness.{Writable}
-use Rattle.formulas.proofs.Writing.{length-written, every-tree-written}
+use Rattle.grammar.specs.Tree.{Tree}
+use Rattle.grammar.specs.Grammar.{Factor}
+use Rattle.grammar.specs.Exactness.{Writable}
+use Rattle.grammar.proofs.Writing.{length-written, every-tree-written}
 use Rattle.laws.specs.Scheme.{Letter, Substitution, putLength}
 use Rattle.laws.specs.Substitutions.{Chosen, SubstitutionsExact}
 use Rattle.laws.specs.Printed.{EverySubstitutionWritten}

@@ -3,7 +3,7 @@ use Prim.Native.Nat.{ℕ, _-_}
 use mathlib.Core.Path.{_≡_}
 use mathlib.Core.List.{List, [], _∷_}
 use lib.ListN.{length, getD}
-use Rattle.formulas.specs.Tree as tree
+use Rattle.grammar.specs.Tree as tree
 use Rattle.laws.specs.Scheme as scheme
 use Rattle.laws.specs.Scheme.{LengthTerm, Scheme, Equation, d, e, d+e, larger, smaller}
 

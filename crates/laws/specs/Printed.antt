@@ -7,9 +7,9 @@ use mathlib.Core.Bool.{Bool, true, false, cond, _&&_}
 use mathlib.Core.List.{List, [], _∷_, _++_}
 use lib.Dec.{eqb}
 use lib.ListN.{length, getD}
-use Rattle.formulas.specs.Tree.{leaf, name}
-use Rattle.formulas.specs.Grammar.{Factor, Writes, isLength, value}
-use Rattle.formulas.specs.Exactness.{Writable}
+use Rattle.grammar.specs.Tree.{leaf, name}
+use Rattle.grammar.specs.Grammar.{Factor, Writes, isLength, value}
+use Rattle.grammar.specs.Exactness.{Writable}
 use Rattle.laws.specs.Scheme.{Letter, f, g, h, s, r, p, LengthTerm, d, e, d+e, larger, smaller}
 use Rattle.laws.specs.Scheme.{Equation, Substitution, putLength, put}
 use Rattle.laws.specs.Laws.{equation}

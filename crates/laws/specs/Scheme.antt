@@ -3,8 +3,8 @@ use Prim.Native.Nat.{ℕ, _+_, _≤_}
 use mathlib.Core.Bool.{cond}
 use lib.Dec.{leb}
 use Rattle.signals.specs.Moment.{M}
-use Rattle.formulas.specs.Tree as tree
-use Rattle.formulas.specs.Tree.{Tree, Leaf, Unary, Binary}
+use Rattle.grammar.specs.Tree as tree
+use Rattle.grammar.specs.Tree.{Tree, Leaf, Unary, Binary}
 
 -- f, g, h, s, r, p are any formulas
 pub data Letter : Type 0 where

@@ -6,7 +6,7 @@ use Rattle.signals.specs.Signal.{Signal}
 use Rattle.signals.specs.Settled.{SettledFrom}
 use Rattle.signals.specs.Words.{listOf}
 use Rattle.signals.specs.Implication.{verdictOf}
-use Rattle.formulas.specs.Tree.{Tree, Environment, signal}
+use Rattle.grammar.specs.Tree.{Tree, Environment, signal}
 use Rattle.laws.specs.Scheme.{Equation, Substitution, put}
 use Rattle.laws.specs.Laws.{table, equation}
 use Rattle.laws.specs.Rewriting.{Rewrites}

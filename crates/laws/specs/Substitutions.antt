@@ -2,7 +2,7 @@
 -- may stand for any tree.
 use Prim.Native.Nat.{ℕ, _+_, _≤_}
 use mathlib.Core.Path.{_≡_}
-use Rattle.formulas.specs.Tree.{Tree}
+use Rattle.grammar.specs.Tree.{Tree}
 use Rattle.laws.specs.Scheme.{Letter, Substitution}
 
 -- the substitution of these formulas and lengths

@@ -10,6 +10,7 @@ pub mod Scan
 pub mod Operand
 pub mod Normal
 pub mod Implication
+pub mod AnyDate
 pub mod AnswersSay
 pub mod Starred
 pub mod Settling

@@ -36,35 +36,35 @@ calls-WrongEngines-SevenShutOut = Rattle.calls.proofs.WrongEngines.seven-shut-o
 pub calls-WrongEngines-ZeroObeysEveryLaw : Rattle.calls.specs.WrongEngines.ZeroObeysEveryLaw
 calls-WrongEngines-ZeroObeysEveryLaw = Rattle.calls.proofs.ZeroObeys.zero-obeys
 
-pub formulas-Exactness-AcceptedCode : Rattle.formulas.specs.Exactness.AcceptedCode
-formulas-Exactness-AcceptedCode = Rattle.formulas.proofs.Coding.accepted-code
+pub formulas-Exactness-AcceptedCode : Rattle.grammar.specs.Exactness.AcceptedCode
+formulas-Exactness-AcceptedCode = Rattle.grammar.proofs.Coding.accepted-code
 
-pub formulas-Exactness-CodeExact : Rattle.formulas.specs.Exactness.CodeExact
-formulas-Exactness-CodeExact = Rattle.formulas.proofs.Coding.code-exact
+pub formulas-Exactness-CodeExact : Rattle.grammar.specs.Exactness.CodeExact
+formulas-Exactness-CodeExact = Rattle.grammar.proofs.Coding.code-exact
 
-pub formulas-Exactness-EveryTreeWritten : Rattle.formulas.specs.Exactness.EveryTreeWritten
-formulas-Exactness-EveryTreeWritten = Rattle.formulas.proofs.Writing.every-tree-written
+pub formulas-Exactness-EveryTreeWritten : Rattle.grammar.specs.Exactness.EveryTreeWritten
+formulas-Exactness-EveryTreeWritten = Rattle.grammar.proofs.Writing.every-tree-written
 
-pub formulas-Exactness-FaultsExact : Rattle.formulas.specs.Exactness.FaultsExact
-formulas-Exactness-FaultsExact = Rattle.formulas.proofs.Reading.faults-exact
+pub formulas-Exactness-FaultsExact : Rattle.grammar.specs.Exactness.FaultsExact
+formulas-Exactness-FaultsExact = Rattle.grammar.proofs.Reading.faults-exact
 
-pub formulas-Exactness-OneTree : Rattle.formulas.specs.Exactness.OneTree
-formulas-Exactness-OneTree = Rattle.formulas.proofs.Reading.one-tree
+pub formulas-Exactness-OneTree : Rattle.grammar.specs.Exactness.OneTree
+formulas-Exactness-OneTree = Rattle.grammar.proofs.Reading.one-tree
 
-pub formulas-Exactness-PartsExact : Rattle.formulas.specs.Exactness.PartsExact
-formulas-Exactness-PartsExact = Rattle.formulas.proofs.Reading.parts-exact
+pub formulas-Exactness-PartsExact : Rattle.grammar.specs.Exactness.PartsExact
+formulas-Exactness-PartsExact = Rattle.grammar.proofs.Reading.parts-exact
 
-pub formulas-Exactness-ReaderExact : Rattle.formulas.specs.Exactness.ReaderExact
-formulas-Exactness-ReaderExact = Rattle.formulas.proofs.Reading.reader-exact
+pub formulas-Exactness-ReaderExact : Rattle.grammar.specs.Exactness.ReaderExact
+formulas-Exactness-ReaderExact = Rattle.grammar.proofs.Reading.reader-exact
 
-pub formulas-Places-CodeDetermines : Rattle.formulas.specs.Places.CodeDetermines
-formulas-Places-CodeDetermines = Rattle.formulas.proofs.Working.code-determines
+pub formulas-Places-CodeDetermines : Rattle.grammar.specs.Places.CodeDetermines
+formulas-Places-CodeDetermines = Rattle.grammar.proofs.Working.code-determines
 
-pub formulas-Places-OnePartEnds : Rattle.formulas.specs.Places.OnePartEnds
-formulas-Places-OnePartEnds = Rattle.formulas.proofs.Segments.one-part-ends
+pub formulas-Places-OnePartEnds : Rattle.grammar.specs.Places.OnePartEnds
+formulas-Places-OnePartEnds = Rattle.grammar.proofs.Segments.one-part-ends
 
-pub formulas-Places-SegmentReplaced : Rattle.formulas.specs.Places.SegmentReplaced
-formulas-Places-SegmentReplaced = Rattle.formulas.proofs.Segments.segment-replaced
+pub formulas-Places-SegmentReplaced : Rattle.grammar.specs.Places.SegmentReplaced
+formulas-Places-SegmentReplaced = Rattle.grammar.proofs.Segments.segment-replaced
 
 pub laws-Laws-NumberOfLaws : Rattle.laws.specs.Laws.NumberOfLaws
 laws-Laws-NumberOfLaws = Rattle.laws.proofs.Table.number-of-laws

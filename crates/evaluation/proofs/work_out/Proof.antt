@@ -4,8 +4,8 @@ use Prim.Native.Nat.{ℕ, _+_, _-_, _≤_, _<_}
 use native.Mathlib.Omega.{arith}
 use mathlib.Core.Path.{_≡_, refl, sym, _∙_, ap}
 use lib.ListN.{length, length-set, length-replicate}
-use Rattle.formulas.specs.Tree.{Tree}
-use Rattle.formulas.specs.Code.{code}
+use Rattle.grammar.specs.Tree.{Tree}
+use Rattle.grammar.specs.Code.{code}
 use Rattle.evaluation.specs.Machine.{partsIn}
 use Rattle.evaluation.proofs.Looping.{Going, start, height-small, ready, stopped, gone-on, finished}
 use Rattle.evaluation.proofs.work_out.Statement.{statement}

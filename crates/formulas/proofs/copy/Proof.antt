@@ -4,7 +4,7 @@ use native.Mathlib.Omega.{arith}
 use mathlib.Core.Path.{_≡_, refl, ap, _∙_}
 use lib.ListN.{take}
 use lib.Seq.{sets}
-use Rattle.formulas.proofs.Storing.{sets-next}
+use Rattle.grammar.proofs.Storing.{sets-next}
 use Rattle.formulas.proofs.copy.Statement.{statement}
 use Rattle.formulas.proofs.copy.Tie as tie
 

@@ -4,7 +4,7 @@ use native.Mathlib.Omega.{arith}
 use mathlib.Core.Path.{_≡_, refl, ap, _∙_}
 use lib.ListN.{length, take}
 use lib.Seq.{sets, take-length}
-use Rattle.formulas.proofs.Storing.{sets-next}
+use Rattle.grammar.proofs.Storing.{sets-next}
 use Rattle.formulas.proofs.lay.Statement.{statement}
 use Rattle.formulas.proofs.lay.Tie as tie
 

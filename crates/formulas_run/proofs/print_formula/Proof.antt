@@ -1,7 +1,7 @@
 -- `read` leaves as many code words as there were.
 use mathlib.Core.Path.{sym, ap, _∙_}
 use lib.ListN.{length}
-use Rattle.formulas.proofs.Storing.{code-after-length}
+use Rattle.grammar.proofs.Storing.{code-after-length}
 use borrow.Author.Needs.{needs}
 use Rattle.formulas_run.proofs.print_formula.Statement.{statement}
 use Rattle.formulas_run.proofs.print_formula.Tie as tie

@@ -1,7 +1,7 @@
 -- `formulas::mark::belongs` meets its contract.
 use borrow.Author.Needs.{needs}
 use mathlib.Core.Path.{refl}
-use Rattle.formulas.specs.Grammar.{isNameByte}
+use Rattle.grammar.specs.Grammar.{isNameByte}
 use Rattle.formulas.proofs.mark.belongs.Statement.{statement}
 use Rattle.formulas.proofs.mark.belongs.Tie as tie
 

@@ -1,6 +1,6 @@
 -- `formulas::mark::is_lower` meets its contract.
 use borrow.Author.Tests.{lt-leb, le-leb}
-use Rattle.formulas.specs.Grammar.{isLower}
+use Rattle.grammar.specs.Grammar.{isLower}
 use Rattle.formulas.proofs.mark.is_lower.Statement.{statement}
 use Rattle.formulas.proofs.mark.is_lower.Tie as tie
 

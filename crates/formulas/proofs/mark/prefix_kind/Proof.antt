@@ -1,6 +1,6 @@
 -- `formulas::mark::prefix_kind` meets its contract.
 use borrow.Author.Tests.{eq-eqb, ne-eqb}
-use Rattle.formulas.specs.Reader.{prefixKind}
+use Rattle.grammar.specs.Reader.{prefixKind}
 use Rattle.formulas.proofs.mark.prefix_kind.Statement.{statement}
 use Rattle.formulas.proofs.mark.prefix_kind.Tie as tie
 

@@ -7,7 +7,7 @@ use mathlib.Core.Bool.{Bool}
 use mathlib.Core.List.{List}
 use lib.ListN.{length, getD, take, drop}
 use lib.Seq.{getD-take, length-take-le}
-use Rattle.formulas.specs.Reader.{run}
+use Rattle.grammar.specs.Reader.{run}
 use Rattle.formulas.specs.Marks.{classOf}
 use Rattle.formulas.proofs.Marking.{run-on, run-off, run-end}
 use Rattle.formulas.proofs.mark.run_end.Statement.{statement}

@@ -5,8 +5,8 @@ use borrow.Author.Needs.{needs}
 use mathlib.Core.Path.{_≡_, sym, ap, _∙_}
 use mathlib.Core.Logic.{⊎-elim}
 use Rattle.signals.specs.Moment.{M}
-use Rattle.formulas.specs.Reader.{valueBetween}
-use Rattle.formulas.specs.Formula.{capped}
+use Rattle.grammar.specs.Reader.{valueBetween}
+use Rattle.grammar.specs.Formula.{capped}
 use Rattle.formulas.proofs.Marking.{value-next, value-none, capped-next, capped-over, capped-under, capped-most}
 use Rattle.formulas.proofs.mark.ticks.Statement.{statement}
 use Rattle.formulas.proofs.mark.ticks.Tie as tie

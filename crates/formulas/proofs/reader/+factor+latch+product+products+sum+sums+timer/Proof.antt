@@ -6,14 +6,14 @@ use borrow.Author.Tests.{ne-eqb}
 use mathlib.Core.Path.{sym, ap, _∙_}
 use lib.ListN.{length, take}
 use borrow.Author.Needs.{needs}
-use Rattle.formulas.specs.Formula.{capped}
+use Rattle.grammar.specs.Formula.{capped}
 use Rattle.formulas.specs.Marks.{Mark, markOf}
 use Rattle.formulas.proofs.Marking.{capped-most}
 use Rattle.formulas.proofs.Lending.{lent-on, text-long, value-front}
 use Rattle.formulas.proofs.Doing.{passed, inner-needs}
 use Rattle.formulas.proofs.ReaderPaths as paths
 use Rattle.formulas.proofs.ReaderChains as chains
-use Rattle.formulas.proofs.Branches.{plus, times, sr-latch, rs-latch}
+use Rattle.grammar.proofs.Branches.{plus, times, sr-latch, rs-latch}
 use borrow.Fn.Kinds.{In}
 use borrow.Fn.PlainCycle.{Measures, is, falls, and}
 use Rattle.formulas.proofs.reader.factor.Reads as factor

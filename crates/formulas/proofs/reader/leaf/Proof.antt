@@ -6,9 +6,9 @@ use native.Mathlib.Omega.{arith}
 use mathlib.Core.Path.{_≡_, refl, sym, ap, _∙_}
 use mathlib.Core.Bool.{true, false}
 use lib.ListN.{take, drop}
-use Rattle.formulas.specs.Grammar.{isLower, isNameByte}
-use Rattle.formulas.specs.Reader.{run}
-use Rattle.formulas.specs.Formula.{nameWord}
+use Rattle.grammar.specs.Grammar.{isLower, isNameByte}
+use Rattle.grammar.specs.Reader.{run}
+use Rattle.grammar.specs.Formula.{nameWord}
 use Rattle.formulas.specs.Marks.{markOf, nextMark, movedMark, putCode}
 use Rattle.formulas.proofs.Lending.{text-long}
 use Rattle.formulas.proofs.LeafPaths.{constant-room, constant-path, zero-is, one-is, name-room, name-path, bad-path, long-is, other-is}

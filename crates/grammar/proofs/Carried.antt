@@ -6,10 +6,10 @@ use mathlib.Core.List.{List, [], _∷_, map, map-append}
 use lib.Dec.{leb, ltb, eqb}
 use lib.ListN.{length, getD, drop}
 use borrow.Author.Tests.{leb-true}
-use Rattle.formulas.specs.Grammar.{isLower, isDigit, isNameByte}
-use Rattle.formulas.specs.Reader.{State, Emission, run, next, bad, stepped, expect, put, passLength, valueBetween, prefixKind, leafAt, timed, sumAt, sumsAt, productAt, productsAt, factorAt, latchAt, timerAt, readText, start}
-use Rattle.formulas.proofs.Bytes.{by-cond}
-use Rattle.formulas.proofs.Standing.{state-eq}
+use Rattle.grammar.specs.Grammar.{isLower, isDigit, isNameByte}
+use Rattle.grammar.specs.Reader.{State, Emission, run, next, bad, stepped, expect, put, passLength, valueBetween, prefixKind, leafAt, timed, sumAt, sumsAt, productAt, productsAt, factorAt, latchAt, timerAt, readText, start}
+use Rattle.grammar.proofs.Bytes.{by-cond}
+use Rattle.grammar.proofs.Standing.{state-eq}
 
 -- the kinds that are a part by themselves, and those of timers
 abbrev pub isPlain : ℕ → Bool

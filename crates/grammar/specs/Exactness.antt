@@ -6,10 +6,10 @@ use mathlib.Core.List.{List, map}
 use mathlib.Core.Logic.{_⊎_, _↔_}
 use lib.ListN.{length}
 use Rattle.signals.specs.Moment.{M}
-use Rattle.formulas.specs.Tree.{Tree, Leaf, Unary, Binary, leaf, unary, binary, name, down, up, ton, tof}
-use Rattle.formulas.specs.Code.{code}
-use Rattle.formulas.specs.Grammar.{Sum, isName}
-use Rattle.formulas.specs.Formula.{accepted, formulaTree, depthOf, partsOf, formulaFault, partOf, codeOf}
+use Rattle.grammar.specs.Tree.{Tree, Leaf, Unary, Binary, leaf, unary, binary, name, down, up, ton, tof}
+use Rattle.grammar.specs.Code.{code}
+use Rattle.grammar.specs.Grammar.{Sum, isName}
+use Rattle.grammar.specs.Formula.{accepted, formulaTree, depthOf, partsOf, formulaFault, partOf, codeOf}
 
 -- The reader accepts exactly the bytes that the grammar derives, with that tree and depth.
 abbrev pub ReaderExact : Type 0

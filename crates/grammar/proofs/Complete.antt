@@ -8,15 +8,15 @@ use lib.Dec.{leb, ltb, eqb, eqb·suc-zero}
 use lib.ListN.{length, getD, length-append}
 use lib.Seq.{take-append-seam}
 use borrow.Author.Tests.{leb-true, le-leb, eq-eqb}
-use Rattle.formulas.specs.Tree.{Tree, Unary, Binary, leaf, unary, binary, invert, rise, fall, ton, tof, and, or, sr, rs, name, down, up}
-use Rattle.formulas.specs.Code.{Part, code, longest, one, two, ticksOf}
-use Rattle.formulas.specs.Grammar.{Sum, Product, Factor, isLower, isDigit, isNameByte, allOf, isName, isLength, value}
-use Rattle.formulas.specs.Reader.{State, next, stepped, put, passLength, valueBetween, prefixKind, leafAt, timed, sumAt, sumsAt, productAt, productsAt, factorAt, latchAt, timerAt}
-use Rattle.formulas.specs.Formula.{plainPart, timedPart, nameAt, spelled}
-use Rattle.formulas.proofs.Bytes.{never, and-left, and-right, run-all, lower-not}
-use Rattle.formulas.proofs.Standing.{state-eq, At, next-of, step-at, steps-at, expect-at, after, after-at}
-use Rattle.formulas.proofs.Branches.{Chain, Latch, Timer, plus, times, sr-latch, rs-latch, ton-timer, tof-timer}
-use Rattle.formulas.proofs.Steps.{joined, prefixed, bracketed, latched, clocked, two-letters, three-letters, regroup}
+use Rattle.grammar.specs.Tree.{Tree, Unary, Binary, leaf, unary, binary, invert, rise, fall, ton, tof, and, or, sr, rs, name, down, up}
+use Rattle.grammar.specs.Code.{Part, code, longest, one, two, ticksOf}
+use Rattle.grammar.specs.Grammar.{Sum, Product, Factor, isLower, isDigit, isNameByte, allOf, isName, isLength, value}
+use Rattle.grammar.specs.Reader.{State, next, stepped, put, passLength, valueBetween, prefixKind, leafAt, timed, sumAt, sumsAt, productAt, productsAt, factorAt, latchAt, timerAt}
+use Rattle.grammar.specs.Formula.{plainPart, timedPart, nameAt, spelled}
+use Rattle.grammar.proofs.Bytes.{never, and-left, and-right, run-all, lower-not}
+use Rattle.grammar.proofs.Standing.{state-eq, At, next-of, step-at, steps-at, expect-at, after, after-at}
+use Rattle.grammar.proofs.Branches.{Chain, Latch, Timer, plus, times, sr-latch, rs-latch, ton-timer, tof-timer}
+use Rattle.grammar.proofs.Steps.{joined, prefixed, bracketed, latched, clocked, two-letters, three-letters, regroup}
 
 -- a name or a number ends before these bytes
 abbrev pub NameEnds : List ℕ → Type 0

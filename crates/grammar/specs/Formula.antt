@@ -6,9 +6,9 @@ use lib.Dec.{ltb, eqb}
 use lib.ListN.{length, getD, take, drop}
 use lib.Seq.{sets}
 use Rattle.signals.specs.Moment.{M}
-use Rattle.formulas.specs.Tree.{Tree, down, up, name, invert, rise, fall, ton, tof, and, or, sr, rs}
-use Rattle.formulas.specs.Code.{Part, operand, one, two, treeOf}
-use Rattle.formulas.specs.Reader.{Emission, readText}
+use Rattle.grammar.specs.Tree.{Tree, down, up, name, invert, rise, fall, ton, tof, and, or, sr, rs}
+use Rattle.grammar.specs.Code.{Part, operand, one, two, treeOf}
+use Rattle.grammar.specs.Reader.{Emission, readText}
 
 -- the kinds of parts: 0 and 1 the constants, 2 a name, 3 !, 4 ^, 5 ~, 6 TON, 7 TOF, 8 ., 9 +, 10 SR, 11 RS
 abbrev pub plainPart : ℕ → Part

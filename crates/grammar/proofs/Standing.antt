@@ -7,9 +7,9 @@ use mathlib.Core.List.{List, _∷_, _++_}
 use lib.ListN.{length, getD, drop}
 use lib.Seq.{drop-drop, getD-drop, drop-append-seam}
 use borrow.Author.Tests.{eq-eqb}
-use Rattle.formulas.specs.Tree.{Tree}
-use Rattle.formulas.specs.Code.{Part, code, longest}
-use Rattle.formulas.specs.Reader.{State, next, stepped, expect}
+use Rattle.grammar.specs.Tree.{Tree}
+use Rattle.grammar.specs.Code.{Part, code, longest}
+use Rattle.grammar.specs.Reader.{State, next, stepped, expect}
 
 module _ {X : Type 0} where
   pub state-eq : {a b : State X} → a .ok ≡ b .ok → a .at ≡ b .at → a .out ≡ b .out → a .deepest ≡ b .deepest → a .longest ≡ b .longest → a ≡ b

@@ -9,17 +9,17 @@ use lib.Dec.{ltb, eqb}
 use lib.ListN.{length, length-append}
 use borrow.Author.Tests.{eq-eqb, eqb-true, eqb-false, ltb-true, ltb-false, not-true, not-false}
 use Rattle.signals.specs.Moment.{M}
-use Rattle.formulas.specs.Tree.{Tree, Unary, leaf, unary, binary, ton, tof, invert, rise, fall}
-use Rattle.formulas.specs.Code.{Part, longest, treeOf, ticksOf}
-use Rattle.formulas.specs.Grammar.{Sum}
-use Rattle.formulas.specs.Reader.{State, start, readText, sumAt}
-use Rattle.formulas.specs.Formula.{spelled, accepted, formulaTree, depthOf, partsOf, longestOf, formulaFault}
-use Rattle.formulas.specs.Exactness.{ReaderExact, OneTree, PartsExact, LengthIn, of-ton, of-tof, under, first, second, FaultsExact}
-use Rattle.formulas.proofs.Bytes.{never, and-left, and-right}
-use Rattle.formulas.proofs.Standing.{after}
-use Rattle.formulas.proofs.Complete.{whole, sum-reads, ended}
-use Rattle.formulas.proofs.Sound.{sum-found}
-use Rattle.formulas.proofs.Working.{tree-back}
+use Rattle.grammar.specs.Tree.{Tree, Unary, leaf, unary, binary, ton, tof, invert, rise, fall}
+use Rattle.grammar.specs.Code.{Part, longest, treeOf, ticksOf}
+use Rattle.grammar.specs.Grammar.{Sum}
+use Rattle.grammar.specs.Reader.{State, start, readText, sumAt}
+use Rattle.grammar.specs.Formula.{spelled, accepted, formulaTree, depthOf, partsOf, longestOf, formulaFault}
+use Rattle.grammar.specs.Exactness.{ReaderExact, OneTree, PartsExact, LengthIn, of-ton, of-tof, under, first, second, FaultsExact}
+use Rattle.grammar.proofs.Bytes.{never, and-left, and-right}
+use Rattle.grammar.proofs.Standing.{after}
+use Rattle.grammar.proofs.Complete.{whole, sum-reads, ended}
+use Rattle.grammar.proofs.Sound.{sum-found}
+use Rattle.grammar.proofs.Working.{tree-back}
 
 pub text-read : (w : List ℕ) (t : Tree) (d : ℕ) → Sum w t d → readText (spelled w) w ≡ after w t d 0 start
 unfolding readText

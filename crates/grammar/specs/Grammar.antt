@@ -5,8 +5,8 @@ use mathlib.Core.Bool.{Bool, true, false, not, _&&_, _||_}
 use mathlib.Core.List.{List, [], _∷_, _++_}
 use lib.Dec.{leb, eqb}
 use lib.ListN.{length}
-use Rattle.formulas.specs.Tree.{Tree}
-use Rattle.formulas.specs.Tree as tree
+use Rattle.grammar.specs.Tree.{Tree}
+use Rattle.grammar.specs.Tree as tree
 
 -- lowercase letters, digits
 unfoldable pub isLower : ℕ → Bool

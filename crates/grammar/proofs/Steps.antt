@@ -4,11 +4,11 @@ use native.Mathlib.Omega.{arith}
 use mathlib.Core.Path.{_≡_, refl, ap, _∙_}
 use mathlib.Core.List.{List, [], _∷_, _++_, append-assoc}
 use lib.ListN.{length, length-append}
-use Rattle.formulas.specs.Tree.{Tree, Unary, Binary, unary, binary}
-use Rattle.formulas.specs.Code.{Part, code, longest, one, two, ticksOf}
-use Rattle.formulas.specs.Reader.{State, stepped, put}
-use Rattle.formulas.specs.Formula.{plainPart, timedPart}
-use Rattle.formulas.proofs.Standing.{state-eq, after}
+use Rattle.grammar.specs.Tree.{Tree, Unary, Binary, unary, binary}
+use Rattle.grammar.specs.Code.{Part, code, longest, one, two, ticksOf}
+use Rattle.grammar.specs.Reader.{State, stepped, put}
+use Rattle.grammar.specs.Formula.{plainPart, timedPart}
+use Rattle.grammar.proofs.Standing.{state-eq, after}
 
 -- two operands and their operator
 pub joined : (o : Binary) (w v : List ℕ) (t u : Tree) (d e b kind deep : ℕ) (s : State Part) → plainPart kind ≡ two o →

@@ -6,7 +6,7 @@ use mathlib.Core.Bool.{cond}
 use mathlib.Core.List.{List}
 use lib.Dec.{eqb}
 use borrow.Author.Tests.{eq-eqb}
-use Rattle.formulas.specs.Reader.{State, Emission, next, bad, stepped, expect, put, prefixKind, sumAt, sumsAt, productAt, productsAt, factorAt, latchAt, timerAt}
+use Rattle.grammar.specs.Reader.{State, Emission, next, bad, stepped, expect, put, prefixKind, sumAt, sumsAt, productAt, productsAt, factorAt, latchAt, timerAt}
 
 -- a chain of operands: its operator's byte and kind, the level of an operand's reader, and the readers of an operand, of the rest after it
 -- and of the whole

@@ -1,9 +1,9 @@
 -- The parts of a tree in working-out order, worked out, give the tree: so they determine it.
 use mathlib.Core.Path.{_≡_, refl, sym, ap, _∙_}
 use mathlib.Core.List.{List, [], _∷_, _++_, append-assoc, append-nil}
-use Rattle.formulas.specs.Tree.{Tree, leaf, unary, binary}
-use Rattle.formulas.specs.Code.{Part, one, two, code, work, top, treeOf}
-use Rattle.formulas.specs.Places.{CodeDetermines}
+use Rattle.grammar.specs.Tree.{Tree, leaf, unary, binary}
+use Rattle.grammar.specs.Code.{Part, one, two, code, work, top, treeOf}
+use Rattle.grammar.specs.Places.{CodeDetermines}
 
 pub worked : (t : Tree) (ps : List Part) (stack : List Tree) → work (code t ++ ps) stack ≡ work ps (t ∷ stack)
 unfolding code work

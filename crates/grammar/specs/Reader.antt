@@ -4,7 +4,7 @@ use mathlib.Core.Bool.{Bool, true, false, cond}
 use mathlib.Core.List.{List, [], _∷_, _++_}
 use lib.Dec.{leb, ltb, eqb}
 use lib.ListN.{length, getD, take, drop}
-use Rattle.formulas.specs.Grammar.{isLower, isDigit, isNameByte, value}
+use Rattle.grammar.specs.Grammar.{isLower, isDigit, isNameByte, value}
 
 -- where a reader is: whether all is well, the bytes passed, the parts put out, the largest depth and length of one
 pub record State (X : Type 0) : Type 0 where

@@ -8,14 +8,14 @@ use lib.Dec.{leb, eqb}
 use lib.ListN.{length, take, drop, take-append-drop}
 use lib.Seq.{length-take-le}
 use borrow.Author.Tests.{eqb-true, leb-true, le-leb}
-use Rattle.formulas.specs.Tree.{Leaf, leaf, name, down, up}
-use Rattle.formulas.specs.Code.{Part, code, longest, operand, one}
-use Rattle.formulas.specs.Grammar.{Factor, isLower, isDigit, isNameByte, allOf, isName, isLength}
-use Rattle.formulas.specs.Reader.{State, run, next, bad, stepped, put, passLength, leafAt}
-use Rattle.formulas.specs.Formula.{nameAt, spelled}
-use Rattle.formulas.proofs.Bytes.{never, by-cond, and-left}
-use Rattle.formulas.proofs.Standing.{state-eq, At, after}
-use Rattle.formulas.proofs.Found.{next-inv, Found, Finds}
+use Rattle.grammar.specs.Tree.{Leaf, leaf, name, down, up}
+use Rattle.grammar.specs.Code.{Part, code, longest, operand, one}
+use Rattle.grammar.specs.Grammar.{Factor, isLower, isDigit, isNameByte, allOf, isName, isLength}
+use Rattle.grammar.specs.Reader.{State, run, next, bad, stepped, put, passLength, leafAt}
+use Rattle.grammar.specs.Formula.{nameAt, spelled}
+use Rattle.grammar.proofs.Bytes.{never, by-cond, and-left}
+use Rattle.grammar.proofs.Standing.{state-eq, At, after}
+use Rattle.grammar.proofs.Found.{next-inv, Found, Finds}
 
 -- a run of bytes is the front of a list, all of which has the property
 run-front : (p : ℕ → Bool) (l : List ℕ) → (allOf p (take (run p l) l) ≡ true) × (run p l ≤ length l)

@@ -11,15 +11,15 @@ use lib.Dec.{eqb}
 use lib.ListN.{length, length-map, List·getD-eq-default, List·getD-map}
 use borrow.Author.Tests.{eqb-true, ne-eqb}
 use Rattle.signals.specs.Moment.{M}
-use Rattle.formulas.specs.Tree.{Tree, Unary, leaf, unary, binary, down, up, name, invert, rise, fall, ton, tof, and, or, sr, rs}
-use Rattle.formulas.specs.Code.{Part, operand, one, two, code, longest, ticksOf}
-use Rattle.formulas.specs.Reader.{State, Emission, readText}
-use Rattle.formulas.specs.Formula.{accepted, formulaTree, plainPart, timedPart, nameAt, nameWord, timerWord, capped, spelled, coded, partOf, partsOf, codeOf}
-use Rattle.formulas.specs.Exactness.{CodeExact, AcceptedCode, Eleven, Twelve}
-use Rattle.formulas.specs.Grammar.{Sum}
-use Rattle.formulas.proofs.Bytes.{never}
-use Rattle.formulas.proofs.Carried.{isPlain, isTimer, Carries, text-carried}
-use Rattle.formulas.proofs.Reading.{parts-exact, longest-in, faults-exact, derived-of, tree-of, accepted-of}
+use Rattle.grammar.specs.Tree.{Tree, Unary, leaf, unary, binary, down, up, name, invert, rise, fall, ton, tof, and, or, sr, rs}
+use Rattle.grammar.specs.Code.{Part, operand, one, two, code, longest, ticksOf}
+use Rattle.grammar.specs.Reader.{State, Emission, readText}
+use Rattle.grammar.specs.Formula.{accepted, formulaTree, plainPart, timedPart, nameAt, nameWord, timerWord, capped, spelled, coded, partOf, partsOf, codeOf}
+use Rattle.grammar.specs.Exactness.{CodeExact, AcceptedCode, Eleven, Twelve}
+use Rattle.grammar.specs.Grammar.{Sum}
+use Rattle.grammar.proofs.Bytes.{never}
+use Rattle.grammar.proofs.Carried.{isPlain, isTimer, Carries, text-carried}
+use Rattle.grammar.proofs.Reading.{parts-exact, longest-in, faults-exact, derived-of, tree-of, accepted-of}
 
 -- parts with every length above M taken as M + 1
 abbrev cut : List ℕ → Emission Part

@@ -5,15 +5,15 @@ use mathlib.Core.Path.{_≡_, refl, ap, _∙_}
 use mathlib.Core.List.{List, _∷_, _++_}
 use lib.ListN.{length}
 use lib.Seq.{take-append-seam}
-use Rattle.formulas.specs.Tree.{Binary}
-use Rattle.formulas.specs.Code.{Part, operand, two}
-use Rattle.formulas.specs.Grammar.{Sum, value}
-use Rattle.formulas.specs.Reader.{State, stepped, expect, put, valueBetween, timed}
-use Rattle.formulas.specs.Formula.{plainPart, spelled}
-use Rattle.formulas.proofs.Standing.{At, step-at, steps-at, expect-at, after, after-at}
-use Rattle.formulas.proofs.Steps.{latched, clocked, regroup}
-use Rattle.formulas.proofs.Found.{same-left, Found, LatchFound, TimerFound}
-use Rattle.formulas.proofs.FoundLeaves.{LengthFound}
+use Rattle.grammar.specs.Tree.{Binary}
+use Rattle.grammar.specs.Code.{Part, operand, two}
+use Rattle.grammar.specs.Grammar.{Sum, value}
+use Rattle.grammar.specs.Reader.{State, stepped, expect, put, valueBetween, timed}
+use Rattle.grammar.specs.Formula.{plainPart, spelled}
+use Rattle.grammar.proofs.Standing.{At, step-at, steps-at, expect-at, after, after-at}
+use Rattle.grammar.proofs.Steps.{latched, clocked, regroup}
+use Rattle.grammar.proofs.Found.{same-left, Found, LatchFound, TimerFound}
+use Rattle.grammar.proofs.FoundLeaves.{LengthFound}
 
 module _ (text : List ℕ) where
   -- the two operands of a latch, each read to its end

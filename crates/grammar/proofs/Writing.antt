@@ -8,10 +8,10 @@ use mathlib.Core.List.{List, [], _∷_, _++_}
 use lib.Dec.{leb, eqb}
 use lib.ListN.{length}
 use borrow.Author.Tests.{ne-eqb, le-leb}
-use Rattle.formulas.specs.Tree.{Tree, leaf, unary, binary, invert, rise, fall, ton, tof, and, or, sr, rs, name, down, up}
-use Rattle.formulas.specs.Grammar.{Sum, Product, Factor, isDigit, allOf, isLength, value, valueFrom}
-use Rattle.formulas.specs.Exactness.{Writable, EveryTreeWritten}
-use Rattle.formulas.proofs.Bytes.{and-both}
+use Rattle.grammar.specs.Tree.{Tree, leaf, unary, binary, invert, rise, fall, ton, tof, and, or, sr, rs, name, down, up}
+use Rattle.grammar.specs.Grammar.{Sum, Product, Factor, isDigit, allOf, isLength, value, valueFrom}
+use Rattle.grammar.specs.Exactness.{Writable, EveryTreeWritten}
+use Rattle.grammar.proofs.Bytes.{and-both}
 
 pub value-more : (k c : ℕ) (w : List ℕ) → valueFrom k (w ++ (c ∷ [])) ≡ valueFrom k w * 10 + (c - 48)
 unfolding valueFrom

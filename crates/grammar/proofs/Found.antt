@@ -9,14 +9,14 @@ use lib.Dec.{eqb}
 use lib.ListN.{length, getD, drop, List·getD-eq-default}
 use lib.Seq.{drop-cons}
 use borrow.Author.Tests.{eqb-true, ne-eqb}
-use Rattle.formulas.specs.Tree.{Tree, Unary, Binary, unary, binary}
-use Rattle.formulas.specs.Code.{Part, longest, operand, one, ticksOf}
-use Rattle.formulas.specs.Grammar.{Sum, isLength, value}
-use Rattle.formulas.specs.Reader.{State, next, bad, expect, put}
-use Rattle.formulas.specs.Formula.{timedPart, spelled}
-use Rattle.formulas.proofs.Bytes.{never, by-cond}
-use Rattle.formulas.proofs.Standing.{At, after}
-use Rattle.formulas.proofs.Branches.{Chain}
+use Rattle.grammar.specs.Tree.{Tree, Unary, Binary, unary, binary}
+use Rattle.grammar.specs.Code.{Part, longest, operand, one, ticksOf}
+use Rattle.grammar.specs.Grammar.{Sum, isLength, value}
+use Rattle.grammar.specs.Reader.{State, next, bad, expect, put}
+use Rattle.grammar.specs.Formula.{timedPart, spelled}
+use Rattle.grammar.proofs.Bytes.{never, by-cond}
+use Rattle.grammar.proofs.Standing.{At, after}
+use Rattle.grammar.proofs.Branches.{Chain}
 
 pub same-left : {text : List ℕ} {s : State Part} {l m : List ℕ} → At text s l → At text s m → l ≡ m
 same-left a b = sym (a .left) ∙ b .left

@@ -6,18 +6,18 @@ use mathlib.Core.Bool.{Bool, true, false, cond}
 use mathlib.Core.List.{List, [], _∷_, _++_, append-assoc}
 use lib.Dec.{ltb, eqb}
 use borrow.Author.Tests.{eqb-true}
-use Rattle.formulas.specs.Tree.{Tree, Unary, Binary, unary, binary, invert, rise, fall, ton, tof, and, or, sr, rs}
-use Rattle.formulas.specs.Code.{Part, operand, one, two, ticksOf}
-use Rattle.formulas.specs.Grammar.{Sum, Product, Factor, isLength, value}
-use Rattle.formulas.specs.Reader.{State, next, bad, stepped, expect, put, passLength, valueBetween, prefixKind, timed, sumAt, sumsAt, productAt, productsAt, factorAt, latchAt, timerAt}
-use Rattle.formulas.specs.Formula.{plainPart, timedPart, spelled}
-use Rattle.formulas.proofs.Bytes.{never, by-cond}
-use Rattle.formulas.proofs.Standing.{At, step-at, expect-at, after, after-at}
-use Rattle.formulas.proofs.Steps.{joined, prefixed, bracketed, two-letters, three-letters}
-use Rattle.formulas.proofs.Branches.{Chain, plus, times}
-use Rattle.formulas.proofs.Found.{next-inv, same-left, moved, expect-inv, put-ok, Finds, rest-ok, Block, LatchFound, TimerFound}
-use Rattle.formulas.proofs.FoundLeaves.{length-inv, leaf-step}
-use Rattle.formulas.proofs.FoundBlocks.{latch-found, timer-found}
+use Rattle.grammar.specs.Tree.{Tree, Unary, Binary, unary, binary, invert, rise, fall, ton, tof, and, or, sr, rs}
+use Rattle.grammar.specs.Code.{Part, operand, one, two, ticksOf}
+use Rattle.grammar.specs.Grammar.{Sum, Product, Factor, isLength, value}
+use Rattle.grammar.specs.Reader.{State, next, bad, stepped, expect, put, passLength, valueBetween, prefixKind, timed, sumAt, sumsAt, productAt, productsAt, factorAt, latchAt, timerAt}
+use Rattle.grammar.specs.Formula.{plainPart, timedPart, spelled}
+use Rattle.grammar.proofs.Bytes.{never, by-cond}
+use Rattle.grammar.proofs.Standing.{At, step-at, expect-at, after, after-at}
+use Rattle.grammar.proofs.Steps.{joined, prefixed, bracketed, two-letters, three-letters}
+use Rattle.grammar.proofs.Branches.{Chain, plus, times}
+use Rattle.grammar.proofs.Found.{next-inv, same-left, moved, expect-inv, put-ok, Finds, rest-ok, Block, LatchFound, TimerFound}
+use Rattle.grammar.proofs.FoundLeaves.{length-inv, leaf-step}
+use Rattle.grammar.proofs.FoundBlocks.{latch-found, timer-found}
 
 module _ (text : List ℕ) where
   -- what the readers find with so much fuel

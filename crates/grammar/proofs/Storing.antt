@@ -9,8 +9,8 @@ use lib.ListN.{length, take, drop, getD, set}
 use lib.Dec.{eqb}
 use lib.Seq.{sets, sets-eq, take-suc, length-take-le, length-sets}
 use borrow.Author.Tests.{eq-eqb}
-use Rattle.formulas.specs.Formula.{formulaFault, codeOf, codeAfter}
-use Rattle.formulas.proofs.Bytes.{by-cond}
+use Rattle.grammar.specs.Formula.{formulaFault, codeOf, codeAfter}
+use Rattle.grammar.proofs.Bytes.{by-cond}
 
 sets-more : (vs l : List ℕ) (i : ℕ) (w : ℕ) → sets l i (vs ++ (w ∷ [])) ≡ set (sets l i vs) (i + length vs) w
 sets-more [] l i w = rw (add-zero i) refl

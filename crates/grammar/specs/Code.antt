@@ -1,7 +1,7 @@
 -- The parts of a formula in working-out order: left operand, right operand, then their operator.
 use Prim.Native.Nat.{ℕ, max}
 use mathlib.Core.List.{List, [], _∷_, _++_}
-use Rattle.formulas.specs.Tree.{Tree, Leaf, Unary, Binary, leaf, unary, binary, ton, tof, invert, rise, fall}
+use Rattle.grammar.specs.Tree.{Tree, Leaf, Unary, Binary, leaf, unary, binary, ton, tof, invert, rise, fall}
 
 -- Names, constants, operators and blocks are parts; a timer's length goes with it.
 pub data Part : Type 0 where
