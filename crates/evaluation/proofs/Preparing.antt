@@ -20,7 +20,8 @@ use Rattle.formulas.specs.Formula.{partOf, codeOf, codeAfter, formulaFault, for
 use Rattle.formulas.proofs.Coding.{code-exact}
 use Rattle.formulas.proofs.Reading.{reader-exact, parts-exact, longest-of, faults-exact}
 use Rattle.formulas.proofs.Storing.{code-after-front}
-use Rattle.sheets.specs.Names.{wellNamed, same, among}
+use Rattle.names.specs.Names.{wellNamed}
+use Rattle.sheets.specs.Names.{same, among}
 use Rattle.sheets.specs.Reading.{sheetFault, signalsOn, names, Entry, nameOf}
 use Rattle.sheets.specs.Calls.{lookupFault}
 use Rattle.sheets.proofs.Steps.{same-equal}
