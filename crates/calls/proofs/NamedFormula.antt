@@ -21,7 +21,8 @@ use Rattle.grammar.specs.Exactness.{LengthIn}
 use Rattle.grammar.proofs.Reading.{tree-of, one-tree, faults-exact}
 use Rattle.grammar.specs.Parts.{parts}
 use Rattle.sheets.specs.Bytes.{Bytes, Words}
-use Rattle.sheets.specs.Names.{letter, lettersOrDigits, wellNamed, among}
+use Rattle.names.specs.Names.{letter, allOf, nameByte, wellNamed}
+use Rattle.sheets.specs.Names.{among}
 use Rattle.sheets.specs.Reading.{sheetFault, signalsOn, names, listNamed, environmentOn}
 use Rattle.calls.specs.OnSheet.{settlingDate, exactOn, leafFound, namesFound}
 use Rattle.calls.specs.TreesOnSheets.{TreesOnSheets}
@@ -62,7 +63,7 @@ name-fault : (n : List ℕ) → wellNamed n ≡ true → isName n ≡ true → f
 unfolding wellNamed code
 name-fault [] e f = absurd (not-both {A = ⊥} e refl)
 name-fault (b ∷ bs) e f =
-    let l = leb-true (length (b ∷ bs)) 8 (and-left (leb (length (b ∷ bs)) 8) (letter b && lettersOrDigits bs) e) in
+    let l = leb-true (length (b ∷ bs)) 8 (and-left (leb (length (b ∷ bs)) 8) (letter b && allOf nameByte bs) e) in
     let w = name-writes (b ∷ bs) f in
     faults-exact (b ∷ bs) .4 .1 (
       λ t. ⊎-elim (λ z. omega arith) (λ z. omega arith) t,

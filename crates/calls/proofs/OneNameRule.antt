@@ -8,11 +8,11 @@ use lib.Dec.{leb}
 use lib.ListN.{length}
 use borrow.Author.Tests.{leb-true, leb-false, le-leb, lt-leb}
 use Rattle.grammar.specs.Grammar.{isName, isNameByte, isLower, isDigit, allOf}
-use Rattle.sheets.specs.Names.{wellNamed, lettersOrDigits, letter, digit}
+use Rattle.names.specs.Names.{wellNamed, allOf, nameByte, letter, digit}
 use Rattle.calls.specs.OneNameRule.{OneNameRule}
 
-rest-same : (bs : List ℕ) → allOf isNameByte bs ≡ lettersOrDigits bs
-unfolding allOf isNameByte isLower isDigit lettersOrDigits letter digit
+rest-same : (bs : List ℕ) → allOf isNameByte bs ≡ allOf nameByte bs
+unfolding allOf isNameByte isLower isDigit allOf nameByte letter digit
 rest-same [] = refl
 rest-same (b ∷ bs) = ap (λ (t : Bool). (letter b || digit b) && t) (rest-same bs)
 
@@ -36,4 +36,4 @@ unfolding isName wellNamed isLower letter
 one-name-rule [] = refl
 one-name-rule (b ∷ bs) =
     rw (rest-same bs, one-longer (length bs))
-    (turned (letter b) (lettersOrDigits bs) (leb (length (b ∷ bs)) 8))
+    (turned (letter b) (allOf nameByte bs) (leb (length (b ∷ bs)) 8))

@@ -21,7 +21,8 @@ use Rattle.grammar.proofs.Reading.{tree-of}
 use Rattle.grammar.specs.Parts.{parts}
 use Rattle.sheets.specs.Bytes.{low16, low32, wordsIn}
 use Rattle.slices.specs.Slices.{before}
-use Rattle.sheets.specs.Names.{letter, digit, lettersOrDigits, wellNamed, zeros, fieldFits, same, among}
+use Rattle.names.specs.Names.{letter, digit, allOf, nameByte, wellNamed}
+use Rattle.sheets.specs.Names.{zeros, fieldFits, same, among}
 use Rattle.sheets.specs.Reading as reading
 use Rattle.sheets.specs.Reading.{wordCount, signalSize, laterWordsFault, sheetWordsFault, signalFault, signalsFault, frontFault, countOn, sheetFault, signalsFrom, signalsOn, names, listNamed, environmentOn}
 use Rattle.calls.specs.OnSheet.{settlingDate, exactOn, namesFound}
@@ -42,7 +43,7 @@ g = tree.Tree.unary (tree.Unary.ton 2) f
 
 -- the sheet is accepted and gives a the list [0,23,36]
 sheet-fine : sheetFault printedSheet ≡ 0
-unfolding sheetFault frontFault signalsFault signalFault sheetWordsFault laterWordsFault countOn wordCount signalSize reading.nameAt low16 low32 same among fieldFits wellNamed letter digit lettersOrDigits before zeros dateOf valueAt valueAfter headValue changesNothing firstOf
+unfolding sheetFault frontFault signalsFault signalFault sheetWordsFault laterWordsFault countOn wordCount signalSize reading.nameAt low16 low32 same among fieldFits wellNamed letter digit allOf nameByte before zeros dateOf valueAt valueAfter headValue changesNothing firstOf
 sheet-fine = refl
 
 list-f : listNamed printedF (signalsOn printedSheet) ≡ 0 ∷ 23 ∷ 36 ∷ []

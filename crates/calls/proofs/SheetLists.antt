@@ -9,9 +9,10 @@ use lib.Dec.{leb, ltb, eqb}
 use lib.ListN.{length, drop, take}
 use Rattle.signals.specs.Words.{dateOf, valueAfter, headValue, changesNothing, listFault}
 use Rattle.sheets.specs.Bytes.{Bytes, Words, low16, low32, wordsIn}
-use Rattle.sheets.specs.Names.{wellNamed, fieldFits, same, among}
+use Rattle.names.specs.Names.{wellNamed}
+use Rattle.sheets.specs.Names.{fieldFits, same, among}
 use Rattle.sheets.specs.Reading.{mark, nameAt, wordCount, signalSize, laterWordsFault, sheetWordsFault, signalFault, signalsFault, frontFault, sheetFault, countOn, Entry, entry, signalsFrom, signalsOn, nameOf, listOn, names, listNamed}
-use Rattle.sheets.proofs.Truth.{true-false}
+use Rattle.names.proofs.Truth.{true-false}
 use Rattle.sheets.proofs.Steps.{same-equal}
 use Rattle.sheets.proofs.Digits.{bytes-drop, wordsIn-below}
 use Rattle.sheets.proofs.Fields.{fits-named}

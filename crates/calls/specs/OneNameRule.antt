@@ -3,7 +3,7 @@ use mathlib.Core.Path.{_≡_}
 use mathlib.Core.List.{List}
 use Prim.Native.Nat.{ℕ}
 use Rattle.grammar.specs.Grammar.{isName}
-use Rattle.sheets.specs.Names.{wellNamed}
+use Rattle.names.specs.Names.{wellNamed}
 
 abbrev pub OneNameRule : Type 0
 OneNameRule = (n : List ℕ) → isName n ≡ wellNamed n

@@ -11,7 +11,8 @@ use borrow.Author.Tests.{eqb-true}
 use Rattle.signals.specs.Words.{listFault}
 use Rattle.signals.specs.Answers.{writtenOf}
 use Rattle.sheets.specs.Bytes.{bytes16}
-use Rattle.sheets.specs.Names.{wellNamed, among}
+use Rattle.names.specs.Names.{wellNamed}
+use Rattle.sheets.specs.Names.{among}
 use Rattle.sheets.specs.Reading.{signalSize, wordCount, nameAt, signalFault, signalsFault, sheetFault, countOn, signalsOn, names, Entry, entry}
 use Rattle.sheets.specs.Writing.{entryBytes, entriesBytes, sheetBytes}
 use Rattle.sheets.specs.Calls.{faultOfPlace, beginFault, lookupFault, placeOf, appended, appendFault}

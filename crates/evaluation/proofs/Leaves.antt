@@ -17,7 +17,8 @@ use Rattle.operations.specs.Calls.{changesAfterM}
 use Rattle.calls.specs.Calls.{partFault}
 use Rattle.signals.proofs.Normal.{readBack, acceptedNormal}
 use Rattle.sheets.specs.Bytes.{Bytes, wordsIn}
-use Rattle.sheets.specs.Names.{wellNamed, among}
+use Rattle.names.specs.Names.{wellNamed}
+use Rattle.sheets.specs.Names.{among}
 use Rattle.sheets.specs.Reading.{sheetFault, signalsOn, names, listNamed, environmentOn}
 use Rattle.sheets.specs.Calls.{lookupFault, lookupOf, placeOf, partAt}
 use Rattle.sheets.specs.declared.Place.{Place}

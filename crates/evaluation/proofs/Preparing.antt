@@ -20,7 +20,8 @@ use Rattle.grammar.specs.Formula.{partOf, codeOf, codeAfter, formulaFault, form
 use Rattle.grammar.proofs.Coding.{code-exact}
 use Rattle.grammar.proofs.Reading.{reader-exact, parts-exact, longest-of, faults-exact}
 use Rattle.grammar.proofs.Storing.{code-after-front}
-use Rattle.sheets.specs.Names.{wellNamed, same, among}
+use Rattle.sheets.specs.Names.{same, among}
+use Rattle.names.specs.Names.{wellNamed}
 use Rattle.sheets.specs.Reading.{sheetFault, signalsOn, names, Entry, nameOf}
 use Rattle.sheets.specs.Calls.{lookupFault}
 use Rattle.sheets.proofs.Steps.{same-equal}

@@ -8,7 +8,7 @@ use lib.Dec.{leb, ltb}
 use lib.ListN.{length, drop, length-append}
 use borrow.Author.Tests.{ltb-false, le-ltb}
 use Rattle.signals.specs.Words.{dateOf, valueAfter, headValue, changesNothing, wordsFault, listFault}
-use Rattle.sheets.proofs.Truth.{or-left, or-right}
+use Rattle.names.proofs.Truth.{or-left, or-right}
 use Rattle.sheets.proofs.Judging.{past}
 use Rattle.sheets.proofs.Digits.{length-wordsIn, low32-written, four-past}
 use Rattle.sheets.proofs.Placing.{four}

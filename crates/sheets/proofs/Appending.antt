@@ -12,15 +12,16 @@ use borrow.Author.Tests.{ltb-false, le-leb, lt-leb, leb-false, ne-eqb, eq-eqb}
 use Rattle.signals.specs.Words.{listFault}
 use Rattle.signals.specs.Answers.{writtenOf, outputOf}
 use Rattle.signals.specs.declared.Written.the-variants.{Count, Refused}
-use Rattle.sheets.proofs.Truth.{or-left, or-right, not-false-true}
+use Rattle.names.proofs.Truth.{or-left, or-right, not-false-true}
 use Rattle.sheets.proofs.Judging.{past}
-use Rattle.sheets.proofs.Steps.{part-rest}
+use Rattle.slices.proofs.Steps.{part-rest}
 use Rattle.sheets.proofs.Locating.{front-none}
 use Rattle.sheets.proofs.Fields.{named-short}
 use Rattle.sheets.proofs.Filling.{length-entry, two}
 use Rattle.slices.proofs.Placing.{then-put}
 use Rattle.sheets.proofs.ReadBack.{sheet-written, length-signals}
-use Rattle.sheets.specs.Names.{wellNamed, among}
+use Rattle.names.specs.Names.{wellNamed}
+use Rattle.sheets.specs.Names.{among}
 use Rattle.sheets.specs.Bytes.{bytes16, Bytes}
 use Rattle.sheets.specs.Reading.{mark, sheetFault, countOn, signalsFrom, signalsOn, names, Entry, entry}
 use Rattle.sheets.specs.Writing.{entryBytes, entriesBytes, sheetBytes}

@@ -9,13 +9,15 @@ use lib.Dec.{leb, ltb, eqb}
 use lib.ListN.{length}
 use borrow.Author.Tests.{ltb-true, leb-true, lt-ltb, le-ltb, lt-leb, le-leb, ne-eqb}
 use Rattle.signals.specs.Words.{listFault, wordsFault, dateOf, valueAfter, changesNothing, headValue}
-use Rattle.sheets.proofs.Truth.{true-false, is-false}
+use Rattle.names.proofs.Truth.{true-false, is-false}
 use Rattle.sheets.proofs.Locating.{lookup-none}
-use Rattle.sheets.proofs.NameRule.{names-exact}
-use Rattle.sheets.specs.Names.{wellNamed, among}
+use Rattle.names.proofs.NamesExact.{names-exact}
+use Rattle.names.specs.Names.{wellNamed}
+use Rattle.sheets.specs.Names.{among}
 use Rattle.sheets.specs.Reading.{sheetFault, signalsOn, names}
 use Rattle.sheets.specs.Calls.{lookupFault, appendFault, appended}
-use Rattle.sheets.specs.Sentences.{IsName, NewName, LookupFaultsExact, AppendFaultsExact}
+use Rattle.names.specs.Sentence.{IsName}
+use Rattle.sheets.specs.Sentences.{NewName, LookupFaultsExact, AppendFaultsExact}
 use Rattle.signals.specs.Answers.{firstOf}
 use Rattle.signals.proofs.FirstFault.{first-is, next-is}
 

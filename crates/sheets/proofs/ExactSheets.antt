@@ -8,7 +8,7 @@ use lib.Dec.{ltb, eqb}
 use lib.ListN.{length, take, drop, length-append, length-drop, take-append-drop}
 use lib.Seq.{drop-drop, drop-at}
 use borrow.Author.Tests.{ltb-true, ltb-false, eqb-true, eqb-false, ne-eqb}
-use Rattle.sheets.proofs.Truth.{true-false}
+use Rattle.names.proofs.Truth.{true-false}
 use Rattle.sheets.proofs.Steps.{same-equal, same-refl}
 use Rattle.sheets.proofs.Digits.{low16-written, low16-below, written16, bytes-drop}
 use Rattle.sheets.proofs.Filling.{two}

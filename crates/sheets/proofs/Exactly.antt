@@ -9,16 +9,18 @@ use lib.Dec.{ltb, eqb}
 use lib.ListN.{length, take, drop, length-append, length-drop, take-append-drop}
 use lib.Seq.{take-at, drop-at, drop-drop, length-take-le}
 use borrow.Author.Tests.{ltb-true, ltb-false, eqb-true, eqb-false, lt-ltb, le-ltb, eq-eqb, ne-eqb}
-use Rattle.sheets.proofs.Truth.{true-false, is-false, or-left, or-right}
+use Rattle.names.proofs.Truth.{true-false, is-false, or-left, or-right}
 use Rattle.sheets.proofs.Digits.{low16-written, low16-below, written16, bytes-drop}
 use Rattle.sheets.proofs.Fields.{padded-unpadded, padded-fits, fits-named, fits-padded}
 use Rattle.sheets.proofs.Filling.{length-padded, two}
-use Rattle.sheets.proofs.NameRule.{names-exact}
+use Rattle.names.proofs.NamesExact.{names-exact}
 use Rattle.sheets.proofs.WordCuts.{cut-given, broken-given, CutAt, BrokenAt, words-found}
-use Rattle.sheets.specs.Names.{wellNamed, padded, unpadded, fieldFits, among}
+use Rattle.names.specs.Names.{wellNamed}
+use Rattle.sheets.specs.Names.{padded, unpadded, fieldFits, among}
 use Rattle.sheets.specs.Bytes.{low16, bytes16, bytes32, wordBytes, Bytes}
 use Rattle.sheets.specs.Reading.{nameAt, wordCount, sheetWordsFault, signalFault}
-use Rattle.sheets.specs.Sentences.{IsName, SignalFaulty}
+use Rattle.names.specs.Sentence.{IsName}
+use Rattle.sheets.specs.Sentences.{SignalFaulty}
 use Rattle.sheets.specs.Sentences.SignalFaulty.{nameCut, nameMalformed, nameRepeated, countCut, countOutside, wordCut, wordBroken}
 
 -- a signal that begins with a name

@@ -8,10 +8,11 @@ use lib.Dec.{leb, eqb}
 use lib.ListN.{length, drop, replicate, length-drop, take-append-drop}
 use lib.Seq.{drop-append-seam}
 use borrow.Author.Tests.{eqb-true, ne-eqb, leb-true}
-use Rattle.sheets.proofs.Truth.{and-left, and-right}
+use Rattle.names.proofs.Truth.{and-left, and-right}
 use Rattle.sheets.proofs.Steps.{take-unpadded}
 use Rattle.slices.specs.Slices.{before}
-use Rattle.sheets.specs.Names.{letter, digit, lettersOrDigits, wellNamed, padded, unpadded, zeros, fieldFits}
+use Rattle.names.specs.Names.{letter, digit, allOf, nameByte, wellNamed}
+use Rattle.sheets.specs.Names.{padded, unpadded, zeros, fieldFits}
 
 -- a character is no zero byte
 letter-above : (b : ℕ) → letter b ≡ true → b ≡ 0 → ⊥
@@ -22,7 +23,8 @@ digit-above : (b : ℕ) → digit b ≡ true → b ≡ 0 → ⊥
 unfolding digit
 digit-above b h e = let p = leb-true 48 b (and-left (leb 48 b) _ h) in omega arith
 
-character-above : (b : ℕ) → (letter b || digit b) ≡ true → b ≡ 0 → ⊥
+character-above : (b : ℕ) → nameByte b ≡ true → b ≡ 0 → ⊥
+unfolding nameByte
 character-above b h e = go (letter b) refl h
   where
     go : (t : Bool) → letter b ≡ t → (t || digit b) ≡ true → ⊥
@@ -34,15 +36,15 @@ unfolding before
 unpadded-padding zero = refl
 unpadded-padding (suc k) = refl
 
-characters-unpadded : (n : List ℕ) (k : ℕ) → lettersOrDigits n ≡ true → unpadded (n ++ replicate k 0) ≡ n
-unfolding before lettersOrDigits
+characters-unpadded : (n : List ℕ) (k : ℕ) → allOf nameByte n ≡ true → unpadded (n ++ replicate k 0) ≡ n
+unfolding before allOf
 characters-unpadded [] k h = unpadded-padding k
 characters-unpadded (b ∷ bs) k h =
-    rw (ne-eqb b 0 (character-above b (and-left (letter b || digit b) _ h)))
-    (ap (λ (l : List ℕ). b ∷ l) (characters-unpadded bs k (and-right (letter b || digit b) _ h)))
+    rw (ne-eqb b 0 (character-above b (and-left (nameByte b) _ h)))
+    (ap (λ (l : List ℕ). b ∷ l) (characters-unpadded bs k (and-right (nameByte b) _ h)))
 
-pub named-characters : (n : List ℕ) → wellNamed n ≡ true → lettersOrDigits n ≡ true
-unfolding wellNamed lettersOrDigits
+pub named-characters : (n : List ℕ) → wellNamed n ≡ true → allOf nameByte n ≡ true
+unfolding wellNamed allOf nameByte
 named-characters [] h = refl
 named-characters (b ∷ bs) h =
     let e = and-right (leb (suc (length bs)) 8) _ h in

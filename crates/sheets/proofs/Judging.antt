@@ -11,7 +11,7 @@ use lib.ListN.{length, take, drop, length-drop}
 use lib.Seq.{drop-drop}
 use borrow.Author.Tests.{eq-eqb, ne-eqb, lt-ltb, le-ltb, ltb-false, eqb-false, eqb-true}
 use Rattle.signals.specs.Words.{dateOf, valueAfter, headValue, changesNothing}
-use Rattle.sheets.proofs.Truth.{or-left, or-right, not-false-true}
+use Rattle.names.proofs.Truth.{or-left, or-right, not-false-true}
 use Rattle.sheets.proofs.Walking.{short, long, sub-step}
 use Rattle.sheets.specs.Names.{same, among, fieldFits, unpadded}
 use Rattle.sheets.specs.Bytes.{low16, low32}

@@ -1,5 +1,4 @@
 -- Laws that the proofs of the functions cite, and the theorems about sheets.
-pub mod Truth
 pub mod Steps
 pub mod Walking
 pub mod Judging
@@ -16,7 +15,6 @@ pub mod Appending
 pub mod Named
 pub mod Theorems
 pub mod LookupPlace
-pub mod NameRule
 pub mod WordCuts
 pub mod Exactly
 pub mod ExactSheets

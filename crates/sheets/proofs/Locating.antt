@@ -7,10 +7,11 @@ use mathlib.Core.List.{List, [], _∷_, _++_}
 use lib.Dec.{eqb}
 use lib.ListN.{length, take, drop, length-drop}
 use borrow.Author.Tests.{eq-eqb, ne-eqb, eqb-true, eqb-false}
-use Rattle.sheets.proofs.Truth.{true-false}
+use Rattle.names.proofs.Truth.{true-false}
 use Rattle.sheets.proofs.Judging.{sound, foundIn, found-known, Fronted, fronted}
 use Rattle.sheets.proofs.PlaceSays.{place-says}
-use Rattle.sheets.specs.Names.{same, among, wellNamed}
+use Rattle.names.specs.Names.{wellNamed}
+use Rattle.sheets.specs.Names.{same, among}
 use Rattle.sheets.specs.Bytes.{low16}
 use Rattle.sheets.specs.Reading.{nameAt, wordCount, signalSize, signalFault, signalsFault, frontFault, sheetFault, countOn, signalsOn, signalsFrom, names}
 use Rattle.sheets.specs.Calls.{faultOfPlace, firstByte, byteCount, placeFor, placeFrom, placeOn, placeOf, lookupFault, lookupOf, partAt}

@@ -16,7 +16,7 @@ use Rattle.sheets.specs.Calls.{lookupFault, firstByte, byteCount, placeF
 use Rattle.sheets.specs.LookupPlace.{AtItsWords, LookupPlace}
 use Rattle.sheets.specs.declared.Place.{Place}
 use Rattle.sheets.specs.declared.Place.the-variants.{At, Refused}
-use Rattle.sheets.proofs.Truth.{true-false}
+use Rattle.names.proofs.Truth.{true-false}
 use Rattle.sheets.proofs.Steps.{same-equal}
 use Rattle.sheets.proofs.Judging.{foundIn, found-known}
 use Rattle.sheets.proofs.Digits.{length-wordsIn}

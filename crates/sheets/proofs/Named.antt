@@ -9,11 +9,12 @@ use lib.ListN.{length, take, drop, replicate, length-drop}
 use lib.Seq.{take-at, drop-drop}
 use borrow.Author.Tests.{leb-true}
 use Rattle.signals.specs.Words.{listFault}
-use Rattle.sheets.proofs.Truth.{true-false, and-left, and-right}
+use Rattle.names.proofs.Truth.{true-false, and-left, and-right}
 use Rattle.sheets.proofs.Fields.{named-characters}
 use Rattle.sheets.proofs.Digits.{words-written, length-wordsIn, bytes-drop}
 use Rattle.sheets.proofs.Placing.{length-words}
-use Rattle.sheets.specs.Names.{letter, digit, lettersOrDigits, wellNamed, padded, same, among}
+use Rattle.names.specs.Names.{letter, digit, allOf, nameByte, wellNamed}
+use Rattle.sheets.specs.Names.{padded, same, among}
 use Rattle.sheets.specs.Bytes.{bytes16, bytes32, wordsIn, wordBytes, Bytes, Words}
 use Rattle.sheets.specs.Reading.{mark, nameAt, wordCount, signalSize, signalsFrom, names, listNamed, Entry, entry, nameOf, listOn}
 use Rattle.sheets.specs.Writing.{entryBytes, entriesBytes, sheetBytes, Fits, AllFit, Holdable}
@@ -143,19 +144,19 @@ bytes-padding : (k : ℕ) → Bytes (replicate k 0)
 bytes-padding zero = bytes-none
 bytes-padding (suc k) = bytes-cons 0 (replicate k 0) (omega arith) (bytes-padding k)
 
-character-below : (b : ℕ) → (letter b || digit b) ≡ true → b < 256
-unfolding letter digit
+character-below : (b : ℕ) → nameByte b ≡ true → b < 256
+unfolding nameByte letter digit
 character-below b h = go (leb 97 b && leb b 122) refl h
   where
     go : (t : Bool) → leb 97 b && leb b 122 ≡ t → t || (leb 48 b && leb b 57) ≡ true → b < 256
     go true p q = let m = leb-true b 122 (and-right (leb 97 b) (leb b 122) p) in omega arith
     go false p q = let m = leb-true b 57 (and-right (leb 48 b) (leb b 57) q) in omega arith
 
-bytes-characters : (n : List ℕ) → lettersOrDigits n ≡ true → Bytes n
-unfolding lettersOrDigits
+bytes-characters : (n : List ℕ) → allOf nameByte n ≡ true → Bytes n
+unfolding allOf
 bytes-characters [] h = bytes-none
 bytes-characters (b ∷ bs) h =
-    bytes-cons b bs (character-below b (and-left (letter b || digit b) _ h)) (bytes-characters bs (and-right (letter b || digit b) _ h))
+    bytes-cons b bs (character-below b (and-left (nameByte b) _ h)) (bytes-characters bs (and-right (nameByte b) _ h))
 
 bytes-entry : (name list : List ℕ) → wellNamed name ≡ true → Bytes (entryBytes (entry name list))
 unfolding entryBytes padded

@@ -1,17 +1,16 @@
 -- One turn of a loop over bytes: what the definitions say of the bytes from a place on.
 use Prim.Native.Nat.{ℕ, suc, _+_, _-_, _≤_, _<_}
-use native.Mathlib.Numerals.{add-one}
 use native.Mathlib.Omega.{arith}
 use mathlib.Core.Path.{_≡_, refl, sym, ap, _∙_}
-use mathlib.Core.Bool.{Bool, true, false, cond, _&&_}
+use mathlib.Core.Bool.{Bool, true, false}
 use mathlib.Core.List.{List, [], _∷_}
 use lib.Dec.{eqb}
-use lib.ListN.{length, getD, take, drop, drop-of-length-le, length-drop}
-use lib.Seq.{drop-cons, take-all}
-use borrow.Author.Tests.{eq-eqb, ne-eqb, lt-leb, le-leb, eqb-true}
-use Rattle.slices.proofs.Steps.{drop-step, drop-end, before-within, take-before}
-use Rattle.sheets.proofs.Truth.{true-false, and-left, and-right, is-false}
-use Rattle.sheets.specs.Names.{same, zeros, letter, digit, lettersOrDigits, unpadded, wellNamed, fieldFits}
+use lib.ListN.{length, getD, take, drop}
+use borrow.Author.Tests.{eq-eqb, ne-eqb, eqb-true}
+use Rattle.slices.proofs.Steps.{drop-step, drop-end, part-rest, before-within, take-before}
+use Rattle.names.proofs.Truth.{true-false, and-left, and-right, is-false}
+use Rattle.names.specs.Names.{wellNamed}
+use Rattle.sheets.specs.Names.{same, zeros, unpadded, fieldFits}
 
 module _ (a b : List ℕ) (i : ℕ) where
   pub same-differ : i < length a → i < length b → (getD a i 0 ≡ getD b i 0 → ⊥) → same (drop i a) (drop i b) ≡ false
@@ -49,48 +48,11 @@ module _ (s : List ℕ) (i : ℕ) where
   unfolding zeros
   zeros-end p = rw (drop-end s i p)
 
-  pub characters-letter : i < length s → letter (getD s i 0) ≡ true → lettersOrDigits (drop i s) ≡ lettersOrDigits (drop (i + 1) s)
-  unfolding lettersOrDigits
-  characters-letter p h = rw (drop-step s i p, h)
-
-  pub characters-digit : i < length s → letter (getD s i 0) ≡ false → digit (getD s i 0) ≡ true
-      → lettersOrDigits (drop i s) ≡ lettersOrDigits (drop (i + 1) s)
-  unfolding lettersOrDigits
-  characters-digit p h k = rw (drop-step s i p, h, k)
-
-  pub characters-not : i < length s → letter (getD s i 0) ≡ false → digit (getD s i 0) ≡ false → lettersOrDigits (drop i s) ≡ false
-  unfolding lettersOrDigits
-  characters-not p h k = rw (drop-step s i p, h, k)
-
-  pub characters-end : length s ≤ i → lettersOrDigits (drop i s) ≡ true
-  unfolding lettersOrDigits
-  characters-end p = rw (drop-end s i p)
-
 pub unpadded-within : (f : List ℕ) → length (unpadded f) ≤ length f
 unpadded-within f = before-within 0 f
 
 pub take-unpadded : (f : List ℕ) → take (length (unpadded f)) f ≡ unpadded f
 take-unpadded f = take-before 0 f
-
-pub named-empty : (n : List ℕ) → length n ≡ 0 → wellNamed n ≡ false
-unfolding wellNamed
-named-empty [] h = refl
-named-empty (b ∷ bs) h = absurd (omega arith)
-
-pub named-long : (n : List ℕ) → 8 < length n → wellNamed n ≡ false
-unfolding wellNamed
-named-long [] h = refl
-named-long (b ∷ bs) h = simp (lt-leb (suc (length bs)) 8 h)
-
-pub named-fits : (n : List ℕ) → (length n ≡ 0 → ⊥) → length n ≤ 8
-    → wellNamed n ≡ letter (getD n 0 0) && lettersOrDigits (drop 1 n)
-unfolding wellNamed
-named-fits [] h k = absurd (h refl)
-named-fits (b ∷ bs) h k = simp (le-leb (suc (length bs)) 8 k)
-
--- a part from a place to the end; a part of as many bytes as there are
-pub part-rest : (l : List ℕ) (a : ℕ) → take (length l - a) (drop a l) ≡ drop a l
-part-rest l a = take-all (length l - a) (drop a l) (rw length-drop (omega arith))
 
 module _ (f n : List ℕ) (w : Bool) (e : n ≡ unpadded f) (v : w ≡ wellNamed n) where
   pub name-within : length n ≤ length f

@@ -9,7 +9,7 @@ use lib.Dec.{eqb}
 use lib.ListN.{length, length-append}
 use borrow.Author.Tests.{eqb-true, eqb-false, ne-eqb, lt-leb, le-ltb}
 use Rattle.signals.specs.Words.{signalOf}
-use Rattle.sheets.proofs.Truth.{is-false}
+use Rattle.names.proofs.Truth.{is-false}
 use Rattle.sheets.proofs.Steps.{same-equal, same-refl}
 use Rattle.sheets.proofs.Digits.{words-read}
 use Rattle.sheets.proofs.Placing.{length-words}
@@ -17,7 +17,8 @@ use Rattle.sheets.proofs.Locating.{Found, lookup-none, sheet-whole, pla
 use Rattle.sheets.proofs.ReadBack.{sheet-read, sheet-written}
 use Rattle.sheets.proofs.Appending.{appends, length-on}
 use Rattle.sheets.proofs.Named.{part-list, among-snoc, named-other, named-new, fit-snoc, named-listed, bytes-sheet, fit-split}
-use Rattle.sheets.specs.Names.{wellNamed, same, among}
+use Rattle.names.specs.Names.{wellNamed}
+use Rattle.sheets.specs.Names.{same, among}
 use Rattle.sheets.specs.Bytes.{Bytes, Words, wordBytes}
 use Rattle.sheets.specs.Reading.{sheetFault, countOn, signalsOn, names, listNamed, environmentOn, Entry, entry}
 use Rattle.sheets.specs.Writing.{sheetBytes, Fits, AllFit, Holdable}

@@ -9,7 +9,7 @@ use lib.Dec.{leb, ltb}
 use lib.ListN.{length, drop, length-append}
 use borrow.Author.Tests.{ltb-false, ltb-true, le-ltb, lt-ltb}
 use Rattle.signals.specs.Words.{dateOf, valueAfter, headValue, changesNothing, wordsFault, listFault}
-use Rattle.sheets.proofs.Truth.{true-false, or-left, or-right}
+use Rattle.names.proofs.Truth.{true-false, or-left, or-right}
 use Rattle.sheets.proofs.Judging.{past}
 use Rattle.sheets.proofs.Digits.{low32-written, low32-below, four-past, written32, bytes-drop}
 use Rattle.sheets.proofs.Accepting.{four-more}

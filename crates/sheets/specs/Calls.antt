@@ -7,7 +7,8 @@ use lib.Dec.{leb, ltb, eqb}
 use lib.ListN.{length, take, drop}
 use denote.Ref.{RefT, now, ptr}
 use Rattle.signals.specs.Words.{listFault}
-use Rattle.sheets.specs.Names.{wellNamed, same, among}
+use Rattle.names.specs.Names.{wellNamed}
+use Rattle.sheets.specs.Names.{same, among}
 use Rattle.sheets.specs.Reading.{nameAt, wordCount, signalSize, sheetFault, countOn, signalsOn, names, Entry, entry}
 use Rattle.sheets.specs.Writing.{sheetBytes}
 use Rattle.sheets.specs.declared.Place.{Place}

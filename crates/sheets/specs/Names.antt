@@ -1,28 +1,13 @@
--- Document 01, "Sheets": names, as callers give them and as a sheet holds them.
-use Prim.Native.Nat.{ℕ, zero, suc, _-_}
-use mathlib.Core.Bool.{Bool, true, false, cond, _&&_, _||_}
+-- Document 01, "Sheets": names as a sheet holds them.
+use Prim.Native.Nat.{ℕ, _-_}
+use mathlib.Core.Bool.{Bool, true, false, _&&_, _||_}
 use mathlib.Core.List.{List, [], _∷_, _++_}
-use lib.Dec.{leb, eqb}
+use lib.Dec.{eqb}
 use lib.ListN.{length, drop, replicate}
 use Rattle.slices.specs.Slices.{before}
+use Rattle.names.specs.Names.{wellNamed}
 
--- a lowercase letter; a digit
-unfoldable pub letter : ℕ → Bool
-letter b = leb 97 b && leb b 122
-
-unfoldable pub digit : ℕ → Bool
-digit b = leb 48 b && leb b 57
-
-unfoldable pub lettersOrDigits : List ℕ → Bool
-lettersOrDigits [] = true
-lettersOrDigits (b ∷ bs) = (letter b || digit b) && lettersOrDigits bs
-
--- A name is 1 to 8 characters, a lowercase letter, then lowercase letters or digits. Callers give it unpadded.
-unfoldable pub wellNamed : List ℕ → Bool
-wellNamed [] = false
-wellNamed (b ∷ bs) = leb (length (b ∷ bs)) 8 && (letter b && lettersOrDigits bs)
-
--- On a sheet it is padded with zero bytes to 8.
+-- Callers give a name unpadded; on a sheet it is padded with zero bytes to 8.
 unfoldable pub padded : List ℕ → List ℕ
 padded name = name ++ replicate (8 - length name) 0
 

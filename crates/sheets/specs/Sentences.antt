@@ -4,26 +4,14 @@ use mathlib.Core.Path.{_≡_}
 use mathlib.Core.Bool.{Bool, true, false}
 use mathlib.Core.List.{List, [], _∷_, _++_}
 use mathlib.Core.Logic.{_⊎_, _↔_}
-use lib.ListN.{length, take, getD}
+use lib.ListN.{length, take}
 use Rattle.signals.specs.Words.{listFault}
-use Rattle.sheets.specs.Names.{wellNamed, padded, among}
+use Rattle.names.specs.Sentence.{IsName}
+use Rattle.sheets.specs.Names.{padded, among}
 use Rattle.sheets.specs.Bytes.{Bytes, Words, bytes16, bytes32, wordBytes}
 use Rattle.sheets.specs.Reading.{mark, sheetFault, signalsOn, names, Entry, nameOf}
 use Rattle.sheets.specs.Writing.{entryBytes, Fits}
 use Rattle.sheets.specs.Calls.{lookupFault, appendFault, appended}
-
--- A name is 1 to 8 characters, a lowercase letter, then lowercase letters or digits.
-abbrev pub Letter : ℕ → Type 0
-Letter b = (97 ≤ b) × (b ≤ 122)
-
-abbrev pub Digit : ℕ → Type 0
-Digit b = (48 ≤ b) × (b ≤ 57)
-
-pub record IsName (name : List ℕ) : Type 0 where
-  pub some : 1 ≤ length name
-  pub most : length name ≤ 8
-  pub first : Letter (getD name 0 0)
-  pub others : (i : ℕ) → 1 ≤ i → i < length name → Letter (getD name i 0) ⊎ Digit (getD name i 0)
 
 -- the words read so far break none of 1 to 4
 abbrev pub SoundSoFar : List ℕ → Type 0
@@ -63,10 +51,6 @@ pub data SheetFaulty : List ℕ → ℕ → Type 0 where
   countMany : (n : ℕ) (rest : List ℕ) → 32 < n → n < 65536 → SheetFaulty (mark ++ (bytes16 1 ++ (bytes16 n ++ rest))) 15
   inside : (n : ℕ) (rest : List ℕ) {f : ℕ} → n ≤ 32 → SignalsFaulty [] n rest f
       → SheetFaulty (mark ++ (bytes16 1 ++ (bytes16 n ++ rest))) f
-
--- The test of names is the sentence.
-abbrev pub NamesExact : Type 0
-NamesExact = (name : List ℕ) → (wellNamed name ≡ true) ↔ IsName name
 
 -- A sheet has a fault exactly when the fault's sentence holds and nothing earlier on the sheet has one.
 abbrev pub SheetFaultsExact : Type 0

@@ -6,7 +6,8 @@ use mathlib.Core.List.{List, [], _∷_, _++_}
 use lib.ListN.{length}
 use Rattle.signals.specs.Words.{signalOf, listFault}
 use Rattle.sheets.specs.Bytes.{Bytes, Words, wordsIn, wordBytes}
-use Rattle.sheets.specs.Names.{wellNamed, among}
+use Rattle.names.specs.Names.{wellNamed}
+use Rattle.sheets.specs.Names.{among}
 use Rattle.sheets.specs.Reading.{sheetFault, signalsOn, names, listNamed, environmentOn, Entry, entry}
 use Rattle.sheets.specs.Writing.{sheetBytes, Holdable}
 use Rattle.sheets.specs.Calls.{lookupFault, lookupOf, appendFault, appended}

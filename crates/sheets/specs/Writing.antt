@@ -5,7 +5,8 @@ use mathlib.Core.Bool.{Bool, true, false}
 use mathlib.Core.List.{List, [], _∷_, _++_}
 use lib.ListN.{length}
 use Rattle.signals.specs.Words.{listFault}
-use Rattle.sheets.specs.Names.{padded, wellNamed, among}
+use Rattle.names.specs.Names.{wellNamed}
+use Rattle.sheets.specs.Names.{padded, among}
 use Rattle.sheets.specs.Bytes.{bytes16, wordBytes, Words}
 use Rattle.sheets.specs.Reading.{mark, Entry, entry, nameOf, listOn}
 

@@ -4,7 +4,7 @@ ghost use mathlib.Core.List.{[]};
 ghost use mathlib.Core.Bool.{true};
 ghost use Prim.Native.Nat.{_+_, _*_, _≤_, _<_};
 ghost use lib.ListN.{length, take, drop};
-ghost use Rattle.sheets.specs.Names.{same, zeros, letter, digit, lettersOrDigits, unpadded, wellNamed, fieldFits, among, padded};
+ghost use Rattle.sheets.specs.Names.{same, zeros, unpadded, fieldFits, among, padded};
 ghost use Rattle.sheets.specs.Bytes.{low16, low32, bytes16, bytes32, wordBytes};
 ghost use Rattle.sheets.specs.Reading.{wordCount, signalSize, sheetWordsFault, signalFault, frontFault, sheetFault, signalsFrom, names, entry};
 ghost use Rattle.sheets.specs.Writing.{entryBytes, sheetBytes};
@@ -55,60 +55,6 @@ fn all_zero(s: &[u8]) -> bool
     true
 }
 
-fn is_letter(b: u8) -> bool
-    ensures { λ r. ⌜ r ≡ letter b ⌝ }
-{
-    if b < 97 {
-        return false;
-    }
-    b <= 122
-}
-
-fn is_digit(b: u8) -> bool
-    ensures { λ r. ⌜ r ≡ digit b ⌝ }
-{
-    if b < 48 {
-        return false;
-    }
-    b <= 57
-}
-
-// Lowercase letters or digits only.
-fn all_characters(s: &[u8]) -> bool
-    ensures { λ r. ⌜ r ≡ lettersOrDigits (now (s .entry)) ⌝ }
-{
-    let mut i = 0;
-    while i < s.len() {
-        if is_letter(s[i]) {
-            i += 1;
-        } else {
-            if is_digit(s[i]) {
-                i += 1;
-            } else {
-                return false;
-            }
-        }
-    }
-    true
-}
-
-// A name as callers give it, unpadded.
-pub fn well_named(name: &[u8]) -> bool
-    ensures { λ r. ⌜ r ≡ wellNamed (now (name .entry)) ⌝ }
-{
-    if name.len() == 0 {
-        return false;
-    }
-    if 8 < name.len() {
-        return false;
-    }
-    if is_letter(name[0]) {
-        all_characters(&name[1..])
-    } else {
-        false
-    }
-}
-
 // The name in a name field: the part before the first zero byte.
 fn name_in(field: &[u8]) -> &[u8]
     ensures { λ r. ⌜ now r ≡ unpadded (now (field .entry)) ⌝ }
@@ -122,7 +68,7 @@ fn field_fits(field: &[u8]) -> bool
 {
     let name = name_in(field);
     let n = name.len();
-    if well_named(name) {
+    if names::well_named(name) {
         all_zero(&field[n..])
     } else {
         false
@@ -339,7 +285,7 @@ pub fn locate(sheet: &[u8], name: &[u8]) -> Place
     if fault != 0 {
         return Place::Refused(fault);
     }
-    if well_named(name) {
+    if names::well_named(name) {
         let count = read16(sheet, 5);
         find(sheet, count, name)
     } else {
@@ -448,7 +394,7 @@ fn append_fault(sheet: &[u8], name: &[u8], list: &[u32], room: usize) -> u32
         return fault;
     }
     let count = read16(sheet, 5);
-    if well_named(name) {
+    if names::well_named(name) {
         if known(sheet, count, name) {
             return 16;
         }

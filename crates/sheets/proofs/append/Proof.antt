@@ -1,5 +1,5 @@
 -- `sheets::append` meets its contract.
-use Rattle.sheets.proofs.Steps.{part-rest}
+use Rattle.slices.proofs.Steps.{part-rest}
 use lib.ListN.{length-drop}
 use lib.Seq.{length-take-le}
 use borrow.Author.Needs.{needs}

@@ -9,7 +9,8 @@ use lib.Dec.{ltb}
 use lib.ListN.{length}
 use borrow.Author.Tests.{lt-ltb, le-ltb}
 use Rattle.signals.specs.Words.{listFault}
-use Rattle.sheets.specs.Names.{among, wellNamed}
+use Rattle.names.specs.Names.{wellNamed}
+use Rattle.sheets.specs.Names.{among}
 use Rattle.sheets.specs.Reading.{sheetFault, countOn, signalsOn, names}
 use Rattle.sheets.specs.Calls.{appendFault}
 use denote.Ref.{now}

@@ -1,8 +1,8 @@
--- `sheets::is_letter` meets its contract.
+-- `names::is_letter` meets its contract.
 use borrow.Author.Tests.{lt-leb, le-leb}
-use Rattle.sheets.specs.Names.{letter}
-use Rattle.sheets.proofs.is_letter.Statement.{statement}
-use Rattle.sheets.proofs.is_letter.Tie as tie
+use Rattle.names.specs.Names.{letter}
+use Rattle.names.proofs.is_letter.Statement.{statement}
+use Rattle.names.proofs.is_letter.Tie as tie
 
 returns : tie.Need-returns
 unfolding letter

@@ -1,11 +1,11 @@
--- `sheets::well_named` meets its contract.
-use Rattle.sheets.proofs.Steps.{part-rest}
+-- `names::well_named` meets its contract.
 use borrow.Author.Needs.{needs}
 use mathlib.Core.Path.{sym, _∙_}
 use denote.Ref.{now}
-use Rattle.sheets.proofs.Steps.{named-empty, named-long, named-fits}
-use Rattle.sheets.proofs.well_named.Statement.{statement}
-use Rattle.sheets.proofs.well_named.Tie as tie
+use Rattle.slices.proofs.Steps.{part-rest}
+use Rattle.names.proofs.Steps.{named-empty, named-long, named-fits}
+use Rattle.names.proofs.well_named.Statement.{statement}
+use Rattle.names.proofs.well_named.Tie as tie
 
 returns : tie.Need-returns
 returns c = sym (named-empty _ (c .if1 .taken))
@@ -33,8 +33,11 @@ all-characters-requires c κs = search needs
 
 returns-3 : tie.Need-returns-3
 returns-3 c =
+    let name = now (c .before .before .before .before .before .before .before .before .args .name) in
+    let if1 = c .before .before .before .before .before .before .if1 in
+    let is-letter = c .before .before .before .is-letter in
     c .all-characters .ensures
-    ∙ rw (part-rest (now (c .before .before .before .before .before .before .before .before .args .name)) 1, named-fits (now (c .before .before .before .before .before .before .before .before .args .name)) (c .before .before .before .before .before .before .if1 .left) (search needs), ← c .before .before .before .is-letter .ensures, c .before .before .if3 .taken)
+    ∙ rw (part-rest name 1, named-fits name (if1 .left) (search needs), ← is-letter .ensures, c .before .before .if3 .taken)
 
 returns-4 : tie.Need-returns-4
 returns-4 c =

@@ -1,8 +1,8 @@
--- `sheets::is_digit` meets its contract.
+-- `names::is_digit` meets its contract.
 use borrow.Author.Tests.{lt-leb, le-leb}
-use Rattle.sheets.specs.Names.{digit}
-use Rattle.sheets.proofs.is_digit.Statement.{statement}
-use Rattle.sheets.proofs.is_digit.Tie as tie
+use Rattle.names.specs.Names.{digit}
+use Rattle.names.proofs.is_digit.Statement.{statement}
+use Rattle.names.proofs.is_digit.Tie as tie
 
 returns : tie.Need-returns
 unfolding digit

@@ -8,9 +8,9 @@ use mathlib.Core.Logic.{_⊎_, inl, inr}
 use lib.Dec.{leb}
 use lib.ListN.{length, getD}
 use borrow.Author.Tests.{leb-true, le-leb}
-use Rattle.sheets.proofs.Truth.{true-false, and-left, and-right, and-both}
-use Rattle.sheets.specs.Names.{letter, digit, lettersOrDigits, wellNamed}
-use Rattle.sheets.specs.Sentences.{Letter, Digit, IsName, NamesExact}
+use Rattle.names.proofs.Truth.{true-false, and-left, and-right, and-both}
+use Rattle.names.specs.Names.{letter, digit, nameByte, allOf, wellNamed}
+use Rattle.names.specs.Sentence.{Letter, Digit, IsName, NamesExact}
 
 letter-is : (b : ℕ) → letter b ≡ true → Letter b
 unfolding letter
@@ -28,14 +28,16 @@ is-digit : (b : ℕ) → Digit b → digit b ≡ true
 unfolding digit
 is-digit b l = and-both (le-leb 48 b (l .0)) (le-leb b 57 (l .1))
 
-character-is : (b : ℕ) → (letter b || digit b) ≡ true → Letter b ⊎ Digit b
+character-is : (b : ℕ) → nameByte b ≡ true → Letter b ⊎ Digit b
+unfolding nameByte
 character-is b h = go (letter b) refl h
   where
     go : (t : Bool) → letter b ≡ t → (t || digit b) ≡ true → Letter b ⊎ Digit b
     go true p q = inl (letter-is b p)
     go false p q = inr (digit-is b q)
 
-is-character : (b : ℕ) → Letter b ⊎ Digit b → (letter b || digit b) ≡ true
+is-character : (b : ℕ) → Letter b ⊎ Digit b → nameByte b ≡ true
+unfolding nameByte
 is-character b (inl l) = rw (is-letter b l)
 is-character b (inr d) = go (letter b) (is-digit b d)
   where
@@ -43,14 +45,14 @@ is-character b (inr d) = go (letter b) (is-digit b d)
     go true h = refl
     go false h = h
 
-characters-are : (bs : List ℕ) → lettersOrDigits bs ≡ true → (i : ℕ) → i < length bs → Letter (getD bs i 0) ⊎ Digit (getD bs i 0)
-unfolding lettersOrDigits
+characters-are : (bs : List ℕ) → allOf nameByte bs ≡ true → (i : ℕ) → i < length bs → Letter (getD bs i 0) ⊎ Digit (getD bs i 0)
+unfolding allOf
 characters-are [] h i p = absurd (omega arith)
-characters-are (b ∷ bs) h zero p = character-is b (and-left (letter b || digit b) (lettersOrDigits bs) h)
-characters-are (b ∷ bs) h (suc i) p = characters-are bs (and-right (letter b || digit b) (lettersOrDigits bs) h) i (omega arith)
+characters-are (b ∷ bs) h zero p = character-is b (and-left (nameByte b) (allOf nameByte bs) h)
+characters-are (b ∷ bs) h (suc i) p = characters-are bs (and-right (nameByte b) (allOf nameByte bs) h) i (omega arith)
 
-are-characters : (bs : List ℕ) → ((i : ℕ) → i < length bs → Letter (getD bs i 0) ⊎ Digit (getD bs i 0)) → lettersOrDigits bs ≡ true
-unfolding lettersOrDigits
+are-characters : (bs : List ℕ) → ((i : ℕ) → i < length bs → Letter (getD bs i 0) ⊎ Digit (getD bs i 0)) → allOf nameByte bs ≡ true
+unfolding allOf
 are-characters [] h = refl
 are-characters (b ∷ bs) h = and-both (is-character b (h 0 (omega arith))) (are-characters bs (λ i p. h (suc i) (omega arith)))
 
@@ -58,12 +60,12 @@ named-is : (name : List ℕ) → wellNamed name ≡ true → IsName name
 unfolding wellNamed
 named-is [] h = true-false (sym h)
 named-is (b ∷ bs) h =
-    let e = and-right (leb (suc (length bs)) 8) (letter b && lettersOrDigits bs) h in
+    let e = and-right (leb (suc (length bs)) 8) (letter b && allOf nameByte bs) h in
     record {
       some = omega arith;
-      most = leb-true (suc (length bs)) 8 (and-left (leb (suc (length bs)) 8) (letter b && lettersOrDigits bs) h);
-      first = letter-is b (and-left (letter b) (lettersOrDigits bs) e);
-      others = λ i. later i (characters-are bs (and-right (letter b) (lettersOrDigits bs) e));
+      most = leb-true (suc (length bs)) 8 (and-left (leb (suc (length bs)) 8) (letter b && allOf nameByte bs) h);
+      first = letter-is b (and-left (letter b) (allOf nameByte bs) e);
+      others = λ i. later i (characters-are bs (and-right (letter b) (allOf nameByte bs) e));
     }
   where
     later : (i : ℕ) → ((j : ℕ) → j < length bs → Letter (getD bs j 0) ⊎ Digit (getD bs j 0)) → 1 ≤ i → i < suc (length bs)
