@@ -7,7 +7,8 @@ use mathlib.Core.List.{List, [], _∷_}
 use lib.Dec.{leb}
 use lib.ListN.{length}
 use borrow.Author.Tests.{leb-true, leb-false, le-leb, lt-leb}
-use Rattle.grammar.specs.Grammar.{isName, isNameByte, isLower, isDigit, allOf}
+use Rattle.grammar.specs.Lengths.{isDigit, allOf}
+use Rattle.grammar.specs.Grammar.{isName, isNameByte, isLower}
 use Rattle.sheets.specs.Names.{wellNamed, lettersOrDigits, letter, digit}
 use Rattle.calls.specs.OneNameRule.{OneNameRule}
 

@@ -9,7 +9,7 @@ use lib.Dec.{leb, eqb}
 use lib.ListN.{length}
 use borrow.Author.Tests.{ne-eqb, eq-eqb, le-leb, eqb-true, eqb-false}
 use Rattle.sheets.proofs.Truth.{and-left, and-right}
-use Rattle.grammar.specs.Grammar.{isDigit, allOf, isLength, valueFrom, value}
+use Rattle.grammar.specs.Lengths.{isDigit, allOf, isLength, valueFrom, value}
 use Rattle.report.specs.Line.{digit, leading, decimal}
 use Rattle.report.specs.Decimal.{DecimalRight}
 
