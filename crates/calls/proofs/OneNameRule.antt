@@ -7,8 +7,9 @@ use mathlib.Core.List.{List, [], _∷_}
 use lib.Dec.{leb}
 use lib.ListN.{length}
 use borrow.Author.Tests.{leb-true, leb-false, le-leb, lt-leb}
-use Rattle.grammar.specs.Grammar.{isName, isNameByte, isLower, isDigit, allOf}
+use Rattle.grammar.specs.Grammar.{isName, isNameByte, isLower}
 use Rattle.names.specs.Names.{wellNamed, allOf, nameByte, letter, digit}
+use Rattle.grammar.specs.Lengths.{isDigit, allOf}
 use Rattle.calls.specs.OneNameRule.{OneNameRule}
 
 rest-same : (bs : List ℕ) → allOf isNameByte bs ≡ allOf nameByte bs

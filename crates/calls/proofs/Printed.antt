@@ -13,7 +13,8 @@ use Rattle.signals.specs.declared.Verdict.the-variants.{FailsAt}
 use Rattle.operations.specs.Calls.{changesAfterM}
 use Rattle.grammar.specs.Tree as tree
 use Rattle.grammar.specs.Tree.{Tree}
-use Rattle.grammar.specs.Grammar.{Writes, Sum, Product, Factor, isLower, isDigit, isNameByte, allOf, isName, isLength, value}
+use Rattle.grammar.specs.Lengths.{isDigit, allOf, isLength, value}
+use Rattle.grammar.specs.Grammar.{Writes, Sum, Product, Factor, isLower, isNameByte, isName}
 use Rattle.grammar.specs.Grammar as grammar
 use Rattle.grammar.specs.Reader.{run, next, bad, stepped, expect, put, passLength, valueBetween, prefixKind, leafAt, timed, sumAt, sumsAt, productAt, productsAt, factorAt, latchAt, timerAt, readText}
 use Rattle.grammar.specs.Formula.{timedPart, nameAt, accepted, partsOf, depthOf, longestOf, formulaFault}

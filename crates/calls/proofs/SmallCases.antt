@@ -12,7 +12,8 @@ use Rattle.signals.specs.declared.Verdict.the-variants.{FailsAfter}
 use Rattle.operations.specs.Calls.{changesAfterM}
 use Rattle.grammar.specs.Tree as tree
 use Rattle.grammar.specs.Tree.{Tree}
-use Rattle.grammar.specs.Grammar.{Writes, Sum, Product, Factor, isLower, isDigit, isNameByte}
+use Rattle.grammar.specs.Lengths.{isDigit}
+use Rattle.grammar.specs.Grammar.{Writes, Sum, Product, Factor, isLower, isNameByte}
 use Rattle.grammar.specs.Reader.{run, next, bad, stepped, expect, put, prefixKind, leafAt, sumAt, sumsAt, productAt, productsAt, factorAt, readText}
 use Rattle.grammar.specs.Formula.{accepted, partsOf, formulaTree, depthOf, longestOf, formulaFault}
 use Rattle.grammar.proofs.Reading.{tree-of}

@@ -9,7 +9,7 @@ use lib.Dec.{eqb}
 use lib.ListN.{length, take, drop, set, length-set, length-drop}
 use lib.Seq.{take-suc-set}
 use borrow.Author.Tests.{eqb-true}
-use Rattle.grammar.specs.Grammar.{isDigit}
+use Rattle.grammar.specs.Lengths.{isDigit}
 use Rattle.grammar.specs.Reader.{State, next, bad, stepped, expect, put, passLength}
 use Rattle.formulas.specs.Marks.{Mark, viewOf, nextMark, movedMark, expectMark, lengthMark, putMark, putCode, Ready, Done}
 use Rattle.grammar.proofs.Bytes.{by-cond, never}

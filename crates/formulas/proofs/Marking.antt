@@ -9,7 +9,7 @@ use mathlib.Core.List.{List, [], _∷_}
 use lib.ListN.{length, getD, take, drop, List·getD-eq-default, drop-of-length-le, length-drop}
 use lib.Seq.{drop-cons, take-suc, getD-drop}
 use Rattle.signals.specs.Moment.{M}
-use Rattle.grammar.specs.Grammar.{value, valueFrom}
+use Rattle.grammar.specs.Lengths.{value, valueFrom}
 use Rattle.grammar.specs.Reader.{run, valueBetween}
 use Rattle.grammar.specs.Formula.{capped}
 use Rattle.formulas.specs.Marks.{Mark, nextMark}

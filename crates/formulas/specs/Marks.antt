@@ -6,7 +6,8 @@ use mathlib.Core.List.{List}
 use lib.Dec.{ltb, eqb}
 use lib.ListN.{length, getD, take, drop, set}
 use Rattle.signals.specs.Moment.{M}
-use Rattle.grammar.specs.Grammar.{isDigit, isNameByte}
+use Rattle.grammar.specs.Lengths.{isDigit}
+use Rattle.grammar.specs.Grammar.{isNameByte}
 use Rattle.grammar.specs.Formula.{coded}
 use Rattle.grammar.specs.Reader.{State, run, leafAt, sumAt, sumsAt, productAt, productsAt, factorAt, latchAt, timerAt}
 

@@ -6,6 +6,7 @@ use mathlib.Core.Bool.{cond}
 use mathlib.Core.List.{List}
 use lib.Dec.{eqb}
 use borrow.Author.Tests.{eq-eqb}
+use Rattle.grammar.specs.Kinds as kinds
 use Rattle.grammar.specs.Reader.{State, Emission, next, bad, stepped, expect, put, prefixKind, sumAt, sumsAt, productAt, productsAt, factorAt, latchAt, timerAt}
 
 -- a chain of operands: its operator's byte and kind, the level of an operand's reader, and the readers of an operand, of the rest after it
@@ -33,26 +34,26 @@ expect-next text b s e = rw (eq-eqb (next text s) b e) refl
 
 module _ {X : Type 0} {E : Emission X} {text : List ℕ} {deep : ℕ} where
   -- + of products, . of factors
-  pub plus : Chain E text deep 43 9 3 (λ n. productAt E text n deep) (λ n. sumsAt E text n deep) (λ n. sumAt E text n deep)
+  pub plus : Chain E text deep 43 kinds.OR 3 (λ n. productAt E text n deep) (λ n. sumsAt E text n deep) (λ n. sumAt E text n deep)
   unfolding sumAt sumsAt
   plus = record { some = omega arith; above = omega arith; below = omega arith; begins = λ n s. refl; goes-on = λ n s. refl; stops = λ s. refl }
 
-  pub times : Chain E text deep 46 8 2 (λ n. factorAt E text n deep) (λ n. productsAt E text n deep) (λ n. productAt E text n deep)
+  pub times : Chain E text deep 46 kinds.AND 2 (λ n. factorAt E text n deep) (λ n. productsAt E text n deep) (λ n. productAt E text n deep)
   unfolding productAt productsAt
   times = record { some = omega arith; above = omega arith; below = omega arith; begins = λ n s. refl; goes-on = λ n s. refl; stops = λ s. refl }
 
-  pub sr-latch : Latch E text deep 83 82 10
+  pub sr-latch : Latch E text deep 83 82 kinds.SR
   unfolding factorAt prefixKind
   sr-latch = record { is = λ n s e. rw e refl }
 
-  pub rs-latch : Latch E text deep 82 83 11
+  pub rs-latch : Latch E text deep 82 83 kinds.RS
   unfolding factorAt prefixKind
   rs-latch = record { is = λ n s e. rw e refl }
 
-  pub ton-timer : Timer E text deep 78 6
+  pub ton-timer : Timer E text deep 78 kinds.TON
   unfolding factorAt prefixKind
   ton-timer = record { is = λ n s e f. rw (e, f) refl }
 
-  pub tof-timer : Timer E text deep 70 7
+  pub tof-timer : Timer E text deep 70 kinds.TOF
   unfolding factorAt prefixKind
   tof-timer = record { is = λ n s e f. rw (e, f, expect-next text 70 (expect text 79 (stepped 1 s)) f) refl }

@@ -7,7 +7,8 @@ use mathlib.Core.List.{List, [], _∷_, _++_}
 use lib.Dec.{leb, eqb}
 use lib.ListN.{length, getD}
 use borrow.Author.Tests.{ne-eqb, leb-true}
-use Rattle.grammar.specs.Grammar.{isLower, allOf}
+use Rattle.grammar.specs.Lengths.{allOf}
+use Rattle.grammar.specs.Grammar.{isLower}
 use Rattle.grammar.specs.Reader.{run, prefixKind}
 
 pub never : {A : Type 0} → _≡_ {A = Bool} false true → A

@@ -4,19 +4,26 @@ use mathlib.Core.Path.{_≡_, refl, ap, _∙_}
 use mathlib.Core.Bool.{Bool, true, false, cond, _||_}
 use mathlib.Core.List.{List, [], _∷_, map, map-append}
 use lib.Dec.{leb, ltb, eqb}
-use lib.ListN.{length, getD, drop}
+use lib.ListN.{length, drop}
 use borrow.Author.Tests.{leb-true}
-use Rattle.grammar.specs.Grammar.{isLower, isDigit, isNameByte}
+use Rattle.grammar.specs.Lengths.{isDigit}
+use Rattle.grammar.specs.Grammar.{isLower, isNameByte}
+use Rattle.grammar.specs.Kinds as kinds
+use Rattle.grammar.specs.Formula.{Kind, plainKinds}
 use Rattle.grammar.specs.Reader.{State, Emission, run, next, bad, stepped, expect, put, passLength, valueBetween, prefixKind, leafAt, timed, sumAt, sumsAt, productAt, productsAt, factorAt, latchAt, timerAt, readText, start}
 use Rattle.grammar.proofs.Bytes.{by-cond}
 use Rattle.grammar.proofs.Standing.{state-eq}
 
 -- the kinds that are a part by themselves, and those of timers
+abbrev pub isIn : List Kind → ℕ → Bool
+isIn [] k = false
+isIn (e ∷ es) k = eqb k (e .number) || isIn es k
+
 abbrev pub isPlain : ℕ → Bool
-isPlain k = getD (true ∷ true ∷ false ∷ true ∷ true ∷ true ∷ false ∷ false ∷ true ∷ true ∷ true ∷ true ∷ []) k false
+isPlain k = isIn plainKinds k
 
 abbrev pub isTimer : ℕ → Bool
-isTimer k = eqb k 6 || eqb k 7
+isTimer k = eqb k kinds.TON || eqb k kinds.TOF
 
 pub record Carries {X Y : Type 0} (E : Emission X) (E2 : Emission Y) (f : X → Y) (g : ℕ → ℕ) : Type 0 where
   pub plain : (k : ℕ) → isPlain k ≡ true → f (E .plain k) ≡ E2 .plain k
@@ -60,8 +67,8 @@ module _ {X Y : Type 0} (E : Emission X) (E2 : Emission Y) (f : X → Y) (g : �
   leaf-same : (deep : ℕ) (s : State X) → carried (leafAt E text deep s) ≡ leafAt E2 text deep (carried s)
   unfolding leafAt next stepped bad
   leaf-same deep s =
-      both-ways carried (eqb (next text s) 48) (λ e. plain-same 0 deep refl (stepped 1 s) (stepped 1 (carried s)) refl)
-      (λ e. both-ways carried (eqb (next text s) 49) (λ e. plain-same 1 deep refl (stepped 1 s) (stepped 1 (carried s)) refl)
+      both-ways carried (eqb (next text s) 48) (λ e. plain-same kinds.DOWN deep refl (stepped 1 s) (stepped 1 (carried s)) refl)
+      (λ e. both-ways carried (eqb (next text s) 49) (λ e. plain-same kinds.UP deep refl (stepped 1 s) (stepped 1 (carried s)) refl)
       (λ e. both-ways carried (isLower (next text s))
       (λ low. both-ways carried (leb (run isNameByte (drop (s .at) text)) 8)
       (λ short.
@@ -121,13 +128,13 @@ module _ {X Y : Type 0} (E : Emission X) (E2 : Emission Y) (f : X → Y) (g : �
       ∙ ap (put (E2 .timed kind (valueBetween text (expect text 40 (carried s) .at) (passLength text (expect text 40 (carried s)) .at))) deep (E2 .ticks (valueBetween text (expect text 40 (carried s) .at) (passLength text (expect text 40 (carried s)) .at)))) e5
 
   timers-more : (n : ℕ) → Same n → (deep : ℕ) (o : State X) (o2 : State Y) → carried o ≡ o2 →
-      carried (cond (eqb (next text o) 78) (timerAt E text n 6 deep (stepped 1 o)) (timerAt E text n 7 deep (expect text 70 o)))
-      ≡ cond (eqb (next text o2) 78) (timerAt E2 text n 6 deep (stepped 1 o2)) (timerAt E2 text n 7 deep (expect text 70 o2))
+      carried (cond (eqb (next text o) 78) (timerAt E text n kinds.TON deep (stepped 1 o)) (timerAt E text n kinds.TOF deep (expect text 70 o)))
+      ≡ cond (eqb (next text o2) 78) (timerAt E2 text n kinds.TON deep (stepped 1 o2)) (timerAt E2 text n kinds.TOF deep (expect text 70 o2))
   unfolding next stepped
   timers-more n ih deep o o2 q =
       rw (← q)
-      (both-ways carried (eqb (next text o) 78) (λ e. ih .timer 6 deep refl (stepped 1 o))
-      (λ e. ih .timer 7 deep refl (expect text 70 o) ∙ ap (timerAt E2 text n 7 deep) (expect-same 70 o)))
+      (both-ways carried (eqb (next text o) 78) (λ e. ih .timer kinds.TON deep refl (stepped 1 o))
+      (λ e. ih .timer kinds.TOF deep refl (expect text 70 o) ∙ ap (timerAt E2 text n kinds.TOF deep) (expect-same 70 o)))
 
   factor-more : (n : ℕ) → Same n → (deep : ℕ) (s : State X) → carried (factorAt E text (suc n) deep s) ≡ factorAt E2 text (suc n) deep (carried s)
   unfolding factorAt next stepped
@@ -137,9 +144,9 @@ module _ {X Y : Type 0} (E : Emission X) (E2 : Emission Y) (f : X → Y) (g : �
       (λ e. both-ways carried (eqb (next text s) 40)
       (λ e. expect-same 41 (sumAt E text n (deep + 1) (stepped 1 s)) ∙ ap (expect text 41) (ih .sum (deep + 1) (stepped 1 s)))
       (λ e. both-ways carried (eqb (next text s) 83)
-      (λ e. ih .latch 10 deep refl (expect text 82 (stepped 1 s)) ∙ ap (latchAt E2 text n 10 deep) (expect-same 82 (stepped 1 s)))
+      (λ e. ih .latch kinds.SR deep refl (expect text 82 (stepped 1 s)) ∙ ap (latchAt E2 text n kinds.SR deep) (expect-same 82 (stepped 1 s)))
       (λ e. both-ways carried (eqb (next text s) 82)
-      (λ e. ih .latch 11 deep refl (expect text 83 (stepped 1 s)) ∙ ap (latchAt E2 text n 11 deep) (expect-same 83 (stepped 1 s)))
+      (λ e. ih .latch kinds.RS deep refl (expect text 83 (stepped 1 s)) ∙ ap (latchAt E2 text n kinds.RS deep) (expect-same 83 (stepped 1 s)))
       (λ e. both-ways carried (eqb (next text s) 84)
       (λ e. timers-more n ih deep (expect text 79 (stepped 1 s)) (expect text 79 (stepped 1 (carried s))) (expect-same 79 (stepped 1 s)))
       (λ e. leaf-same deep s)))))
@@ -153,14 +160,14 @@ module _ {X Y : Type 0} (E : Emission X) (E2 : Emission Y) (f : X → Y) (g : �
         sums = λ deep s.
             both-ways carried (eqb (next text s) 43)
             (λ e.
-            ih .sums deep (put (E .plain 9) deep 0 (productAt E text n deep (stepped 1 s)))
-            ∙ ap (sumsAt E2 text n deep) (plain-same 9 deep refl (productAt E text n deep (stepped 1 s)) (productAt E2 text n deep (stepped 1 (carried s))) (ih .product deep (stepped 1 s))))
+            ih .sums deep (put (E .plain kinds.OR) deep 0 (productAt E text n deep (stepped 1 s)))
+            ∙ ap (sumsAt E2 text n deep) (plain-same kinds.OR deep refl (productAt E text n deep (stepped 1 s)) (productAt E2 text n deep (stepped 1 (carried s))) (ih .product deep (stepped 1 s))))
             (λ e. refl);
         products = λ deep s.
             both-ways carried (eqb (next text s) 46)
             (λ e.
-            ih .products deep (put (E .plain 8) deep 0 (factorAt E text n deep (stepped 1 s)))
-            ∙ ap (productsAt E2 text n deep) (plain-same 8 deep refl (factorAt E text n deep (stepped 1 s)) (factorAt E2 text n deep (stepped 1 (carried s))) (ih .factor deep (stepped 1 s))))
+            ih .products deep (put (E .plain kinds.AND) deep 0 (factorAt E text n deep (stepped 1 s)))
+            ∙ ap (productsAt E2 text n deep) (plain-same kinds.AND deep refl (factorAt E text n deep (stepped 1 s)) (factorAt E2 text n deep (stepped 1 (carried s))) (ih .factor deep (stepped 1 s))))
             (λ e. refl);
         factor = λ deep s. factor-more n ih deep s;
         latch = λ kind deep e s.

@@ -4,21 +4,23 @@ use native.Mathlib.Nat.{mod-eq-of-lt}
 use native.Mathlib.Omega.{arith}
 use native.Mathlib.Decide.{decLt}
 use mathlib.Core.Path.{_≡_, refl, sym, ap, _∙_}
-use mathlib.Core.Bool.{Bool, true, false, cond}
+use mathlib.Core.Bool.{Bool, true, false, cond, _&&_, _||_}
 use mathlib.Core.List.{List, [], _∷_, _++_, map, map-append}
 use mathlib.Core.Logic.{_⊎_, inl, inr, ⊎-elim}
-use lib.Dec.{eqb}
-use lib.ListN.{length, length-map, List·getD-eq-default, List·getD-map}
-use borrow.Author.Tests.{eqb-true, ne-eqb}
+use lib.Dec.{ltb, eqb}
+use lib.ListN.{length, length-map}
+use borrow.Author.Tests.{eqb-true, ne-eqb, ltb-true}
 use Rattle.signals.specs.Moment.{M}
 use Rattle.grammar.specs.Tree.{Tree, Unary, leaf, unary, binary, down, up, name, invert, rise, fall, ton, tof, and, or, sr, rs}
 use Rattle.grammar.specs.Code.{Part, operand, one, two, code, longest, ticksOf}
+use Rattle.grammar.specs.Kinds as kinds
 use Rattle.grammar.specs.Reader.{State, Emission, readText}
-use Rattle.grammar.specs.Formula.{accepted, formulaTree, plainPart, timedPart, nameAt, nameWord, timerWord, capped, spelled, coded, partOf, partsOf, codeOf}
+use Rattle.grammar.specs.Formula.{Kind, plainKinds, partIn, plainPart, timedPart, nameAt, nameWord, timerWord, capped, spelled, coded}
+use Rattle.grammar.specs.Formula.{partOf, accepted, formulaTree, partsOf, codeOf}
 use Rattle.grammar.specs.Exactness.{CodeExact, AcceptedCode, Eleven, Twelve}
 use Rattle.grammar.specs.Grammar.{Sum}
-use Rattle.grammar.proofs.Bytes.{never}
-use Rattle.grammar.proofs.Carried.{isPlain, isTimer, Carries, text-carried}
+use Rattle.grammar.proofs.Bytes.{never, and-left, and-right}
+use Rattle.grammar.proofs.Carried.{isIn, isPlain, isTimer, Carries, both-ways, text-carried}
 use Rattle.grammar.proofs.Reading.{parts-exact, longest-in, faults-exact, derived-of, tree-of, accepted-of}
 
 -- parts with every length above M taken as M + 1
@@ -37,45 +39,59 @@ cutPart (operand l) = operand l
 cutPart (one o) = one (cutUnary o)
 cutPart (two o) = two o
 
-abbrev kinds : List Part
-kinds = operand down ∷ operand up ∷ operand down ∷ one invert ∷ one rise ∷ one fall ∷ operand down ∷ operand down ∷ two and ∷ two or ∷ two sr ∷ two rs ∷ []
+-- the numbers of a table are below 16
+abbrev below16 : List Kind → Bool
+below16 [] = true
+below16 (e ∷ es) = ltb (e .number) 16 && below16 es
 
-plain-below : (k : ℕ) → isPlain k ≡ true → k < 12
-plain-below k e = go (decLt k 12)
+in-below : (es : List Kind) (k : ℕ) → below16 es ≡ true → isIn es k ≡ true → k < 16
+in-below [] k h e = never e
+in-below (x ∷ es) k h e = go (eqb k (x .number)) refl e (in-below es k (and-right (ltb (x .number) 16) (below16 es) h))
   where
-    go : Dec (k < 12) → k < 12
-    go (yes h) = h
-    go (no h) = never (sym (List·getD-eq-default (true ∷ true ∷ false ∷ true ∷ true ∷ true ∷ false ∷ false ∷ true ∷ true ∷ true ∷ true ∷ []) false {n = k} (omega (arith, h))) ∙ e)
+    low : x .number < 16
+    low = ltb-true (x .number) 16 (and-left (ltb (x .number) 16) (below16 es) h)
+
+    go : (z : Bool) → eqb k (x .number) ≡ z → z || isIn es k ≡ true → (isIn es k ≡ true → k < 16) → k < 16
+    go true z e ih = let q = eqb-true k (x .number) z in let l = low in omega arith
+    go false z e ih = ih e
+
+-- a table with each length above M taken as M + 1
+abbrev cutKind : Kind → Kind
+cutKind e = record { number = e .number; part = cutPart (e .part) }
+
+part-cut : (es : List Kind) (k : ℕ) → cutPart (partIn es k) ≡ partIn (map cutKind es) k
+part-cut [] k = refl
+part-cut (e ∷ es) k = both-ways cutPart (eqb k (e .number)) (λ z. refl) (λ z. part-cut es k)
 
 plain-not : (k j : ℕ) → isPlain j ≡ false → isPlain k ≡ true → eqb k j ≡ false
 plain-not k j f e = ne-eqb k j (λ q. never (sym f ∙ ap isPlain (sym q) ∙ e))
 
-timer-kind : (k : ℕ) → isTimer k ≡ true → (k ≡ 6) ⊎ (k ≡ 7)
-timer-kind k e = go (eqb k 6) refl
+timer-kind : (k : ℕ) → isTimer k ≡ true → (k ≡ kinds.TON) ⊎ (k ≡ kinds.TOF)
+timer-kind k e = go (eqb k kinds.TON) refl
   where
-    go : (z : Bool) → eqb k 6 ≡ z → (k ≡ 6) ⊎ (k ≡ 7)
-    go true z = inl (eqb-true k 6 z)
-    go false z = inr (eqb-true k 7 (rw z at e))
+    go : (z : Bool) → eqb k kinds.TON ≡ z → (k ≡ kinds.TON) ⊎ (k ≡ kinds.TOF)
+    go true z = inl (eqb-true k kinds.TON z)
+    go false z = inr (eqb-true k kinds.TOF (rw z at e))
 
 words-carry : (text : List ℕ) → Carries coded (cut text) (partOf text) (λ n. n)
 unfolding partOf nameWord timerWord timedPart
 words-carry text =
     record {
       plain = λ k e.
-          let h = plain-below k e in
+          let h = in-below plainKinds k refl e in
           let m : k % 16 ≡ k = mod-eq-of-lt (omega arith) in
-          rw (m, plain-not k 2 refl e, plain-not k 6 refl e, plain-not k 7 refl e) refl;
+          rw (m, plain-not k kinds.NAME refl e, plain-not k kinds.TON refl e, plain-not k kinds.TOF refl e) refl;
       named = λ p k h.
-          let m : ((p * 16 + k) * 16 + 2) % 16 ≡ 2 = omega arith in
-          let i : ((p * 16 + k) * 16 + 2) / 256 ≡ p = omega arith in
-          let q : ((p * 16 + k) * 16 + 2) / 16 ≡ p * 16 + k = omega arith in
+          let m : ((p * 16 + k) * 16 + kinds.NAME) % 16 ≡ kinds.NAME = omega arith in
+          let i : ((p * 16 + k) * 16 + kinds.NAME) / 256 ≡ p = omega arith in
+          let q : ((p * 16 + k) * 16 + kinds.NAME) / 16 ≡ p * 16 + k = omega arith in
           let j : (p * 16 + k) % 16 ≡ k = omega arith in
           rw (m, i, q, j) refl;
       timed = λ k n e.
-          let h : k ≤ 7 = ⊎-elim (λ q. omega arith) (λ q. omega arith) (timer-kind k e) in
+          let h : k < 16 = ⊎-elim (λ q. omega arith) (λ q. omega arith) (timer-kind k e) in
           let m : (capped n * 16 + k) % 16 ≡ k = omega arith in
           let i : (capped n * 16 + k) / 16 ≡ capped n = omega arith in
-          let z : eqb k 2 ≡ false = ne-eqb k 2 (λ q. ⊎-elim (λ r. omega arith) (λ r. omega arith) (timer-kind k e)) in
+          let z : eqb k kinds.NAME ≡ false = ne-eqb k kinds.NAME (λ q. ⊎-elim (λ r. omega arith) (λ r. omega arith) (timer-kind k e)) in
           rw (m, i, z, e) refl;
       ticks = λ n. refl;
       none = refl;
@@ -86,9 +102,9 @@ parts-carry : (text : List ℕ) → Carries (spelled text) (cut text) cutPart ca
 unfolding capped timedPart
 parts-carry text =
     record {
-      plain = λ k e. sym (List·getD-map cutPart kinds k (operand down));
+      plain = λ k e. part-cut plainKinds k;
       named = λ p k h. refl;
-      timed = λ k n e. by-kind (eqb k 6) n;
+      timed = λ k n e. by-kind (eqb k kinds.TON) n;
       ticks = λ n. refl;
       none = refl;
       larger = λ a b. omega arith;

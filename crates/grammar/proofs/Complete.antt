@@ -10,7 +10,9 @@ use lib.Seq.{take-append-seam}
 use borrow.Author.Tests.{leb-true, le-leb, eq-eqb}
 use Rattle.grammar.specs.Tree.{Tree, Unary, Binary, leaf, unary, binary, invert, rise, fall, ton, tof, and, or, sr, rs, name, down, up}
 use Rattle.grammar.specs.Code.{Part, code, longest, one, two, ticksOf}
-use Rattle.grammar.specs.Grammar.{Sum, Product, Factor, isLower, isDigit, isNameByte, allOf, isName, isLength, value}
+use Rattle.grammar.specs.Lengths.{isDigit, allOf, isLength, value}
+use Rattle.grammar.specs.Grammar.{Sum, Product, Factor, isLower, isNameByte, isName}
+use Rattle.grammar.specs.Kinds as kinds
 use Rattle.grammar.specs.Reader.{State, next, stepped, put, passLength, valueBetween, prefixKind, leafAt, timed, sumAt, sumsAt, productAt, productsAt, factorAt, latchAt, timerAt}
 use Rattle.grammar.specs.Formula.{plainPart, timedPart, nameAt, spelled}
 use Rattle.grammar.proofs.Bytes.{never, and-left, and-right, run-all, lower-not}
@@ -271,15 +273,15 @@ module _ (text : List ℕ) where
         | Sum.plus {w} {v} {t} {u} {d} {e} (p → h) (q → k) ↦ plus-reads w v t u d e h k
         | Product.factor {w} {t} {d} (p → h) ↦ product-of-factor w t d h
         | Product.dot {w} {v} {t} {u} {d} {e} (p → h) (q → k) ↦ dot-reads w v t u d e h k
-        | Factor.inverted {w} {t} {d} (p → h) ↦ prefix-reads 33 3 invert refl refl refl refl w t d h
-        | Factor.rising {w} {t} {d} (p → h) ↦ prefix-reads 94 4 rise refl refl refl refl w t d h
-        | Factor.falling {w} {t} {d} (p → h) ↦ prefix-reads 126 5 fall refl refl refl refl w t d h
+        | Factor.inverted {w} {t} {d} (p → h) ↦ prefix-reads 33 kinds.NOT invert refl refl refl refl w t d h
+        | Factor.rising {w} {t} {d} (p → h) ↦ prefix-reads 94 kinds.RISING rise refl refl refl refl w t d h
+        | Factor.falling {w} {t} {d} (p → h) ↦ prefix-reads 126 kinds.FALLING fall refl refl refl refl w t d h
         | Factor.brackets {w} {t} {d} (p → h) ↦ brackets-reads w t d (whole w t d h)
         | Factor.zero ↦ zero-reads
         | Factor.one ↦ one-reads
         | Factor.named {w} e ↦ named-reads w e
-        | Factor.sr {w} {v} {t} {u} {d} {e} (p → h) (q → k) ↦ latch-letters 83 82 10 sr refl (λ deep. sr-latch) w v t u d e (whole w t d h) (whole v u e k)
-        | Factor.rs {w} {v} {t} {u} {d} {e} (p → h) (q → k) ↦ latch-letters 82 83 11 rs refl (λ deep. rs-latch) w v t u d e (whole w t d h) (whole v u e k)
-        | Factor.ton w {v} {t} {d} e (p → h) ↦ timer-letters 78 6 ton (λ k. refl) (λ k. refl) (λ deep. ton-timer) w v t d e (whole v t d h)
-        | Factor.tof w {v} {t} {d} e (p → h) ↦ timer-letters 70 7 tof (λ k. refl) (λ k. refl) (λ deep. tof-timer) w v t d e (whole v t d h)
+        | Factor.sr {w} {v} {t} {u} {d} {e} (p → h) (q → k) ↦ latch-letters 83 82 kinds.SR sr refl (λ deep. sr-latch) w v t u d e (whole w t d h) (whole v u e k)
+        | Factor.rs {w} {v} {t} {u} {d} {e} (p → h) (q → k) ↦ latch-letters 82 83 kinds.RS rs refl (λ deep. rs-latch) w v t u d e (whole w t d h) (whole v u e k)
+        | Factor.ton w {v} {t} {d} e (p → h) ↦ timer-letters 78 kinds.TON ton (λ k. refl) (λ k. refl) (λ deep. ton-timer) w v t d e (whole v t d h)
+        | Factor.tof w {v} {t} {d} e (p → h) ↦ timer-letters 70 kinds.TOF tof (λ k. refl) (λ k. refl) (λ deep. tof-timer) w v t d e (whole v t d h)
       ]

@@ -10,7 +10,8 @@ use lib.Seq.{length-take-le}
 use borrow.Author.Tests.{eqb-true, leb-true, le-leb}
 use Rattle.grammar.specs.Tree.{Leaf, leaf, name, down, up}
 use Rattle.grammar.specs.Code.{Part, code, longest, operand, one}
-use Rattle.grammar.specs.Grammar.{Factor, isLower, isDigit, isNameByte, allOf, isName, isLength}
+use Rattle.grammar.specs.Lengths.{isDigit, allOf, isLength}
+use Rattle.grammar.specs.Grammar.{Factor, isLower, isNameByte, isName}
 use Rattle.grammar.specs.Reader.{State, run, next, bad, stepped, put, passLength, leafAt}
 use Rattle.grammar.specs.Formula.{nameAt, spelled}
 use Rattle.grammar.proofs.Bytes.{never, by-cond, and-left}

@@ -8,7 +8,9 @@ use lib.Dec.{ltb, eqb}
 use borrow.Author.Tests.{eqb-true}
 use Rattle.grammar.specs.Tree.{Tree, Unary, Binary, unary, binary, invert, rise, fall, ton, tof, and, or, sr, rs}
 use Rattle.grammar.specs.Code.{Part, operand, one, two, ticksOf}
-use Rattle.grammar.specs.Grammar.{Sum, Product, Factor, isLength, value}
+use Rattle.grammar.specs.Lengths.{isLength, value}
+use Rattle.grammar.specs.Grammar.{Sum, Product, Factor}
+use Rattle.grammar.specs.Kinds as kinds
 use Rattle.grammar.specs.Reader.{State, next, bad, stepped, expect, put, passLength, valueBetween, prefixKind, timed, sumAt, sumsAt, productAt, productsAt, factorAt, latchAt, timerAt}
 use Rattle.grammar.specs.Formula.{plainPart, timedPart, spelled}
 use Rattle.grammar.proofs.Bytes.{never, by-cond}
@@ -135,15 +137,15 @@ module _ (text : List ℕ) where
       goal = Finds text Factor deep s (put (plainPart (prefixKind (next text s))) deep 0 (factorAt (spelled text) text n (deep + 1) (stepped 1 s)))
 
       go3 : eqb (next text s) 33 ≡ false → eqb (next text s) 94 ≡ false → (z : Bool) → eqb (next text s) 126 ≡ z → goal
-      go3 p q true z = prefix-found 126 5 fall refl refl refl (omega arith) (λ w t d x. Factor.falling x) n ih deep s (eqb-true (next text s) 126 z)
+      go3 p q true z = prefix-found 126 kinds.FALLING fall refl refl refl (omega arith) (λ w t d x. Factor.falling x) n ih deep s (eqb-true (next text s) 126 z)
       go3 p q false z = never (rw (p, q, z) at e)
 
       go2 : eqb (next text s) 33 ≡ false → (z : Bool) → eqb (next text s) 94 ≡ z → goal
-      go2 p true z = prefix-found 94 4 rise refl refl refl (omega arith) (λ w t d x. Factor.rising x) n ih deep s (eqb-true (next text s) 94 z)
+      go2 p true z = prefix-found 94 kinds.RISING rise refl refl refl (omega arith) (λ w t d x. Factor.rising x) n ih deep s (eqb-true (next text s) 94 z)
       go2 p false z = go3 p z (eqb (next text s) 126) refl
 
       go : (z : Bool) → eqb (next text s) 33 ≡ z → goal
-      go true z = prefix-found 33 3 invert refl refl refl (omega arith) (λ w t d x. Factor.inverted x) n ih deep s (eqb-true (next text s) 33 z)
+      go true z = prefix-found 33 kinds.NOT invert refl refl refl (omega arith) (λ w t d x. Factor.inverted x) n ih deep s (eqb-true (next text s) 33 z)
       go false z = go2 z (eqb (next text s) 94) refl
 
   brackets-step : (n : ℕ) → Sound n → (deep : ℕ) (s : State Part) → next text s ≡ 40 → Finds text Factor deep s (expect text 41 (sumAt (spelled text) text n (deep + 1) (stepped 1 s)))
@@ -212,8 +214,8 @@ module _ (text : List ℕ) where
 
   timers-step : (n : ℕ) → Sound n → (deep : ℕ) (s : State Part) → next text s ≡ 84 →
       Finds text Factor deep s
-      (cond (eqb (next text (expect text 79 (stepped 1 s))) 78) (timerAt (spelled text) text n 6 deep (stepped 1 (expect text 79 (stepped 1 s))))
-      (timerAt (spelled text) text n 7 deep (expect text 70 (expect text 79 (stepped 1 s)))))
+      (cond (eqb (next text (expect text 79 (stepped 1 s))) 78) (timerAt (spelled text) text n kinds.TON deep (stepped 1 (expect text 79 (stepped 1 s))))
+      (timerAt (spelled text) text n kinds.TOF deep (expect text 70 (expect text 79 (stepped 1 s)))))
   unfolding timedPart
   timers-step n ih deep s e =
       by-cond (Finds text Factor deep s) (eqb (next text (expect text 79 (stepped 1 s))) 78)
@@ -221,13 +223,13 @@ module _ (text : List ℕ) where
       let y = next-inv text (expect text 79 (stepped 1 s)) 78 (eqb-true (next text (expect text 79 (stepped 1 s))) 78 z) (omega arith) in
       let x = expect-inv text (stepped 1 s) 79 (omega arith) (y .1 .fine) in
       let e2 = expect-at (x .1) in
-      timer-letters 78 6 ton (λ n. refl) (λ n. refl) (λ w v t d a b. Factor.ton w a b) n ih deep s (stepped 1 (expect text 79 (stepped 1 s))) e (x .0) (x .1) (y .0) (moved e2 (y .1)) (ap (stepped 1) e2) h)
+      timer-letters 78 kinds.TON ton (λ n. refl) (λ n. refl) (λ w v t d a b. Factor.ton w a b) n ih deep s (stepped 1 (expect text 79 (stepped 1 s))) e (x .0) (x .1) (y .0) (moved e2 (y .1)) (ap (stepped 1) e2) h)
       (λ z h.
-      let g = ih .timer 7 deep (expect text 70 (expect text 79 (stepped 1 s))) h in
+      let g = ih .timer kinds.TOF deep (expect text 70 (expect text 79 (stepped 1 s))) h in
       let y = expect-inv text (expect text 79 (stepped 1 s)) 70 (omega arith) (g .here .fine) in
       let x = expect-inv text (stepped 1 s) 79 (omega arith) (y .1 .fine) in
       let e2 = expect-at (x .1) in
-      timer-letters 70 7 tof (λ n. refl) (λ n. refl) (λ w v t d a b. Factor.tof w a b) n ih deep s (expect text 70 (expect text 79 (stepped 1 s))) e (x .0) (x .1) (y .0) (moved e2 (y .1)) (expect-at (y .1) ∙ ap (stepped 1) e2) h)
+      timer-letters 70 kinds.TOF tof (λ n. refl) (λ n. refl) (λ w v t d a b. Factor.tof w a b) n ih deep s (expect text 70 (expect text 79 (stepped 1 s))) e (x .0) (x .1) (y .0) (moved e2 (y .1)) (expect-at (y .1) ∙ ap (stepped 1) e2) h)
 
   factor-step : (n : ℕ) → Sound n → (deep : ℕ) (s : State Part) → Finds text Factor deep s (factorAt (spelled text) text (suc n) deep s)
   unfolding factorAt
@@ -235,9 +237,9 @@ module _ (text : List ℕ) where
       by-cond (Finds text Factor deep s) (ltb 0 (prefixKind (next text s))) (prefix-step n ih deep s)
       (λ e1. by-cond (Finds text Factor deep s) (eqb (next text s) 40) (λ e. brackets-step n ih deep s (eqb-true (next text s) 40 e))
       (λ e2. by-cond (Finds text Factor deep s) (eqb (next text s) 83)
-      (λ e. latch-letters 83 82 10 sr refl (omega arith) (omega arith) (λ w v t u d e a b. Factor.sr a b) n ih deep s (eqb-true (next text s) 83 e))
+      (λ e. latch-letters 83 82 kinds.SR sr refl (omega arith) (omega arith) (λ w v t u d e a b. Factor.sr a b) n ih deep s (eqb-true (next text s) 83 e))
       (λ e3. by-cond (Finds text Factor deep s) (eqb (next text s) 82)
-      (λ e. latch-letters 82 83 11 rs refl (omega arith) (omega arith) (λ w v t u d e a b. Factor.rs a b) n ih deep s (eqb-true (next text s) 82 e))
+      (λ e. latch-letters 82 83 kinds.RS rs refl (omega arith) (omega arith) (λ w v t u d e a b. Factor.rs a b) n ih deep s (eqb-true (next text s) 82 e))
       (λ e4. by-cond (Finds text Factor deep s) (eqb (next text s) 84) (λ e. timers-step n ih deep s (eqb-true (next text s) 84 e))
       (λ e5. leaf-step text deep s)))))
 

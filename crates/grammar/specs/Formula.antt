@@ -3,35 +3,42 @@ use Prim.Native.Nat.{ℕ, _+_, _*_, _/_, _%_, min}
 use mathlib.Core.Bool.{Bool, cond, not, _&&_, _||_}
 use mathlib.Core.List.{List, [], _∷_}
 use lib.Dec.{ltb, eqb}
-use lib.ListN.{length, getD, take, drop}
+use lib.ListN.{length, take, drop}
 use lib.Seq.{sets}
 use Rattle.signals.specs.Moment.{M}
 use Rattle.grammar.specs.Tree.{Tree, down, up, name, invert, rise, fall, ton, tof, and, or, sr, rs}
+use Rattle.grammar.specs.Kinds as kinds
 use Rattle.grammar.specs.Code.{Part, operand, one, two, treeOf}
 use Rattle.grammar.specs.Reader.{Emission, readText}
 
--- the kinds of parts: 0 and 1 the constants, 2 a name, 3 !, 4 ^, 5 ~, 6 TON, 7 TOF, 8 ., 9 +, 10 SR, 11 RS
+-- the kinds that are a part by themselves, each with its part
+pub record Kind : Type 0 where
+  pub number : ℕ
+  pub part : Part
+
+abbrev pub plainKinds : List Kind
+plainKinds =
+    record { number = kinds.DOWN; part = operand down }
+    ∷ record { number = kinds.UP; part = operand up }
+    ∷ record { number = kinds.NOT; part = one invert }
+    ∷ record { number = kinds.RISING; part = one rise }
+    ∷ record { number = kinds.FALLING; part = one fall }
+    ∷ record { number = kinds.AND; part = two and }
+    ∷ record { number = kinds.OR; part = two or }
+    ∷ record { number = kinds.SR; part = two sr }
+    ∷ record { number = kinds.RS; part = two rs }
+    ∷ []
+
+-- the part of a kind in a table; 0 of one that is not there
+abbrev pub partIn : List Kind → ℕ → Part
+partIn [] k = operand down
+partIn (e ∷ es) k = cond (eqb k (e .number)) (e .part) (partIn es k)
+
 abbrev pub plainPart : ℕ → Part
-plainPart kind =
-    getD
-    (operand down
-    ∷ operand up
-    ∷ operand down
-    ∷ one invert
-    ∷ one rise
-    ∷ one fall
-    ∷ operand down
-    ∷ operand down
-    ∷ two and
-    ∷ two or
-    ∷ two sr
-    ∷ two rs
-    ∷ [])
-    kind
-    (operand down)
+plainPart kind = partIn plainKinds kind
 
 unfoldable pub timedPart : ℕ → ℕ → Part
-timedPart kind n = cond (eqb kind 6) (one (ton n)) (one (tof n))
+timedPart kind n = cond (eqb kind kinds.TON) (one (ton n)) (one (tof n))
 
 -- the bytes of a text from a place on, so many
 unfoldable pub nameAt : List ℕ → ℕ → ℕ → List ℕ
@@ -45,7 +52,7 @@ spelled text =
 -- Code words: the kind in the low four bits; above it a timer's ticks, M + 1 for every length above M, or of a name the count
 -- of its bytes in four bits and above it its place in the text.
 unfoldable pub nameWord : ℕ → ℕ → ℕ
-nameWord place count = (place * 16 + count) * 16 + 2
+nameWord place count = (place * 16 + count) * 16 + kinds.NAME
 
 unfoldable pub capped : ℕ → ℕ
 capped n = min n (M + 1)
@@ -59,8 +66,8 @@ coded = record { plain = λ kind. kind; named = nameWord; timed = timerWord; tic
 -- the part that a code word of a text stands for
 unfoldable pub partOf : List ℕ → ℕ → Part
 partOf text w =
-    cond (eqb (w % 16) 2) (operand (name (nameAt text (w / 256) (w / 16 % 16))))
-    (cond (eqb (w % 16) 6 || eqb (w % 16) 7) (timedPart (w % 16) (w / 16)) (plainPart (w % 16)))
+    cond (eqb (w % 16) kinds.NAME) (operand (name (nameAt text (w / 256) (w / 16 % 16))))
+    (cond (eqb (w % 16) kinds.TON || eqb (w % 16) kinds.TOF) (timedPart (w % 16) (w / 16)) (plainPart (w % 16)))
 
 -- the whole text is read without a break of the grammar
 unfoldable pub accepted : List ℕ → Bool
@@ -79,7 +86,8 @@ depthOf text = readText (spelled text) text .deepest
 unfoldable pub longestOf : List ℕ → ℕ
 longestOf text = readText (spelled text) text .longest
 
--- The fault of a formula, 0 for none: 10 empty or over 1,024 bytes, 11 outside the grammar, 8 a length above M, 12 over 32 parts or depth over 16.
+-- The fault of a formula, 0 for none: 10 empty or over 1,024 bytes, 11 outside the grammar, 8 a length above M,
+-- 12 over 32 parts or depth over 16.
 unfoldable pub formulaFault : List ℕ → ℕ
 formulaFault text =
     cond (eqb (length text) 0 || ltb 1024 (length text)) 10

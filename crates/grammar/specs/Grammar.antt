@@ -1,44 +1,25 @@
 -- Document 01, "Formulas": the grammar, rule by rule, as a relation between bytes, tree and depth.
-use Prim.Native.Nat.{ℕ, _+_, _*_, _-_, max}
+use Prim.Native.Nat.{ℕ, _+_, max}
 use mathlib.Core.Path.{_≡_}
-use mathlib.Core.Bool.{Bool, true, false, not, _&&_, _||_}
+use mathlib.Core.Bool.{Bool, true, false, _&&_, _||_}
 use mathlib.Core.List.{List, [], _∷_, _++_}
-use lib.Dec.{leb, eqb}
+use lib.Dec.{leb}
 use lib.ListN.{length}
+use Rattle.grammar.specs.Lengths.{isDigit, allOf, isLength, value}
 use Rattle.grammar.specs.Tree.{Tree}
 use Rattle.grammar.specs.Tree as tree
 
--- lowercase letters, digits
+-- lowercase letters
 unfoldable pub isLower : ℕ → Bool
 isLower b = leb 97 b && leb b 122
 
-unfoldable pub isDigit : ℕ → Bool
-isDigit b = leb 48 b && leb b 57
-
 unfoldable pub isNameByte : ℕ → Bool
 isNameByte b = isLower b || isDigit b
-
-unfoldable pub allOf : (ℕ → Bool) → List ℕ → Bool
-allOf p [] = true
-allOf p (b ∷ bs) = p b && allOf p bs
 
 -- A name is 1 to 8 characters, a lowercase letter, then lowercase letters or digits.
 unfoldable pub isName : List ℕ → Bool
 isName [] = false
 isName (b ∷ bs) = isLower b && (allOf isNameByte bs && leb (length bs) 7)
-
--- Lengths are decimal, without needless leading zeros.
-unfoldable pub isLength : List ℕ → Bool
-isLength [] = false
-isLength (b ∷ bs) = isDigit b && (allOf isDigit bs && (eqb (length bs) 0 || not (eqb b 48)))
-
--- the number that digits write, after those that wrote `before`
-unfoldable pub valueFrom : ℕ → List ℕ → ℕ
-valueFrom before [] = before
-valueFrom before (b ∷ bs) = valueFrom (before * 10 + (b - 48)) bs
-
-unfoldable pub value : List ℕ → ℕ
-value w = valueFrom 0 w
 
 -- The bytes, the tree that they write and the largest depth of its parts. A part's depth is the number of open brackets, those of
 -- blocks included, and of ! ^ ~ around it. Chains group to the left. 33 is !, 94 ^, 126 ~, 40 (, 41 ), 44 a comma, 43 +, 46 a full stop.
@@ -46,12 +27,14 @@ mutual
   -- sum = product {"+" product}
   pub data Sum : List ℕ → Tree → ℕ → Type 0 where
     product : {w : List ℕ} {t : Tree} {d : ℕ} → Product w t d → Sum w t d
-    plus : {w v : List ℕ} {t u : Tree} {d e : ℕ} → Sum w t d → Product v u e → Sum (w ++ (43 ∷ v)) (tree.binary tree.or t u) (max d e)
+    plus : {w v : List ℕ} {t u : Tree} {d e : ℕ} → Sum w t d → Product v u e →
+        Sum (w ++ (43 ∷ v)) (tree.binary tree.or t u) (max d e)
 
   -- product = factor {"." factor}
   pub data Product : List ℕ → Tree → ℕ → Type 0 where
     factor : {w : List ℕ} {t : Tree} {d : ℕ} → Factor w t d → Product w t d
-    dot : {w v : List ℕ} {t u : Tree} {d e : ℕ} → Product w t d → Factor v u e → Product (w ++ (46 ∷ v)) (tree.binary tree.and t u) (max d e)
+    dot : {w v : List ℕ} {t u : Tree} {d e : ℕ} → Product w t d → Factor v u e →
+        Product (w ++ (46 ∷ v)) (tree.binary tree.and t u) (max d e)
 
   -- factor = "!" factor, "^" factor, "~" factor, "(" sum ")", "0", "1", name, SR(sum,sum), RS(sum,sum), TON(length,sum), TOF(length,sum)
   pub data Factor : List ℕ → Tree → ℕ → Type 0 where
@@ -62,10 +45,14 @@ mutual
     zero : Factor (48 ∷ []) (tree.leaf tree.down) 0
     one : Factor (49 ∷ []) (tree.leaf tree.up) 0
     named : {w : List ℕ} → isName w ≡ true → Factor w (tree.leaf (tree.name w)) 0
-    sr : {w v : List ℕ} {t u : Tree} {d e : ℕ} → Sum w t d → Sum v u e → Factor (83 ∷ 82 ∷ 40 ∷ (w ++ (44 ∷ (v ++ (41 ∷ []))))) (tree.binary tree.sr t u) (max d e + 1)
-    rs : {w v : List ℕ} {t u : Tree} {d e : ℕ} → Sum w t d → Sum v u e → Factor (82 ∷ 83 ∷ 40 ∷ (w ++ (44 ∷ (v ++ (41 ∷ []))))) (tree.binary tree.rs t u) (max d e + 1)
-    ton : (w : List ℕ) {v : List ℕ} {t : Tree} {d : ℕ} → isLength w ≡ true → Sum v t d → Factor (84 ∷ 79 ∷ 78 ∷ 40 ∷ (w ++ (44 ∷ (v ++ (41 ∷ []))))) (tree.unary (tree.ton (value w)) t) (d + 1)
-    tof : (w : List ℕ) {v : List ℕ} {t : Tree} {d : ℕ} → isLength w ≡ true → Sum v t d → Factor (84 ∷ 79 ∷ 70 ∷ 40 ∷ (w ++ (44 ∷ (v ++ (41 ∷ []))))) (tree.unary (tree.tof (value w)) t) (d + 1)
+    sr : {w v : List ℕ} {t u : Tree} {d e : ℕ} → Sum w t d → Sum v u e →
+        Factor (83 ∷ 82 ∷ 40 ∷ (w ++ (44 ∷ (v ++ (41 ∷ []))))) (tree.binary tree.sr t u) (max d e + 1)
+    rs : {w v : List ℕ} {t u : Tree} {d e : ℕ} → Sum w t d → Sum v u e →
+        Factor (82 ∷ 83 ∷ 40 ∷ (w ++ (44 ∷ (v ++ (41 ∷ []))))) (tree.binary tree.rs t u) (max d e + 1)
+    ton : (w : List ℕ) {v : List ℕ} {t : Tree} {d : ℕ} → isLength w ≡ true → Sum v t d →
+        Factor (84 ∷ 79 ∷ 78 ∷ 40 ∷ (w ++ (44 ∷ (v ++ (41 ∷ []))))) (tree.unary (tree.ton (value w)) t) (d + 1)
+    tof : (w : List ℕ) {v : List ℕ} {t : Tree} {d : ℕ} → isLength w ≡ true → Sum v t d →
+        Factor (84 ∷ 79 ∷ 70 ∷ 40 ∷ (w ++ (44 ∷ (v ++ (41 ∷ []))))) (tree.unary (tree.tof (value w)) t) (d + 1)
 
 -- the formula that bytes write is a sum
 abbrev pub Writes : List ℕ → Tree → ℕ → Type 0

@@ -4,7 +4,9 @@ use mathlib.Core.Bool.{Bool, true, false, cond}
 use mathlib.Core.List.{List, [], _∷_, _++_}
 use lib.Dec.{leb, ltb, eqb}
 use lib.ListN.{length, getD, take, drop}
-use Rattle.grammar.specs.Grammar.{isLower, isDigit, isNameByte, value}
+use Rattle.grammar.specs.Kinds as kinds
+use Rattle.grammar.specs.Lengths.{isDigit, value}
+use Rattle.grammar.specs.Grammar.{isLower, isNameByte}
 
 -- where a reader is: whether all is well, the bytes passed, the parts put out, the largest depth and length of one
 pub record State (X : Type 0) : Type 0 where
@@ -58,16 +60,16 @@ passLength text s =
 unfoldable pub valueBetween : List ℕ → ℕ → ℕ → ℕ
 valueBetween text a e = value (take (e - a) (drop a text))
 
--- 3 is !, 4 ^, 5 ~; 0 for any other byte
+-- the kind of !, ^ and ~; 0 for any other byte
 unfoldable pub prefixKind : ℕ → ℕ
-prefixKind b = cond (eqb b 33) 3 (cond (eqb b 94) 4 (cond (eqb b 126) 5 0))
+prefixKind b = cond (eqb b 33) kinds.NOT (cond (eqb b 94) kinds.RISING (cond (eqb b 126) kinds.FALLING 0))
 
 module _ {X : Type 0} (E : Emission X) (text : List ℕ) where
   -- 0, 1 and names
   unfoldable pub leafAt : ℕ → State X → State X
   leafAt deep s =
-      cond (eqb (next text s) 48) (put (E .plain 0) deep 0 (stepped 1 s))
-      (cond (eqb (next text s) 49) (put (E .plain 1) deep 0 (stepped 1 s))
+      cond (eqb (next text s) 48) (put (E .plain kinds.DOWN) deep 0 (stepped 1 s))
+      (cond (eqb (next text s) 49) (put (E .plain kinds.UP) deep 0 (stepped 1 s))
       (cond (isLower (next text s))
       (cond (leb (run isNameByte (drop (s .at) text)) 8)
       (put (E .named (s .at) (run isNameByte (drop (s .at) text))) deep 0 (stepped (run isNameByte (drop (s .at) text)) s))
@@ -86,7 +88,7 @@ module _ {X : Type 0} (E : Emission X) (text : List ℕ) where
     pub sumsAt : ℕ → ℕ → State X → State X
     sumsAt zero deep s = bad s
     sumsAt (suc n) deep s =
-        cond (eqb (next text s) 43) (sumsAt n deep (put (E .plain 9) deep 0 (productAt n deep (stepped 1 s)))) s
+        cond (eqb (next text s) 43) (sumsAt n deep (put (E .plain kinds.OR) deep 0 (productAt n deep (stepped 1 s)))) s
 
     pub productAt : ℕ → ℕ → State X → State X
     productAt zero deep s = bad s
@@ -95,7 +97,7 @@ module _ {X : Type 0} (E : Emission X) (text : List ℕ) where
     pub productsAt : ℕ → ℕ → State X → State X
     productsAt zero deep s = bad s
     productsAt (suc n) deep s =
-        cond (eqb (next text s) 46) (productsAt n deep (put (E .plain 8) deep 0 (factorAt n deep (stepped 1 s)))) s
+        cond (eqb (next text s) 46) (productsAt n deep (put (E .plain kinds.AND) deep 0 (factorAt n deep (stepped 1 s)))) s
 
     pub factorAt : ℕ → ℕ → State X → State X
     factorAt zero deep s = bad s
@@ -105,13 +107,13 @@ module _ {X : Type 0} (E : Emission X) (text : List ℕ) where
         (cond (eqb (next text s) 40)
         (expect text 41 (sumAt n (deep + 1) (stepped 1 s)))
         (cond (eqb (next text s) 83)
-        (latchAt n 10 deep (expect text 82 (stepped 1 s)))
+        (latchAt n kinds.SR deep (expect text 82 (stepped 1 s)))
         (cond (eqb (next text s) 82)
-        (latchAt n 11 deep (expect text 83 (stepped 1 s)))
+        (latchAt n kinds.RS deep (expect text 83 (stepped 1 s)))
         (cond (eqb (next text s) 84)
         (cond (eqb (next text (expect text 79 (stepped 1 s))) 78)
-        (timerAt n 6 deep (stepped 1 (expect text 79 (stepped 1 s))))
-        (timerAt n 7 deep (expect text 70 (expect text 79 (stepped 1 s)))))
+        (timerAt n kinds.TON deep (stepped 1 (expect text 79 (stepped 1 s))))
+        (timerAt n kinds.TOF deep (expect text 70 (expect text 79 (stepped 1 s)))))
         (leafAt deep s)))))
 
     pub latchAt : ℕ → ℕ → ℕ → State X → State X

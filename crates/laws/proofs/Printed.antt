@@ -6,7 +6,8 @@ use mathlib.Core.Path.{_≡_, refl, _∙_}
 use mathlib.Core.Bool.{true}
 use mathlib.Core.List.{List, [], _∷_, _++_, append-nil}
 use lib.ListN.{length, getD}
-use Rattle.grammar.specs.Grammar.{Factor, Writes, isName, allOf, isLower}
+use Rattle.grammar.specs.Lengths.{allOf}
+use Rattle.grammar.specs.Grammar.{Factor, Writes, isName, isLower}
 use Rattle.laws.specs.Scheme.{Letter, LengthTerm, Scheme, Equation, Substitution, put}
 use Rattle.laws.specs.Laws.{table, equation, andCommutes}
 use Rattle.laws.specs.Printed.{texts, textOf, bytes, leftOf, rightOf, lengthSigns, letterSigns, begins, putAt, filledAfter, filled}

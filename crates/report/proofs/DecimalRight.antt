@@ -8,8 +8,8 @@ use mathlib.Core.List.{List, [], _∷_, _++_}
 use lib.Dec.{leb, eqb}
 use lib.ListN.{length}
 use borrow.Author.Tests.{ne-eqb, eq-eqb, le-leb, eqb-true, eqb-false}
-use Rattle.grammar.specs.Grammar.{isDigit, allOf, isLength, valueFrom, value}
 use Rattle.names.proofs.Truth.{and-left, and-right}
+use Rattle.grammar.specs.Lengths.{isDigit, allOf, isLength, valueFrom, value}
 use Rattle.report.specs.Line.{digit, leading, decimal}
 use Rattle.report.specs.Decimal.{DecimalRight}
 

@@ -8,7 +8,7 @@ use lib.ListN.{getD, drop}
 use borrow.Author.Tests.{eqb-false}
 use Rattle.signals.specs.declared.Verdict.{Verdict}
 use Rattle.signals.specs.declared.Verdict.the-variants.{Holds, FailsAt, FailsAfter, Refused}
-use Rattle.grammar.specs.Grammar.{valueFrom, value}
+use Rattle.grammar.specs.Lengths.{valueFrom, value}
 use Rattle.report.specs.Line.{decimal, line, lineOf, holdsText, failsAtText, failsAfterText, refusedText}
 use Rattle.report.specs.OneLine.{numberIn}
 use Rattle.report.proofs.DecimalRight.{from-more, value-decimal}

@@ -2,7 +2,7 @@
 use Prim.Native.Nat.{ℕ, _^_, _<_}
 use mathlib.Core.Path.{_≡_}
 use mathlib.Core.Bool.{true}
-use Rattle.grammar.specs.Grammar.{isLength, value}
+use Rattle.grammar.specs.Lengths.{isLength, value}
 use Rattle.report.specs.Line.{decimal}
 
 pub record DecimalRight : Type 0 where

@@ -1,6 +1,6 @@
 -- `formulas::mark::is_digit` meets its contract.
 use borrow.Author.Tests.{lt-leb, le-leb}
-use Rattle.grammar.specs.Grammar.{isDigit}
+use Rattle.grammar.specs.Lengths.{isDigit}
 use Rattle.formulas.proofs.mark.is_digit.Statement.{statement}
 use Rattle.formulas.proofs.mark.is_digit.Tie as tie
 

@@ -5,7 +5,7 @@ use native.Mathlib.Omega.{arith}
 use mathlib.Core.Path.{_≡_, sym, ap, _∙_}
 use mathlib.Core.Bool.{true, false}
 use lib.ListN.{take}
-use Rattle.grammar.specs.Grammar.{isDigit}
+use Rattle.grammar.specs.Lengths.{isDigit}
 use Rattle.formulas.specs.Marks.{markOf, nextMark, movedMark, lengthMark}
 use Rattle.formulas.proofs.mark.pass_length.Statement.{statement}
 use Rattle.formulas.proofs.mark.pass_length.Tie as tie

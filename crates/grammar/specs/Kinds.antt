@@ -1,0 +1,41 @@
+-- The kinds of parts: the low four bits of a code word.
+use Prim.Native.Nat.{ℕ}
+
+-- 0 and 1
+abbrev pub DOWN : ℕ
+DOWN = 0
+
+abbrev pub UP : ℕ
+UP = 1
+
+abbrev pub NAME : ℕ
+NAME = 2
+
+-- ! ^ ~
+abbrev pub NOT : ℕ
+NOT = 3
+
+abbrev pub RISING : ℕ
+RISING = 4
+
+abbrev pub FALLING : ℕ
+FALLING = 5
+
+abbrev pub TON : ℕ
+TON = 6
+
+abbrev pub TOF : ℕ
+TOF = 7
+
+-- . + SR RS
+abbrev pub AND : ℕ
+AND = 8
+
+abbrev pub OR : ℕ
+OR = 9
+
+abbrev pub SR : ℕ
+SR = 10
+
+abbrev pub RS : ℕ
+RS = 11
