@@ -19,13 +19,13 @@ use Rattle.calls.specs.Calls.{neededWork, readingFault, workFault, parts
 use Rattle.calls.specs.NormalLists.{ListFor}
 use Rattle.calls.specs.Tabled.{SheetBreaks, Breaks18, Meets5, Meets6, FineBefore, Breaks5, Breaks6, Breaks7, ReadingChecks, WorkingChecks, CallFaultIs, ClaimFaultIs}
 use Rattle.signals.specs.Checks.{Check, NoFault}
-use Rattle.calls.proofs.FirstFault.{first-some, zero-or-not}
+use Rattle.calls.proofs.FirstFault.{zero-or-not}
 use Rattle.signals.proofs.Checks.{check-by}
 use Rattle.calls.proofs.Settles.{exact-for, one-for}
 use Rattle.calls.proofs.PartFaults.{parts-fault}
 use Rattle.calls.proofs.ReadingFaults.{derived, text-fine, reading-fault}
 use Rattle.signals.specs.Answers.{firstOf}
-use Rattle.signals.proofs.FirstFault.{first-with-none, next-is}
+use Rattle.signals.proofs.FirstFault.{first-with-none, next-is, first-some}
 
 -- the part found first
 abbrev At5 : List ℕ → Tree → Type 0

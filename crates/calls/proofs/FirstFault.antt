@@ -6,8 +6,6 @@ use mathlib.Core.Bool.{Bool, true, false, cond}
 use mathlib.Core.Logic.{_⊎_, inl, inr}
 use lib.Dec.{eqb}
 use borrow.Author.Tests.{eqb-true, eqb-false}
-use Rattle.signals.specs.Answers.{firstOf}
-use Rattle.signals.proofs.FirstFault.{first-is}
 
 -- a test that gives a fault did not
 pub passed : (b : Bool) (n x : ℕ) → 0 < n → cond b n x ≡ 0 → (b ≡ false) × (x ≡ 0)
@@ -18,9 +16,6 @@ passed false n x l e = (refl, e)
 pub missed : (b : Bool) (n : ℕ) → 0 < n → cond b 0 n ≡ 0 → b ≡ true
 missed true n l e = refl
 missed false n l e = absurd (omega arith)
-
-pub first-some : (f g n : ℕ) → f ≡ n → 0 < n → firstOf f g ≡ n
-first-some f g n e l = first-is f g (λ z. omega arith) ∙ e
 
 -- none or some
 pub zero-or-not : (n : ℕ) → (n ≡ 0) ⊎ (¬ (n ≡ 0))

@@ -18,7 +18,8 @@ use Rattle.grammar.specs.Code.{code}
 use Rattle.grammar.specs.Grammar.{Sum, Product, Factor, isName}
 use Rattle.grammar.specs.Formula.{formulaTree, formulaFault}
 use Rattle.grammar.specs.Exactness.{LengthIn}
-use Rattle.grammar.proofs.Reading.{tree-of, one-tree, faults-exact}
+use Rattle.grammar.proofs.Reading.{tree-of, one-tree}
+use Rattle.grammar.proofs.Faults.{of-fine}
 use Rattle.grammar.specs.Parts.{parts}
 use Rattle.sheets.specs.Bytes.{Bytes, Words}
 use Rattle.names.specs.Names.{letter, allOf, nameByte, wellNamed}
@@ -65,15 +66,17 @@ name-fault [] e f = absurd (not-both {A = ⊥} e refl)
 name-fault (b ∷ bs) e f =
     let l = leb-true (length (b ∷ bs)) 8 (and-left (leb (length (b ∷ bs)) 8) (letter b && allOf nameByte bs) e) in
     let w = name-writes (b ∷ bs) f in
-    faults-exact (b ∷ bs) .4 .1 (
-      λ t. ⊎-elim (λ z. omega arith) (λ z. omega arith) t,
-      λ x. x (leaf (name (b ∷ bs))) 0 w,
-      λ x. subst NoLeaf (one-tree (b ∷ bs) (x .0) (leaf (name (b ∷ bs))) (x .1) 0 (x .3) w .0) (no-leaf (x .4)),
-      λ x.
+    of-fine
+    (b ∷ bs)
+    (record {
+      short = λ t. ⊎-elim (λ z. omega arith) (λ z. omega arith) t;
+      written = λ x. x (leaf (name (b ∷ bs))) 0 w;
+      near = λ x. subst NoLeaf (one-tree (b ∷ bs) (x .0) (leaf (name (b ∷ bs))) (x .1) 0 (x .3) w .0) (no-leaf (x .4));
+      few = λ x.
           let q = one-tree (b ∷ bs) (x .0) (leaf (name (b ∷ bs))) (x .1) 0 (x .2) w in
           let r : length (code (x .0)) ≡ 1 = ap (λ (y : Tree). length (code y)) (q .0) in
-          ⊎-elim (λ z. omega arith) (λ z. let k = q .1 in omega arith) (x .3),
-    )
+          ⊎-elim (λ z. omega arith) (λ z. let k = q .1 in omega arith) (x .3);
+    })
 
 -- the normal list of an accepted list's signal is that list
 name-exact : (sheet n : List ℕ) → listFault (listNamed n (signalsOn sheet)) ≡ 0

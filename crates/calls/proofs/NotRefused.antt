@@ -20,9 +20,9 @@ use Rattle.sheets.specs.Reading.{sheetFault}
 use Rattle.calls.specs.Calls.{neededWork, readingFault, workFault, workingFault, wordsOn, roomFault, callFault, callAnswer, claimFault, claimFails, claimVerdict, claimAnswer}
 use Rattle.calls.specs.Answered.{Answered, Enough}
 use Rattle.calls.specs.NotRefused.{NotRefused}
-use Rattle.calls.proofs.FirstFault.{passed, first-some}
+use Rattle.calls.proofs.FirstFault.{passed}
 use Rattle.signals.specs.Answers.{firstOf}
-use Rattle.signals.proofs.FirstFault.{both-none, first-with-none, next-is}
+use Rattle.signals.proofs.FirstFault.{both-none, first-with-none, next-is, first-some}
 
 -- a formula without a fault of the sheet, of the text or of a part
 pub record Clear (sheet formula : List ℕ) : Type 0 where

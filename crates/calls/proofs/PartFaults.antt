@@ -21,9 +21,8 @@ use Rattle.calls.specs.Calls.{partFault, partsFault}
 use Rattle.calls.specs.NormalLists.{ListFor}
 use Rattle.calls.specs.Tabled.{Meets5, Meets6}
 use Rattle.signals.specs.Checks.{Check, NoFault}
-use Rattle.calls.proofs.FirstFault.{first-some}
 use Rattle.calls.proofs.Settles.{exact-for, one-for}
-use Rattle.signals.proofs.FirstFault.{both-none, next-is}
+use Rattle.signals.proofs.FirstFault.{both-none, next-is, first-some}
 
 -- some word is dated after M
 abbrev pub Late : List ℕ → Type 0

@@ -11,7 +11,7 @@ use Rattle.signals.specs.Words.{dateOf}
 use Rattle.signals.specs.Checks.{Check, NoFault}
 use Rattle.grammar.specs.Tree.{Tree, Leaf, leaf, unary, binary, down, up, name}
 use Rattle.grammar.specs.Grammar.{Writes}
-use Rattle.grammar.specs.Exactness.{Ten, Eleven, Eight, Twelve}
+use Rattle.grammar.specs.Exactness.{FormulaChecks}
 use Rattle.grammar.specs.Parts.{parts, partAt}
 use Rattle.sheets.specs.Names.{among}
 use Rattle.sheets.specs.Reading.{sheetFault, signalsOn, names}
@@ -73,9 +73,7 @@ Breaks7 sheet formula room =
 
 -- formula 10 (empty or over 1,024 bytes), 11 (outside the grammar), 8 (length above M), 12 (over 32 parts, or depth over 16), 13
 abbrev pub ReadingChecks : List ℕ → List ℕ → (ℕ → Type 0) → ℕ → Type 0
-ReadingChecks sheet formula later =
-    Check 10 (Ten formula)
-    (Check 11 (Eleven formula) (Check 8 (Eight formula) (Check 12 (Twelve formula) (Check 13 (Breaks13 sheet formula) later))))
+ReadingChecks sheet formula later = FormulaChecks formula (Check 13 (Breaks13 sheet formula) later)
 
 -- 5 or 6 at the first part worked out that meets one
 abbrev pub WorkingChecks : List ℕ → List ℕ → (ℕ → Type 0) → ℕ → Type 0

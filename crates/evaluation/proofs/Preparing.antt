@@ -18,7 +18,8 @@ use Rattle.grammar.specs.Tree.{Tree, Leaf, Unary, Binary, leaf, unary, binary, 
 use Rattle.grammar.specs.Code.{Part, operand, one, two, code, longest, ticksOf}
 use Rattle.grammar.specs.Formula.{partOf, codeOf, codeAfter, formulaFault, formulaTree, longestOf, partsOf, depthOf, accepted, nameAt}
 use Rattle.grammar.proofs.Coding.{code-exact}
-use Rattle.grammar.proofs.Reading.{reader-exact, parts-exact, longest-of, faults-exact}
+use Rattle.grammar.proofs.Reading.{reader-exact, parts-exact, longest-of}
+use Rattle.grammar.proofs.Faults.{fine-of}
 use Rattle.grammar.proofs.Storing.{code-after-front}
 use Rattle.sheets.specs.Names.{same, among}
 use Rattle.names.specs.Names.{wellNamed}
@@ -97,7 +98,7 @@ module _ (text : List ℕ) (fine : formulaFault text ≡ 0) where
   pub code-is : map (partOf text) (codeOf text) ≡ code (formulaTree text)
   code-is =
       let d = derived text fine in
-      code-exact text (d .0) (d .1) (d .2) (faults-exact text .4 .0 fine .2) ∙ ap code (sym (tree-read .1 .0))
+      code-exact text (d .0) (d .1) (d .2) (fine-of text fine .near) ∙ ap code (sym (tree-read .1 .0))
 
   clear : (longestOf text ≤ M) × (length (partsOf text) ≤ 32)
   unfolding formulaFault

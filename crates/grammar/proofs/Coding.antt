@@ -17,11 +17,12 @@ use Rattle.grammar.specs.Kinds as kinds
 use Rattle.grammar.specs.Reader.{State, Emission, readText}
 use Rattle.grammar.specs.Formula.{Kind, plainKinds, partIn, plainPart, timedPart, nameAt, nameWord, timerWord, capped, spelled, coded}
 use Rattle.grammar.specs.Formula.{partOf, accepted, formulaTree, partsOf, codeOf}
-use Rattle.grammar.specs.Exactness.{CodeExact, AcceptedCode, Eleven, Twelve}
+use Rattle.grammar.specs.Exactness.{CodeExact, AcceptedCode, Breaks11, Breaks12}
 use Rattle.grammar.specs.Grammar.{Sum}
 use Rattle.grammar.proofs.Bytes.{never, and-left, and-right}
 use Rattle.grammar.proofs.Carried.{isIn, isPlain, isTimer, Carries, both-ways, text-carried}
-use Rattle.grammar.proofs.Reading.{parts-exact, longest-in, faults-exact, derived-of, tree-of, accepted-of}
+use Rattle.grammar.proofs.Faults.{fine-of}
+use Rattle.grammar.proofs.Reading.{parts-exact, longest-in, derived-of, tree-of, accepted-of}
 
 -- parts with every length above M taken as M + 1
 abbrev cut : List ℕ → Emission Part
@@ -164,7 +165,7 @@ pub as-many : (w : List ℕ) → length (codeOf w) ≡ length (partsOf w)
 unfolding codeOf partsOf
 as-many w = sym (length-map (codeOf w) (partOf w)) ∙ ap length (coded-run w .out) ∙ length-map (partsOf w) cutPart
 
-few-words : (w : List ℕ) (t : Tree) (d : ℕ) → Sum w t d → (Twelve w → ⊥) → length (codeOf w) ≤ 32
+few-words : (w : List ℕ) (t : Tree) (d : ℕ) → Sum w t d → (Breaks12 w → ⊥) → length (codeOf w) ≤ 32
 few-words w t d x h = go (decLt 32 (length (code t)))
   where
     go : Dec (32 < length (code t)) → length (codeOf w) ≤ 32
@@ -173,11 +174,11 @@ few-words w t d x h = go (decLt 32 (length (code t)))
 
 pub accepted-code : AcceptedCode
 accepted-code w e =
-    let none = faults-exact w .4 .0 e in
-    let g = derived-of w (go (accepted w) refl (none .1)) in
+    let none = fine-of w e in
+    let g = derived-of w (go (accepted w) refl (none .written)) in
     let t : formulaTree w ≡ g .0 = tree-of w (g .0) (g .1) (g .2) in
-    (code-exact w (g .0) (g .1) (g .2) (none .2) ∙ ap code (sym t), few-words w (g .0) (g .1) (g .2) (none .3))
+    (code-exact w (g .0) (g .1) (g .2) (none .near) ∙ ap code (sym t), few-words w (g .0) (g .1) (g .2) (none .few))
   where
-    go : (z : Bool) → accepted w ≡ z → (Eleven w → ⊥) → accepted w ≡ true
+    go : (z : Bool) → accepted w ≡ z → (Breaks11 w → ⊥) → accepted w ≡ true
     go true z h = z
     go false z h = absurd (h (λ t d x. never (sym z ∙ accepted-of w t d x)))

@@ -10,6 +10,7 @@ pub mod FoundBlocks
 pub mod Sound
 pub mod Working
 pub mod Reading
+pub mod Faults
 pub mod Places
 pub mod Segments
 pub mod Writing

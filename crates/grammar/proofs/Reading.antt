@@ -1,4 +1,4 @@
--- The reader accepts exactly the bytes that the grammar derives, with that tree and depth; each fault is given exactly when its sentence holds.
+-- The reader accepts exactly the bytes that the grammar derives, with that tree and depth.
 use Prim.Native.Nat.{ℕ, _+_, _*_, _≤_, _<_, max}
 use native.Mathlib.Omega.{arith}
 use mathlib.Core.Path.{_≡_, refl, sym, ap, _∙_, subst}
@@ -14,7 +14,7 @@ use Rattle.grammar.specs.Code.{Part, longest, treeOf, ticksOf}
 use Rattle.grammar.specs.Grammar.{Sum}
 use Rattle.grammar.specs.Reader.{State, start, readText, sumAt}
 use Rattle.grammar.specs.Formula.{spelled, accepted, formulaTree, depthOf, partsOf, longestOf, formulaFault}
-use Rattle.grammar.specs.Exactness.{ReaderExact, OneTree, PartsExact, LengthIn, of-ton, of-tof, under, first, second, FaultsExact}
+use Rattle.grammar.specs.Exactness.{ReaderExact, OneTree, PartsExact, LengthIn, of-ton, of-tof, under, first, second}
 use Rattle.grammar.proofs.Bytes.{never, and-left, and-right}
 use Rattle.grammar.proofs.Standing.{after}
 use Rattle.grammar.proofs.Complete.{whole, sum-reads, ended}
@@ -104,95 +104,5 @@ in-longest n t (under l) = let h = in-longest n _ l in omega arith
 in-longest n t (first l) = let h = in-longest n _ l in omega arith
 in-longest n t (second l) = let h = in-longest n _ l in omega arith
 
-abbrev picked : Bool → Bool → Bool → Bool → ℕ
-picked a b c d = cond a 10 (cond b 11 (cond c 8 (cond d 12 0)))
-
--- four tests in order, each of a sentence
-faults : {A B C D : Type 0} (a b c d : Bool) → (a ≡ true → A) → (a ≡ false → A → ⊥) → (b ≡ true → B) → (b ≡ false → B → ⊥) →
-    (b ≡ false → c ≡ true → C) → (c ≡ false → C → ⊥) → (b ≡ false → d ≡ true → D) → (d ≡ false → D → ⊥) →
-    ((picked a b c d ≡ 10) ↔ A)
-    × ((picked a b c d ≡ 11) ↔ ((A → ⊥) × B))
-    × ((picked a b c d ≡ 8) ↔ ((A → ⊥) × (B → ⊥) × C))
-    × ((picked a b c d ≡ 12) ↔ ((A → ⊥) × (B → ⊥) × (C → ⊥) × D))
-    × ((picked a b c d ≡ 0) ↔ ((A → ⊥) × (B → ⊥) × (C → ⊥) × (D → ⊥)))
-faults true b c d a1 a0 b1 b0 c1 c0 d1 d0 = (
-  (λ e. a1 refl, λ x. refl),
-  (λ e. absurd (omega arith), λ x. absurd (x .0 (a1 refl))),
-  (λ e. absurd (omega arith), λ x. absurd (x .0 (a1 refl))),
-  (λ e. absurd (omega arith), λ x. absurd (x .0 (a1 refl))),
-  (λ e. absurd (omega arith), λ x. absurd (x .0 (a1 refl))),
-)
-faults false true c d a1 a0 b1 b0 c1 c0 d1 d0 = (
-  (λ e. absurd (omega arith), λ x. absurd (a0 refl x)),
-  (λ e. (a0 refl, b1 refl), λ x. refl),
-  (λ e. absurd (omega arith), λ x. absurd (x .1 (b1 refl))),
-  (λ e. absurd (omega arith), λ x. absurd (x .1 (b1 refl))),
-  (λ e. absurd (omega arith), λ x. absurd (x .1 (b1 refl))),
-)
-faults false false true d a1 a0 b1 b0 c1 c0 d1 d0 = (
-  (λ e. absurd (omega arith), λ x. absurd (a0 refl x)),
-  (λ e. absurd (omega arith), λ x. absurd (b0 refl (x .1))),
-  (λ e. (a0 refl, b0 refl, c1 refl refl), λ x. refl),
-  (λ e. absurd (omega arith), λ x. absurd (x .2 (c1 refl refl))),
-  (λ e. absurd (omega arith), λ x. absurd (x .2 (c1 refl refl))),
-)
-faults false false false true a1 a0 b1 b0 c1 c0 d1 d0 = (
-  (λ e. absurd (omega arith), λ x. absurd (a0 refl x)),
-  (λ e. absurd (omega arith), λ x. absurd (b0 refl (x .1))),
-  (λ e. absurd (omega arith), λ x. absurd (c0 refl (x .2))),
-  (λ e. (a0 refl, b0 refl, c0 refl, d1 refl refl), λ x. refl),
-  (λ e. absurd (omega arith), λ x. absurd (x .3 (d1 refl refl))),
-)
-faults false false false false a1 a0 b1 b0 c1 c0 d1 d0 = (
-  (λ e. absurd (omega arith), λ x. absurd (a0 refl x)),
-  (λ e. absurd (omega arith), λ x. absurd (b0 refl (x .1))),
-  (λ e. absurd (omega arith), λ x. absurd (c0 refl (x .2))),
-  (λ e. absurd (omega arith), λ x. absurd (d0 refl (x .3))),
-  (λ e. (a0 refl, b0 refl, c0 refl, d0 refl), λ x. refl),
-)
-
-or-cases : (a b : Bool) → a || b ≡ true → (a ≡ true) ⊎ (b ≡ true)
-or-cases true b e = inl refl
-or-cases false b e = inr e
-
-or-left : (a b : Bool) → a || b ≡ false → a ≡ false
-or-left true b e = e
-or-left false b e = refl
-
-or-right : (a b : Bool) → a || b ≡ false → b ≡ false
-or-right true b e = never (sym e)
-or-right false b e = e
-
 pub refused-of : (w : List ℕ) → not (accepted w) ≡ false → (t : Tree) × (d : ℕ) × Sum w t d
 refused-of w e = derived-of w (not-false (accepted w) e)
-
-pub faults-exact : FaultsExact
-unfolding formulaFault
-faults-exact w =
-    faults (eqb (length w) 0 || ltb 1024 (length w)) (not (accepted w)) (ltb M (longestOf w)) (ltb 32 (length (partsOf w)) || ltb 16 (depthOf w))
-    (λ e. ⊎-elim (λ h. inl (eqb-true (length w) 0 h)) (λ h. inr (ltb-true 1024 (length w) h)) (or-cases (eqb (length w) 0) (ltb 1024 (length w)) e))
-    (λ e. ⊎-elim (eqb-false (length w) 0 (or-left (eqb (length w) 0) (ltb 1024 (length w)) e))
-    (λ h. let k = ltb-false 1024 (length w) (or-right (eqb (length w) 0) (ltb 1024 (length w)) e) in omega arith))
-    (λ e t d x. never (sym (not-true (accepted w) e) ∙ accepted-of w t d x))
-    (λ e x. let g = refused-of w e in x (g .0) (g .1) (g .2))
-    (λ b e.
-    let g = refused-of w b in
-    let l = longest-in M (g .0) (subst (λ (n : ℕ). M < n) (longest-of w (g .0) (g .1) (g .2)) (ltb-true M (longestOf w) e)) in
-    (g .0, g .1, l .0, g .2, l .1, l .2))
-    (λ e x.
-    let k = ltb-false M (longestOf w) e in
-    let q = longest-of w (x .0) (x .1) (x .3) in
-    let i = in-longest (x .2) (x .0) (x .4) in
-    let j = x .5 in
-    omega arith)
-    (λ b e.
-    let g = refused-of w b in
-    let p = ap length (parts-exact w (g .0) (g .1) (g .2)) in
-    let q = depth-of w (g .0) (g .1) (g .2) in
-    (g .0, g .1, g .2, ⊎-elim (λ h. inl (let k = ltb-true 32 (length (partsOf w)) h in omega arith)) (λ h. inr (let k = ltb-true 16 (depthOf w) h in omega arith)) (or-cases (ltb 32 (length (partsOf w))) (ltb 16 (depthOf w)) e)))
-    (λ e x.
-    let p = ap length (parts-exact w (x .0) (x .1) (x .2)) in
-    let q = depth-of w (x .0) (x .1) (x .2) in
-    let k = ltb-false 32 (length (partsOf w)) (or-left (ltb 32 (length (partsOf w))) (ltb 16 (depthOf w)) e) in
-    let m = ltb-false 16 (depthOf w) (or-right (ltb 32 (length (partsOf w))) (ltb 16 (depthOf w)) e) in
-    ⊎-elim (λ h. omega arith) (λ h. omega arith) (x .3))

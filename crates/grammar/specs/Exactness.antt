@@ -6,6 +6,7 @@ use mathlib.Core.List.{List, map}
 use mathlib.Core.Logic.{_⊎_, _↔_}
 use lib.ListN.{length}
 use Rattle.signals.specs.Moment.{M}
+use Rattle.signals.specs.Checks.{Check, NoFault, Exactly}
 use Rattle.grammar.specs.Tree.{Tree, Leaf, Unary, Binary, leaf, unary, binary, name, down, up, ton, tof}
 use Rattle.grammar.specs.Code.{code}
 use Rattle.grammar.specs.Grammar.{Sum, isName}
@@ -47,34 +48,32 @@ pub data LengthIn (n : ℕ) : Tree → Type 0 where
   second : {o : Binary} {t u : Tree} → LengthIn n u → LengthIn n (binary o t u)
 
 -- 10: formula empty or over 1,024 bytes
-abbrev pub Ten : List ℕ → Type 0
-Ten w = (length w ≡ 0) ⊎ (1024 < length w)
+abbrev pub Breaks10 : List ℕ → Type 0
+Breaks10 w = (length w ≡ 0) ⊎ (1024 < length w)
 
 -- 11: outside the grammar
-abbrev pub Eleven : List ℕ → Type 0
-Eleven w = (t : Tree) (d : ℕ) → Sum w t d → ⊥
+abbrev pub Breaks11 : List ℕ → Type 0
+Breaks11 w = (t : Tree) (d : ℕ) → Sum w t d → ⊥
 
 -- 8: length above M
-abbrev pub Eight : List ℕ → Type 0
-Eight w = (t : Tree) × (d : ℕ) × (n : ℕ) × Sum w t d × LengthIn n t × (M < n)
+abbrev pub Breaks8 : List ℕ → Type 0
+Breaks8 w = (t : Tree) × (d : ℕ) × (n : ℕ) × Sum w t d × LengthIn n t × (M < n)
 
 -- 12: over 32 parts, or depth over 16
-abbrev pub Twelve : List ℕ → Type 0
-Twelve w = (t : Tree) × (d : ℕ) × Sum w t d × ((32 < length (code t)) ⊎ (16 < d))
+abbrev pub Breaks12 : List ℕ → Type 0
+Breaks12 w = (t : Tree) × (d : ℕ) × Sum w t d × ((32 < length (code t)) ⊎ (16 < d))
 
--- Each fault is given exactly when its sentence holds and none before it does, in the order 10, 11, 8, 12; and none exactly when none holds.
+-- a formula's checks in their order, 10, 11, 8, 12, and what is checked after them
+abbrev pub FormulaChecks : List ℕ → (ℕ → Type 0) → ℕ → Type 0
+FormulaChecks w later = Check 10 (Breaks10 w) (Check 11 (Breaks11 w) (Check 8 (Breaks8 w) (Check 12 (Breaks12 w) later)))
+
+-- Each fault is given exactly when its sentence holds and none before it does; and none exactly when none holds.
 abbrev pub FaultsExact : Type 0
-FaultsExact =
-    (w : List ℕ) →
-    ((formulaFault w ≡ 10) ↔ Ten w)
-    × ((formulaFault w ≡ 11) ↔ ((Ten w → ⊥) × Eleven w))
-    × ((formulaFault w ≡ 8) ↔ ((Ten w → ⊥) × (Eleven w → ⊥) × Eight w))
-    × ((formulaFault w ≡ 12) ↔ ((Ten w → ⊥) × (Eleven w → ⊥) × (Eight w → ⊥) × Twelve w))
-    × ((formulaFault w ≡ 0) ↔ ((Ten w → ⊥) × (Eleven w → ⊥) × (Eight w → ⊥) × (Twelve w → ⊥)))
+FaultsExact = (w : List ℕ) → Exactly (FormulaChecks w NoFault) (formulaFault w)
 
 -- The code words of an accepted formula without a length above M stand for its tree's parts in working-out order.
 abbrev pub CodeExact : Type 0
-CodeExact = (w : List ℕ) (t : Tree) (d : ℕ) → Sum w t d → (Eight w → ⊥) → map (partOf w) (codeOf w) ≡ code t
+CodeExact = (w : List ℕ) (t : Tree) (d : ℕ) → Sum w t d → (Breaks8 w → ⊥) → map (partOf w) (codeOf w) ≡ code t
 
 -- The code words of a formula without a fault, at most 32, stand for its tree's parts in working-out order.
 abbrev pub AcceptedCode : Type 0

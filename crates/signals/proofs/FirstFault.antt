@@ -1,6 +1,7 @@
 -- The first of two faults, 0 being none.
-use Prim.Native.Nat.{ℕ}
-use mathlib.Core.Path.{_≡_, refl, sym}
+use Prim.Native.Nat.{ℕ, _<_}
+use native.Mathlib.Omega.{arith}
+use mathlib.Core.Path.{_≡_, refl, sym, _∙_}
 use mathlib.Core.Bool.{Bool, true, false, cond}
 use lib.Dec.{eqb}
 use borrow.Author.Tests.{eqb-true, eqb-false, eq-eqb, ne-eqb}
@@ -9,6 +10,9 @@ use Rattle.signals.specs.Answers.{firstOf}
 pub first-is : (f g : ℕ) → (f ≡ 0 → ⊥) → firstOf f g ≡ f
 unfolding firstOf
 first-is f g h = rw (ne-eqb f 0 h)
+
+pub first-some : (f g n : ℕ) → f ≡ n → 0 < n → firstOf f g ≡ n
+first-some f g n e l = first-is f g (λ z. omega arith) ∙ e
 
 pub next-is : (f g : ℕ) → f ≡ 0 → firstOf f g ≡ g
 unfolding firstOf

@@ -14,10 +14,10 @@ pub mod AnyDate
 pub mod AnswersSay
 pub mod Starred
 pub mod Settling
+pub mod FirstFault
 pub mod Checks
 pub mod WordFaults
 pub mod HeadFaults
 pub mod ListFaults
 pub mod TidyFaults
 pub mod Tidying
-pub mod FirstFault

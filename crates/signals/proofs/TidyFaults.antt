@@ -46,7 +46,6 @@ all-rise : (h : ℕ) (ws : List ℕ) → ((i : ℕ) → ¬ Low 0 ws i) → (i : 
 all-rise h ws s zero b = omega (arith, b .0)
 all-rise h ws s (suc i) b = s i (low-of h ws i b)
 
-
 date-checks : (h : ℕ) (ws : List ℕ) (n : ℕ) → Says n 0 ws → Check 3 ((i : ℕ) × Breaks3 (h ∷ ws) i) NoFault n
 date-checks h ws zero s = inr ((λ b. all-rise h ws s (b .0) (b .1)), refl)
 date-checks h ws (suc zero) s = absurd s
