@@ -19,3 +19,5 @@ pub mod ListFaults
 pub mod TidyFaults
 pub mod Tidying
 pub mod FirstFault
+pub mod Unchanged
+pub mod Giving

@@ -17,3 +17,4 @@ pub mod Starred
 pub mod Settling
 pub mod ListFaults
 pub mod Tidying
+pub mod Giving
