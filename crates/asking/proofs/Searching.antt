@@ -28,7 +28,8 @@ pub record Seeking (l : List ℕ) (k p : ℕ) : Type 0 where
 pub seek-start : (l : List ℕ) (k : ℕ) → listFault l ≡ 0 → Seeking l k 1
 seek-start l k z = record { last = 0; below = omega arith; on = accepted-start l z; counted = count-start l k z }
 
-pub seek-turn : (l : List ℕ) (k p : ℕ) → Seeking l k p → nextDate l p < k → nextDate l p < NEVER → Seeking l k (passedDate l p (nextDate l p))
+pub seek-turn : (l : List ℕ) (k p : ℕ) → Seeking l k p → nextDate l p < k → nextDate l p < NEVER
+    → Seeking l k (passedDate l p (nextDate l p))
 seek-turn l k p s lt le =
     let h : p < length l = next-left l p le in
     let e : nextDate l p ≡ dateOf (getD l p 0) = next-in l p h in
@@ -75,7 +76,8 @@ pub record Turned (l : List ℕ) (k p q : ℕ) : Type 0 where
   pub one : q ≡ p + 1
   pub on : Seeking l k q
 
-pub turn : (l : List ℕ) (k p next : ℕ) (r : Step) → Seeking l k p → next ≡ nextDate l p → next < k → k ≤ NEVER → r ≡ stepPast l p next → Turned l k p (r .passed)
+pub turn : (l : List ℕ) (k p next : ℕ) (r : Step) → Seeking l k p → next ≡ nextDate l p → next < k → k ≤ NEVER → r ≡ stepPast l p next
+    → Turned l k p (r .passed)
 turn l k p next r s e lt fits q =
     let h : p < length l = next-left l p (omega arith) in
     let on : r .passed ≡ passedDate l p (nextDate l p) = rw (q, e) in

@@ -66,10 +66,12 @@ refuting-shown : (f g : Signal) (t : ℕ) → shown refuting true f g t ≡ refu
 unfolding shown refuted
 refuting-shown f g t = refuting-cell (f t) (g t)
 
-pub verdict-found : (f g : Signal) (n : ℕ) → SettledFrom f n → SettledFrom g n → (r : Found) → FirstFrom (shown refuting true f g) 0 r → verdictIn r ≡ verdictOf f g n
+pub verdict-found : (f g : Signal) (n : ℕ) → SettledFrom f n → SettledFrom g n → (r : Found) → FirstFrom (shown refuting true f g) 0 r
+    → verdictIn r ≡ verdictOf f g n
 verdict-found f g n sf sg (In t) h =
     let up : Up (refuted f g t) = sym (refuting-shown f g t) ∙ h .2 in
-    let none : (u : ℕ) → u < t → Refutes f g u → ⊥ = λ u l w. not-both (refuted-of f g u w) (sym (refuting-shown f g u) ∙ h .3 u (omega arith) l) in
+    let none : (u : ℕ) → u < t → Refutes f g u → ⊥ =
+    λ u l w. not-both (refuted-of f g u w) (sym (refuting-shown f g u) ∙ h .3 u (omega arith) l) in
     sym (verdict-judged f g n sf sg .fails t .1 (refuted-up f g t up, none))
 verdict-found f g n sf sg Nowhere h =
     sym (verdict-judged f g n sf sg .holds .1 (λ t w. not-both (refuted-of f g t w) (sym (refuting-shown f g t) ∙ h t (omega arith))))
@@ -79,7 +81,8 @@ module _ (a b : List ℕ) (fault : ℕ) (e : fault ≡ pairFault a b) where
   unfolding impliesOf verdictFor
   implies-refused n = rw (← e, ne-eqb fault 0 n)
 
-  pub implies-told : fault ≡ 0 → (r : Found) → FirstFrom (shown refuting true (signalOf a) (signalOf b)) 0 r → (v : Verdict) → v ≡ verdictIn r → v ≡ impliesOf a b
+  pub implies-told : fault ≡ 0 → (r : Found) → FirstFrom (shown refuting true (signalOf a) (signalOf b)) 0 r → (v : Verdict)
+      → v ≡ verdictIn r → v ≡ impliesOf a b
   unfolding impliesOf verdictFor
   implies-told z r h v q =
       let ok = both-accepted a b fault e z in
@@ -110,7 +113,8 @@ up-not : (b : Bool) → not b ≡ false → Up b
 up-not true h = refl
 up-not false h = sym h
 
-pub equal-found : (f g : Signal) (n : ℕ) → SettledFrom f n → SettledFrom g n → (t : ℕ) → FirstFrom (shown differing true f g) 0 (In t) → every (agreeing f g) (gap n) ≡ false
+pub equal-found : (f g : Signal) (n : ℕ) → SettledFrom f n → SettledFrom g n → (t : ℕ) → FirstFrom (shown differing true f g) 0 (In t)
+    → every (agreeing f g) (gap n) ≡ false
 equal-found f g n sf sg t h = not-every f g n t sf sg (down-not (agreeing f g t) (sym (differing-shown f g t) ∙ h .2))
 
 pub equal-none : (f g : Signal) (n : ℕ) → FirstFrom (shown differing true f g) 0 Nowhere → every (agreeing f g) (gap n) ≡ true
@@ -126,8 +130,12 @@ module _ (a b : List ℕ) (fault : ℕ) (e : fault ≡ pairFault a b) where
     unfolding equalOf toldOf
     equal-no t q =
         let ok = both-accepted a b fault e z in
-        rw
-        (← e, eq-eqb fault 0 z, equal-found (signalOf a) (signalOf b) (laterLast a b) (settled-a a b (ok .0) (ok .1)) (settled-b a b (ok .0) (ok .1)) t (rw q at h))
+        rw (
+          ← e,
+          eq-eqb fault 0 z,
+          equal-found (signalOf a) (signalOf b) (laterLast a b) (settled-a a b (ok .0) (ok .1))
+              (settled-b a b (ok .0) (ok .1)) t (rw q at h),
+        )
 
     pub equal-yes : r ≡ Nowhere → told.Yes ≡ equalOf a b
     unfolding equalOf toldOf

@@ -94,7 +94,8 @@ abbrev pub Outcome : Signal → ℕ → ℕ → Found → Type 0
 Outcome p from end r = ((r ≡ Nowhere) × Clear p from end) ⊎ ((t : ℕ) × (r ≡ In t) × FirstFrom p from (In t))
 
 -- a stretch of moments that all have p or all do not, none before it having p
-pub stretch : (p : Signal) (has : Bool) (start end from : ℕ) (r : Found) → r ≡ inStretch has start end from → Clear p from start → end ≤ gap NEVER
+pub stretch : (p : Signal) (has : Bool) (start end from : ℕ) (r : Found) → r ≡ inStretch has start end from → Clear p from start
+    → end ≤ gap NEVER
     → ((u : ℕ) → start ≤ u → u < end → p u ≡ has) → Outcome p from end r
 unfolding inStretch
 stretch p true start end from r e clear near all = go (ltb (max start from) end) refl e
@@ -147,45 +148,48 @@ module _ (table : Table) (want : Bool) (a b : List ℕ) (from : ℕ) where
   unfolding shown
   shown-of t p q e f = rw (e, f)
 
-  module _ (i j here d : ℕ) (x y : Step) (w : Watching i j here) (v : Event a b i j d) (ex : x ≡ stepPast a i d) (ey : y ≡ stepPast b j d) where
-    pub later : w .date < d
-    later =
-        ⊎-elim
-        (λ h. omega (arith, next-later (signalOf a) a i (w .date) (w .left) (h .0), h .1))
-        (λ h. omega (arith, next-later (signalOf b) b j (w .date) (w .right) (h .0), h .1))
-        (v .hit)
+  module _ (i j here d : ℕ) (x y : Step) (w : Watching i j here) (v : Event a b i j d) (ex : x ≡ stepPast a i d) (ey : y ≡ stepPast b j d)
+    where
+      pub later : w .date < d
+      later =
+          ⊎-elim
+          (λ h. omega (arith, next-later (signalOf a) a i (w .date) (w .left) (h .0), h .1))
+          (λ h. omega (arith, next-later (signalOf b) b j (w .date) (w .right) (h .0), h .1))
+          (v .hit)
 
-    pass-a : Passed (signalOf a) a i (w .date) d
-    pass-a = at-pass (signalOf a) a i (w .date) d (w .left) later (v .left)
+      pass-a : Passed (signalOf a) a i (w .date) d
+      pass-a = at-pass (signalOf a) a i (w .date) d (w .left) later (v .left)
 
-    pass-b : Passed (signalOf b) b j (w .date) d
-    pass-b = at-pass (signalOf b) b j (w .date) d (w .right) later (v .right)
+      pass-b : Passed (signalOf b) b j (w .date) d
+      pass-b = at-pass (signalOf b) b j (w .date) d (w .right) later (v .right)
 
-    pub before-date : (u : ℕ) → here ≤ u → u < instant d → P u ≡ shows table want (x .before) (y .before)
-    before-date u l h =
-        rw (ex, ey)
-        (shown-of u (heldValue a i) (heldValue b j) (pass-a .held .still u (omega (arith, w .here-is)) h) (pass-b .held .still u (omega (arith, w .here-is)) h))
+      pub before-date : (u : ℕ) → here ≤ u → u < instant d → P u ≡ shows table want (x .before) (y .before)
+      before-date u l h =
+          rw (ex, ey)
+          (shown-of u (heldValue a i) (heldValue b j) (pass-a .held .still u (omega (arith, w .here-is)) h)
+          (pass-b .held .still u (omega (arith, w .here-is)) h))
 
-    pub at-date : (u : ℕ) → instant d ≤ u → u < gap d → P u ≡ shows table want (x .at) (y .at)
-    at-date u l h =
-        let e : u ≡ instant d = omega arith in
-        rw (ex, ey, e) (shown-of (instant d) (atDate a i d) (atDate b j d) (pass-a .held .at) (pass-b .held .at))
+      pub at-date : (u : ℕ) → instant d ≤ u → u < gap d → P u ≡ shows table want (x .at) (y .at)
+      at-date u l h =
+          let e : u ≡ instant d = omega arith in
+          rw (ex, ey, e) (shown-of (instant d) (atDate a i d) (atDate b j d) (pass-a .held .at) (pass-b .held .at))
 
-    pub watch-on : Clear P from (gap d) → Watching (x .passed) (y .passed) (gap d)
-    watch-on clear =
-        rw (ex, ey)
-        (record { date = d; here-is = refl; near = v .dated; left = pass-a .on; right = pass-b .on; clear = clear })
+      pub watch-on : Clear P from (gap d) → Watching (x .passed) (y .passed) (gap d)
+      watch-on clear =
+          rw (ex, ey)
+          (record { date = d; here-is = refl; near = v .dated; left = pass-a .on; right = pass-b .on; clear = clear })
 
-    pub passed-more : i + j < x .passed + y .passed
-    passed-more =
-        rw (ex, ey)
-        (⊎-elim
-        (λ h. omega (arith, passed-hit a i d (h .0) (h .1), passed-le b j d))
-        (λ h. omega (arith, passed-hit b j d (h .0) (h .1), passed-le a i d))
-        (v .hit))
+      pub passed-more : i + j < x .passed + y .passed
+      passed-more =
+          rw (ex, ey)
+          (⊎-elim
+          (λ h. omega (arith, passed-hit a i d (h .0) (h .1), passed-le b j d))
+          (λ h. omega (arith, passed-hit b j d (h .0) (h .1), passed-le a i d))
+          (v .hit))
 
   -- no word is left: the values held stand for good
-  pub watch-end : (i j here : ℕ) → Watching i j here → length a + length b ≤ i + j → (u : ℕ) → here ≤ u → P u ≡ shows table want (heldValue a i) (heldValue b j)
+  pub watch-end : (i j here : ℕ) → Watching i j here → length a + length b ≤ i + j → (u : ℕ) → here ≤ u
+      → P u ≡ shows table want (heldValue a i) (heldValue b j)
   watch-end i j here w le u l =
       shown-of
       u
@@ -194,14 +198,16 @@ module _ (table : Table) (want : Bool) (a b : List ℕ) (from : ℕ) where
       (at-end (signalOf a) a i (w .date) (w .left) (omega (arith, w .right .within)) u (omega (arith, w .here-is)))
       (at-end (signalOf b) b j (w .date) (w .right) (omega (arith, w .left .within)) u (omega (arith, w .here-is)))
 
-  pub end-none : (i j here : ℕ) → Watching i j here → length a + length b ≤ i + j → shows table want (heldValue a i) (heldValue b j) ≡ false → FirstFrom P from Nowhere
+  pub end-none : (i j here : ℕ) → Watching i j here → length a + length b ≤ i + j → shows table want (heldValue a i) (heldValue b j) ≡ false
+      → FirstFrom P from Nowhere
   end-none i j here w le e u l = go (ltb u here) refl
     where
       go : (t : Bool) → ltb u here ≡ t → Down (P u)
       go true q = w .clear u l (ltb-true u here q)
       go false q = watch-end i j here w le u (ltb-false u here q) ∙ e
 
-  pub end-in : (i j here t : ℕ) → Watching i j here → length a + length b ≤ i + j → shows table want (heldValue a i) (heldValue b j) ≡ true → t ≡ max here from → FirstFrom P from (In t)
+  pub end-in : (i j here t : ℕ) → Watching i j here → length a + length b ≤ i + j → shows table want (heldValue a i) (heldValue b j) ≡ true
+      → t ≡ max here from → FirstFrom P from (In t)
   end-in i j here t w le e q =
       (omega arith, omega (arith, w .here-is, w .near), watch-end i j here w le t (omega arith) ∙ e, λ u l h. w .clear u l (omega arith))
 
@@ -239,7 +245,8 @@ module _ (table : Table) (want : Bool) (a b : List ℕ) (from : ℕ) where
           (λ u l h. before-date i j here d x y (n .on) (n .event-is) (n .left-is) (n .right-is) u l h ∙ sym e)
 
     -- the instant of the date
-    module _ (clear : Clear P from (instant d)) (s : Bool) (r : Found) (e : s ≡ shows table want (x .at) (y .at)) (q : r ≡ inStretch s (2 * d - 1) (2 * d) from) where
+    module _ (clear : Clear P from (instant d)) (s : Bool) (r : Found) (e : s ≡ shows table want (x .at) (y .at))
+        (q : r ≡ inStretch s (2 * d - 1) (2 * d) from) where
       pub at-outcome : Outcome P from (gap d) r
       at-outcome =
           stretch

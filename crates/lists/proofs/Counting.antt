@@ -54,7 +54,8 @@ count-start [] k z = absurd (omega arith)
 count-start (h ∷ ws) k z = omega arith
 
 -- one more word passed
-pub count-passed : (l : List ℕ) (k p n : ℕ) → p < length l → dateOf (getD l p 0) ≤ k → n ≡ p + countBy k (drop p l) → n ≡ (p + 1) + countBy k (drop (p + 1) l)
+pub count-passed : (l : List ℕ) (k p n : ℕ) → p < length l → dateOf (getD l p 0) ≤ k → n ≡ p + countBy k (drop p l)
+    → n ≡ (p + 1) + countBy k (drop (p + 1) l)
 count-passed l k p n h le e =
     let c : countBy k (drop p l) ≡ suc (countBy k (drop (p + 1) l)) =
     rw (words-left l p h) (count-one k (getD l p 0) (drop (p + 1) l) le) in

@@ -17,7 +17,8 @@ module _ (l : List ℕ) (passed last : ℕ) (before : Bool) (h : passed < length
   unfolding wordsFault
   fault-3 e = rw (drop-cons l passed 0 h, le-leb _ _ e)
 
-  pub fault-4 : last < dateOf (getD l passed 0) → changesNothing before (getD l passed 0) ≡ true → wordsFault last before (drop passed l) ≡ 4
+  pub fault-4 : last < dateOf (getD l passed 0) → changesNothing before (getD l passed 0) ≡ true
+      → wordsFault last before (drop passed l) ≡ 4
   unfolding wordsFault
   fault-4 d e = rw (drop-cons l passed 0 h, lt-leb _ _ d, e)
 
@@ -57,7 +58,8 @@ head-some [] z = absurd (omega arith)
 head-some (w ∷ ws) z = omega arith
 
 -- the tests of the head before those of the words after it
-pub head-first : (a b : Bool) (r : ℕ) → (_≡_ {A = ℕ} (cond a 1 (cond b 2 0)) 0 → ⊥) → _≡_ {A = ℕ} (cond a 1 (cond b 2 0)) (cond a 1 (cond b 2 r))
+pub head-first : (a b : Bool) (r : ℕ) → (_≡_ {A = ℕ} (cond a 1 (cond b 2 0)) 0 → ⊥)
+    → _≡_ {A = ℕ} (cond a 1 (cond b 2 0)) (cond a 1 (cond b 2 r))
 head-first true b r n = refl
 head-first false true r n = refl
 head-first false false r n = absurd (n refl)

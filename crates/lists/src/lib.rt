@@ -6,6 +6,7 @@ ghost use Rattle.signals.specs.Words.{headValue, wordsFault, listFault, pairFau
 ghost use Rattle.signals.specs.Passing.{heldValue};
 ghost use Rattle.lists.specs.Reading.{nextDate, stepPast, headFault};
 use signals::Date;
+use signals::WORDS;
 use signals::changes_nothing;
 
 // The date where no word is left: above every sum of a date and a length.
@@ -143,7 +144,7 @@ pub fn head_fault(list: &[u32]) -> u32
     if list.len() == 0 {
         return 1;
     }
-    if 256 < list.len() {
+    if WORDS < list.len() {
         return 1;
     }
     if 1 < list[0] {

@@ -7,7 +7,8 @@ use mathlib.Core.List.{List, [], _∷_}
 use borrow.Author.Tests.{lt-ltb}
 use Rattle.signals.specs.Words.{headValue, wordsFault, listFault}
 use Rattle.signals.specs.ListFaults.{Breaks1, Breaks2, Breaks3, Breaks4, SoundBefore, AllSound, ListFaultsExact}
-use Rattle.signals.proofs.WordFaults.{Says, says-words, gives-0, gives-3, gives-4, low-of, of-low, idle-of, of-idle, fine-of, of-fine}
+use Rattle.signals.proofs.WordFaults.{Says, says-words, gives-0, gives-3, gives-4, low-of, of-low, idle-of, of-idle, fine-of}
+use Rattle.signals.proofs.WordFaults.{of-fine}
 use Rattle.signals.proofs.HeadFaults.{not-long, long-test, headFault, past-head, Head, long, high, past, head-ways}
 
 -- what the fault of a list says of it

@@ -48,7 +48,8 @@ pub fine-tail : (k : ℕ) (v : Bool) (w : ℕ) (ws : List ℕ) (i : ℕ) → Fin
 fine-tail k v w ws i f = (λ h. f .0 (omega (arith, h .0), h .1), λ h. f .1 (omega (arith, h .0), h .1, h .2))
 
 -- all words up to i are fine when the first is and the following up to i are
-pub fine-all : (k : ℕ) (v : Bool) (w : ℕ) (ws : List ℕ) → Fine k v (w ∷ ws) 0 → (i : ℕ) → ((j : ℕ) → j < i → Fine (dateOf w) (valueAfter w) ws j)
+pub fine-all : (k : ℕ) (v : Bool) (w : ℕ) (ws : List ℕ) → Fine k v (w ∷ ws) 0 → (i : ℕ)
+    → ((j : ℕ) → j < i → Fine (dateOf w) (valueAfter w) ws j)
     → (j : ℕ) → j < suc i → Fine k v (w ∷ ws) j
 fine-all k v w ws f i h zero l = f
 fine-all k v w ws f i h (suc j) l = fine-cons k v w ws j (h j (omega arith))
@@ -96,7 +97,8 @@ unfolding wordsFault changesNothing
 says-words k v [] = λ i. (λ h. omega (arith, h .0), λ h. omega (arith, h .0))
 says-words k v (w ∷ ws) = go (leb (dateOf w) k) (changesNothing v w) refl refl (says-words (dateOf w) (valueAfter w) ws)
   where
-    go : (t u : Bool) → leb (dateOf w) k ≡ t → changesNothing v w ≡ u → Says (wordsFault (dateOf w) (valueAfter w) ws) (dateOf w) (valueAfter w) ws
+    go : (t u : Bool) → leb (dateOf w) k ≡ t → changesNothing v w ≡ u
+        → Says (wordsFault (dateOf w) (valueAfter w) ws) (dateOf w) (valueAfter w) ws
         → Says (wordsFault k v (w ∷ ws)) k v (w ∷ ws)
     go true u p q rec = rw p (0, (omega arith, leb-true (dateOf w) k p), λ j l. absurd (omega arith))
     go false true p q rec =
@@ -110,7 +112,8 @@ says-words k v (w ∷ ws) = go (leb (dateOf w) k) (changesNothing v w) refl refl
     go false false p q rec = rw (p, q) (says-cons (wordsFault (dateOf w) (valueAfter w) ws) k v w ws (first-fine k v w ws p q) rec)
 
 -- and back: the sentence gives the fault
-pub skip-fine : (k : ℕ) (v : Bool) (w : ℕ) (ws : List ℕ) → Fine k v (w ∷ ws) 0 → wordsFault k v (w ∷ ws) ≡ wordsFault (dateOf w) (valueAfter w) ws
+pub skip-fine : (k : ℕ) (v : Bool) (w : ℕ) (ws : List ℕ) → Fine k v (w ∷ ws) 0
+    → wordsFault k v (w ∷ ws) ≡ wordsFault (dateOf w) (valueAfter w) ws
 unfolding wordsFault
 skip-fine k v w ws f = rw (tests-fine k v w ws f .0, tests-fine k v w ws f .1)
 
@@ -128,7 +131,8 @@ gives-3 k v (w ∷ ws) (suc i) h f =
     skip-fine k v w ws (f 0 (omega arith)) ∙
     gives-3 (dateOf w) (valueAfter w) ws i (omega (arith, h .0), h .1) (λ j l. fine-tail k v w ws j (f (suc j) (omega arith)))
 
-pub gives-4 : (k : ℕ) (v : Bool) (ws : List ℕ) (i : ℕ) → Idle v ws i → (¬ Low k ws i) → ((j : ℕ) → j < i → Fine k v ws j) → wordsFault k v ws ≡ 4
+pub gives-4 : (k : ℕ) (v : Bool) (ws : List ℕ) (i : ℕ) → Idle v ws i → (¬ Low k ws i) → ((j : ℕ) → j < i → Fine k v ws j)
+    → wordsFault k v ws ≡ 4
 unfolding wordsFault
 gives-4 k v [] i h b f = absurd (omega (arith, h .0))
 gives-4 k v (w ∷ ws) zero h b f =

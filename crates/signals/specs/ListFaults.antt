@@ -49,7 +49,8 @@ pub record ListFaultsExact : Type 0 where
   pub one : (l : List ℕ) → (listFault l ≡ 1) ↔ Breaks1 l
   pub two : (l : List ℕ) → (listFault l ≡ 2) ↔ ((¬ Breaks1 l) × Breaks2 l)
   pub three : (l : List ℕ) → (listFault l ≡ 3) ↔ ((¬ Breaks1 l) × (¬ Breaks2 l) × ((i : ℕ) × Breaks3 l i × SoundBefore l i))
-  pub four : (l : List ℕ) → (listFault l ≡ 4) ↔ ((¬ Breaks1 l) × (¬ Breaks2 l) × ((i : ℕ) × Breaks4 l i × (¬ Breaks3 l i) × SoundBefore l i))
+  pub four : (l : List ℕ)
+      → (listFault l ≡ 4) ↔ ((¬ Breaks1 l) × (¬ Breaks2 l) × ((i : ℕ) × Breaks4 l i × (¬ Breaks3 l i) × SoundBefore l i))
   pub range : (l : List ℕ) → listFault l ≤ 4
 
 -- Tidying skips 4.

@@ -79,7 +79,8 @@ unfoldable pub lastDate : List ℕ → ℕ
 lastDate [] = 0
 lastDate (h ∷ ws) = lastFrom 0 ws
 
--- The words of a signal for the n dates after date k: a word for each date at which, or after which, the value is not that of the gap before.
+-- The words of a signal for the n dates after date k: a word for each date at which, or after which, the value is not
+-- that of the gap before.
 unfoldable pub wordsOf : Signal → ℕ → ℕ → List ℕ
 wordsOf s k zero = []
 wordsOf s k (suc n) =

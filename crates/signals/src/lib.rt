@@ -8,6 +8,9 @@ ghost use Rattle.signals.specs.Words.{word, changesNothing};
 // The largest date and the largest length.
 pub const M: u32 = 1073741823;
 
+// The most words that a list has.
+pub const WORDS: usize = 256;
+
 // A date counts ticks from the start.
 pub struct Date(pub u32);
 

@@ -83,7 +83,8 @@ module _ (out : List ℕ) (count d : ℕ) (s : Step) (w : ℕ) (e : w ≡ word d
   unfolding entry putIn
   kept-none b q t = (rw (idle true (sym q ∙ t)) (omega arith), rw (idle true (sym q ∙ t)))
 
-  pub kept-one : (b : Bool) → b ≡ changesNothing (s .before) w → b ≡ false → (after : List ℕ) → after ≡ set out count w → Kept (count + 1) after
+  pub kept-one : (b : Bool) → b ≡ changesNothing (s .before) w → b ≡ false → (after : List ℕ) → after ≡ set out count w
+      → Kept (count + 1) after
   unfolding entry putIn
   kept-one b q t after p = (rw (idle false (sym q ∙ t)), rw (idle false (sym q ∙ t)) (rw (← e) p))
 
@@ -105,7 +106,8 @@ unfolding lastDate
 last-start [] h = absurd (omega arith)
 last-start (h ∷ ws) g = refl
 
-pub keep-start : (l old : List ℕ) (v : Bool) (h : ℕ) → tidyFault l ≡ 0 → v ≡ heldValue l 1 → h ≡ num v → (out : List ℕ) → out ≡ set old 0 h → Keeping l out out 1 1
+pub keep-start : (l old : List ℕ) (v : Bool) (h : ℕ) → tidyFault l ≡ 0 → v ≡ heldValue l 1 → h ≡ num v → (out : List ℕ) → out ≡ set old 0 h
+    → Keeping l out out 1 1
 unfolding tidied
 keep-start l old v h z e q out o =
     let a = tidy-start l z in
@@ -125,13 +127,15 @@ pub last-next : (k p : ℕ) (l : List ℕ) → p < length l → lastFrom k (drop
 unfolding lastFrom
 last-next k p l h = rw (words-left l p h)
 
-module _ (l old out : List ℕ) (count passed : ℕ) (k : Keeping l old out count passed) (h : passed < length l) (d : ℕ) (s : Step) (e : d ≡ nextDate l passed) (q : s ≡ stepPast l passed d) where
+module _ (l old out : List ℕ) (count passed : ℕ) (k : Keeping l old out count passed) (h : passed < length l) (d : ℕ) (s : Step)
+    (e : d ≡ nextDate l passed) (q : s ≡ stepPast l passed d) where
   on-date : d ≡ dateOf (getD l passed 0)
   on-date = e ∙ next-in l passed h
 
   pass : Passed (signalOf l) l passed (k .date) d
   pass =
-      at-pass (signalOf l) l passed (k .date) d (k .on) (omega (arith, on-date, next-later (signalOf l) l passed (k .date) (k .on) h)) (λ g. omega (arith, on-date))
+      at-pass (signalOf l) l passed (k .date) d (k .on) (omega (arith, on-date, next-later (signalOf l) l passed (k .date) (k .on) h))
+      (λ g. omega (arith, on-date))
 
   pub moved : s .passed ≡ passed + 1
   moved = rw (q, e) (passed-next l passed h)
@@ -146,9 +150,12 @@ module _ (l old out : List ℕ) (count passed : ℕ) (k : Keeping l old out coun
   below = omega (arith, last-on, last-le d (drop (passed + 1) l) (on .ahead .rises))
 
   scanned : wordsOf (signalOf l) (k .date) (lastDate l - k .date) ≡ entryOf d s ++ wordsOf (signalOf l) d (lastDate l - d)
-  scanned = rw q (scan-to (signalOf l) (lastDate l) (k .date) d (heldValue l passed) (atDate l passed d) (afterDate l passed d) (pass .held) below)
+  scanned =
+      rw q (scan-to (signalOf l) (lastDate l) (k .date) d (heldValue l passed) (atDate l passed d) (afterDate l passed d) (pass .held)
+      below)
 
-  pub keep-turn : (r : ℕ) (after : List ℕ) → r ≡ count + length (entryOf d s) → after ≡ putIn out count (entryOf d s) → Keeping l old after r (s .passed)
+  pub keep-turn : (r : ℕ) (after : List ℕ) → r ≡ count + length (entryOf d s) → after ≡ putIn out count (entryOf d s)
+      → Keeping l old after r (s .passed)
   keep-turn r after re ae =
       rw
       moved
@@ -173,7 +180,8 @@ module _ (l old out : List ℕ) (count passed : ℕ) (k : Keeping l old out coun
   whole : k .made ≡ tidied l
   whole =
       sym (append-nil (k .made))
-      ∙ rw (← scan-settled (signalOf l) (lastDate l - k .date) (k .date) (heldValue l passed) (at-end (signalOf l) l passed (k .date) (k .on) h)) (k .left)
+      ∙ rw (← scan-settled (signalOf l) (lastDate l - k .date) (k .date) (heldValue l passed)
+      (at-end (signalOf l) l passed (k .date) (k .on) h)) (k .left)
 
   pub keep-count : count ≡ length (tidied l)
   keep-count = k .count-is ∙ ap length whole
@@ -186,10 +194,12 @@ pub tidied-over : (l old : List ℕ) (h : ℕ) → overlay (tidied l) (set old 0
 unfolding tidied listOf
 tidied-over l old h = overlay-set (num (signalOf l 0)) h (wordsOf (signalOf l) 0 (lastDate l)) old
 
-pub keep-over : (l old start out : List ℕ) (h count passed : ℕ) → start ≡ set old 0 h → Keeping l start out count passed → length l ≤ passed → out ≡ overlay (tidied l) old
+pub keep-over : (l old start out : List ℕ) (h count passed : ℕ) → start ≡ set old 0 h → Keeping l start out count passed → length l ≤ passed
+    → out ≡ overlay (tidied l) old
 keep-over l old start out h count passed e k le = keep-out l start out count passed k le ∙ ap (overlay (tidied l)) e ∙ tidied-over l old h
 
-pub keep-length : (l old start out : List ℕ) (h count passed : ℕ) → start ≡ set old 0 h → Keeping l start out count passed → length out ≡ length old
+pub keep-length : (l old start out : List ℕ) (h count passed : ℕ) → start ≡ set old 0 h → Keeping l start out count passed
+    → length out ≡ length old
 keep-length l old start out h count passed e k =
     ap length (k .out-is) ∙ overlay-length (k .made) start ∙ ap length e ∙ length-set old 0 h
 
@@ -220,5 +230,6 @@ module _ (l out : List ℕ) (fault : ℕ) (e : fault ≡ tidyFault l) where
     tidy-done h after q =
         let o : length (tidied l) ≤ length out = omega (arith, ap length same) in (
           rw (← e, eq-eqb fault 0 z, le-ltb (length out) (length (tidied l)) o, c),
-          rw (← e, eq-eqb fault 0 z, le-ltb (length out) (length (tidied l)) o) (q ∙ ap (overlay (tidied l)) same ∙ overlay-fits (tidied l) out o),
+          rw (← e, eq-eqb fault 0 z, le-ltb (length out) (length (tidied l)) o)
+              (q ∙ ap (overlay (tidied l)) same ∙ overlay-fits (tidied l) out o),
         )

@@ -20,10 +20,14 @@ enum-told-2 : tie.Need-enum-told-2
 enum-told-2 c = search needs
 
 returns-2 : tie.Need-returns-2
-returns-2 c = equal-no _ _ _ (c .before .before .before .before .pair-fault .ensures) (c .before .before .before .if1 .left) _ (c .before .before .first-moment .ensures) _ (c .enum-told .given .1)
+returns-2 c =
+    equal-no _ _ _ (c .before .before .before .before .pair-fault .ensures) (c .before .before .before .if1 .left) _
+    (c .before .before .first-moment .ensures) _ (c .enum-told .given .1)
 
 returns-3 : tie.Need-returns-3
-returns-3 c = equal-yes _ _ _ (c .before .before .before .before .pair-fault .ensures) (c .before .before .before .if1 .left) _ (c .before .before .first-moment .ensures) (c .enum-told2 .given .1)
+returns-3 c =
+    equal-yes _ _ _ (c .before .before .before .before .pair-fault .ensures) (c .before .before .before .if1 .left) _
+    (c .before .before .first-moment .ensures) (c .enum-told2 .given .1)
 
 pub equal-spec : {M : Type 1} → statement M
 equal-spec =

@@ -7,7 +7,8 @@ use mathlib.Core.Logic.{⊎-elim}
 use lib.ListN.{length}
 use Rattle.signals.specs.Moment.{gap}
 use Rattle.signals.proofs.WordFacts.{date-le}
-use Rattle.asking.proofs.Watching.{Watching, Turn, Dated, Outcome, P, event, short, watch-start, turn-later, turn-more, turn-on, before-outcome, at-outcome, outcome-in, outcome-none, end-none, end-in, shows-of}
+use Rattle.asking.proofs.Watching.{Watching, Turn, Dated, Outcome, P, event, short, watch-start, turn-later, turn-more, turn-on}
+use Rattle.asking.proofs.Watching.{before-outcome, at-outcome, outcome-in, outcome-none, end-none, end-in, shows-of}
 use Rattle.asking.proofs.first_moment.Statement.{statement}
 use Rattle.asking.proofs.first_moment.Tie as tie
 
@@ -22,7 +23,13 @@ loop-holds c = watch-start _ _ _ _ _ (c .before .before .pre .0) (c .before .bef
 
 add-loop : tie.Need-add-loop Inv-loop μ-loop
 add-loop c =
-    omega (arith, c .loop .inv .left .within, c .loop .inv .right .within, short _ (c .before .before .before .pre .0), short _ (c .before .before .before .pre .1))
+    omega (
+      arith,
+      c .loop .inv .left .within,
+      c .loop .inv .right .within,
+      short _ (c .before .before .before .pre .0),
+      short _ (c .before .before .before .pre .1),
+    )
 
 add-loop-2 : tie.Need-add-loop-2 Inv-loop μ-loop
 add-loop-2 c = omega (arith, short _ (c .before .before .before .pre .0), short _ (c .before .before .before .pre .1))
@@ -139,12 +146,18 @@ enum-told-4 c = search needs
 
 at-found : (c : tie.After-in-stretch2 Inv-loop μ-loop) → Outcome
     (P
-    (c .before .before .before .before .before .before .before .before .before .before .before .before .before .before .before .before .args .table)
-    (c .before .before .before .before .before .before .before .before .before .before .before .before .before .before .before .before .args .want)
-    (c .before .before .before .before .before .before .before .before .before .before .before .before .before .before .before .before .args .a .now)
-    (c .before .before .before .before .before .before .before .before .before .before .before .before .before .before .before .before .args .b .now)
-    (c .before .before .before .before .before .before .before .before .before .before .before .before .before .before .before .before .args .from))
-    (c .before .before .before .before .before .before .before .before .before .before .before .before .before .before .before .before .args .from)
+    (c .before .before .before .before .before .before .before .before .before .before .before .before .before .before .before .before .args
+    .table)
+    (c .before .before .before .before .before .before .before .before .before .before .before .before .before .before .before .before .args
+    .want)
+    (c .before .before .before .before .before .before .before .before .before .before .before .before .before .before .before .before .args
+    .a .now)
+    (c .before .before .before .before .before .before .before .before .before .before .before .before .before .before .before .before .args
+    .b .now)
+    (c .before .before .before .before .before .before .before .before .before .before .before .before .before .before .before .before .args
+    .from))
+    (c .before .before .before .before .before .before .before .before .before .before .before .before .before .before .before .before .args
+    .from)
     (2 * c .before .before .before .before .before .before .before .before .before .earlier .result .0)
     (c .in-stretch2 .result)
 at-found c =
@@ -167,11 +180,17 @@ returns-2 c = outcome-in _ _ _ _ _ (c .enum-told4 .given .1) (at-found (c .befor
 loop-less : tie.Need-loop-less Inv-loop μ-loop
 loop-less c =
     let inside = c .before .before .before .before .before .before .before .before .before .before .before .before .before .before in
-    omega (arith, turn-more _ _ _ _ _ (turn (c .before .before .before .before .before .before .before .before)), inside .loop-test .taken, inside .before .loop .inv .right .within)
+    omega (
+      arith,
+      turn-more _ _ _ _ _ (turn (c .before .before .before .before .before .before .before .before)),
+      inside .loop-test .taken,
+      inside .before .loop .inv .right .within,
+    )
 
 loop-again : tie.Need-loop-again Inv-loop μ-loop
 loop-again c =
-    turn-on _ _ _ _ _ (turn (c .before .before .before .before .before .before .before .before)) (outcome-none _ _ _ _ (c .enum-told3 .given .1) (at-found (c .before .before)))
+    turn-on _ _ _ _ _ (turn (c .before .before .before .before .before .before .before .before))
+    (outcome-none _ _ _ _ (c .enum-told3 .given .1) (at-found (c .before .before)))
 
 held-value-requires : tie.Need-held-value-requires Inv-loop μ-loop
 held-value-requires c κs = search needs
@@ -199,12 +218,15 @@ returns-3 c =
     _
     (c .before .before .before .before .before .before .loop .inv)
     (c .before .before .before .before .before .loop-test .left)
-    (shows-of _ _ _ _ _ _ _ _ (c .before .before .table-shows3 .ensures) (c .before .before .before .before .held-value .ensures) (c .before .before .before .held-value2 .ensures) (c .before .if1 .taken))
+    (shows-of _ _ _ _ _ _ _ _ (c .before .before .table-shows3 .ensures) (c .before .before .before .before .held-value .ensures)
+    (c .before .before .before .held-value2 .ensures) (c .before .if1 .taken))
     (c .later .ensures)
 
 returns-4 : tie.Need-returns-4 Inv-loop μ-loop
 returns-4 c =
-    end-none _ _ _ _ _ _ _ _ (c .before .before .before .before .before .loop .inv) (c .before .before .before .before .loop-test .left) (shows-of _ _ _ _ _ _ _ _ (c .before .table-shows3 .ensures) (c .before .before .before .held-value .ensures) (c .before .before .held-value2 .ensures) (c .if1 .left))
+    end-none _ _ _ _ _ _ _ _ (c .before .before .before .before .before .loop .inv) (c .before .before .before .before .loop-test .left)
+    (shows-of _ _ _ _ _ _ _ _ (c .before .table-shows3 .ensures) (c .before .before .before .held-value .ensures)
+    (c .before .before .held-value2 .ensures) (c .if1 .left))
 
 pub first-moment-spec : {M : Type 1} → statement M
 first-moment-spec =

@@ -17,7 +17,9 @@ verdict-in-requires : tie.Need-verdict-in-requires
 verdict-in-requires c κs = near _ (c .first-moment .result) (c .first-moment .ensures)
 
 returns-2 : tie.Need-returns-2
-returns-2 c = implies-told _ _ _ (c .before .before .before .pair-fault .ensures) (c .before .before .if1 .left) (c .before .first-moment .result) (c .before .first-moment .ensures) _ (c .verdict-in .ensures)
+returns-2 c =
+    implies-told _ _ _ (c .before .before .before .pair-fault .ensures) (c .before .before .if1 .left) (c .before .first-moment .result)
+    (c .before .first-moment .ensures) _ (c .verdict-in .ensures)
 
 pub implies-spec : {M : Type 1} → statement M
 implies-spec =

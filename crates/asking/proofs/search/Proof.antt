@@ -29,9 +29,12 @@ next-date-requires-2 : tie.Need-next-date-requires-2 Inv-loop μ-loop
 next-date-requires-2 c κs = search needs
 
 after-turn : (c : tie.After-next-date2 Inv-loop μ-loop)
-    → Turned (c .before .before .before .before .before .before .before .before .args .words .now) (c .before .before .before .before .before .before .before .before .args .date .0) (c .before .before .before .before .before .loop .passed) (c .before .past .result .passed)
+    → Turned (c .before .before .before .before .before .before .before .before .args .words .now)
+    (c .before .before .before .before .before .before .before .before .args .date .0)
+    (c .before .before .before .before .before .loop .passed) (c .before .past .result .passed)
 after-turn c =
-    turn _ _ _ _ (c .before .past .result) (c .before .before .before .before .before .loop .inv .0) (c .before .before .before .before .before .loop .inv .1) (c .before .before .if1 .taken) (omega arith) (c .before .past .ensures)
+    turn _ _ _ _ (c .before .past .result) (c .before .before .before .before .before .loop .inv .0)
+    (c .before .before .before .before .before .loop .inv .1) (c .before .before .if1 .taken) (omega arith) (c .before .past .ensures)
 
 loop-less : tie.Need-loop-less Inv-loop μ-loop
 loop-less c = omega (arith, after-turn c .left, after-turn c .one)

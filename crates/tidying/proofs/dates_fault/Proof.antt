@@ -23,7 +23,10 @@ next-date-requires : tie.Need-next-date-requires Inv-loop μ-loop
 next-date-requires c κs = search needs
 
 returns : tie.Need-returns Inv-loop μ-loop
-returns c = sym (c .before .before .before .before .loop .inv .1 ∙ dates-3 _ _ _ (c .before .before .before .loop-test .taken) _ (c .before .before .next-date .ensures ∙ next-in _ _ (c .before .before .before .loop-test .taken)) (c .if1 .taken))
+returns c =
+    sym (c .before .before .before .before .loop .inv .1
+    ∙ dates-3 _ _ _ (c .before .before .before .loop-test .taken) _
+    (c .before .before .next-date .ensures ∙ next-in _ _ (c .before .before .before .loop-test .taken)) (c .if1 .taken))
 
 add-passed : tie.Need-add-passed Inv-loop μ-loop
 add-passed c = search needs
@@ -32,7 +35,12 @@ loop-less : tie.Need-loop-less Inv-loop μ-loop
 loop-less c = search needs
 
 loop-again : tie.Need-loop-again Inv-loop μ-loop
-loop-again c = (omega arith, c .before .before .before .before .loop .inv .1 ∙ dates-on _ _ _ (c .before .before .before .loop-test .taken) _ (c .before .before .next-date .ensures ∙ next-in _ _ (c .before .before .before .loop-test .taken)) (c .if1 .left))
+loop-again c = (
+  omega arith,
+  c .before .before .before .before .loop .inv .1
+      ∙ dates-on _ _ _ (c .before .before .before .loop-test .taken) _
+      (c .before .before .next-date .ensures ∙ next-in _ _ (c .before .before .before .loop-test .taken)) (c .if1 .left),
+)
 
 returns-2 : tie.Need-returns-2 Inv-loop μ-loop
 returns-2 c = sym (c .before .loop .inv .1 ∙ dates-done _ _ _ (c .loop-test .left))

@@ -30,7 +30,9 @@ put-requires c κs = search needs
 
 loop-holds : tie.Need-loop-holds Inv-loop μ-loop
 loop-holds c =
-    keep-start _ (c .before .before .before .before .before .before .before .before .args .out .now) _ _ (c .before .before .before .before .before .before .before .before .pre) (c .before .before .before .before .held-value .ensures) (c .before .before .before .index .ensures) _ (c .before .before .put .ensures)
+    keep-start _ (c .before .before .before .before .before .before .before .before .args .out .now) _ _
+    (c .before .before .before .before .before .before .before .before .pre) (c .before .before .before .before .held-value .ensures)
+    (c .before .before .before .index .ensures) _ (c .before .before .put .ensures)
 
 next-date-requires : tie.Need-next-date-requires Inv-loop μ-loop
 next-date-requires c κs = search needs
@@ -49,15 +51,26 @@ keep-word-requires c κs =
 
 loop-less : tie.Need-loop-less Inv-loop μ-loop
 loop-less c =
-    omega (arith, moved _ _ _ _ _ (c .before .before .before .before .before .before .before .loop .inv) (c .before .before .before .before .before .before .loop-test .taken) _ (c .before .before .before .before .past .result) (c .before .before .before .before .before .next-date .ensures) (c .before .before .before .before .past .ensures))
+    omega (
+      arith,
+      moved _ _ _ _ _ (c .before .before .before .before .before .before .before .loop .inv)
+          (c .before .before .before .before .before .before .loop-test .taken) _ (c .before .before .before .before .past .result)
+          (c .before .before .before .before .before .next-date .ensures) (c .before .before .before .before .past .ensures),
+    )
 
 loop-again : tie.Need-loop-again Inv-loop μ-loop
 loop-again c =
-    keep-turn _ _ _ _ _ (c .before .before .before .before .before .before .before .loop .inv) (c .before .before .before .before .before .before .loop-test .taken) _ (c .before .before .before .before .past .result) (c .before .before .before .before .before .next-date .ensures) (c .before .before .before .before .past .ensures) _ _ (c .before .before .keep-word .ensures .0) (c .before .before .keep-word .ensures .1)
+    keep-turn _ _ _ _ _ (c .before .before .before .before .before .before .before .loop .inv)
+    (c .before .before .before .before .before .before .loop-test .taken) _ (c .before .before .before .before .past .result)
+    (c .before .before .before .before .before .next-date .ensures) (c .before .before .before .before .past .ensures) _ _
+    (c .before .before .keep-word .ensures .0) (c .before .before .keep-word .ensures .1)
 
 same-length : tie.Need-same-length Inv-loop μ-loop
 same-length c =
-    keep-length (c .before .before .before .before .before .before .before .before .before .before .args .list .now) (c .before .before .before .before .before .before .before .before .before .before .args .out .now) _ _ (c .before .before .before .before .before .index .result) _ _ (c .before .before .before .before .put .ensures) (c .before .loop .inv)
+    keep-length (c .before .before .before .before .before .before .before .before .before .before .args .list .now)
+    (c .before .before .before .before .before .before .before .before .before .before .args .out .now) _ _
+    (c .before .before .before .before .before .index .result) _ _ (c .before .before .before .before .put .ensures)
+    (c .before .loop .inv)
 
 returns : tie.Need-returns Inv-loop μ-loop
 returns c = (

@@ -30,7 +30,10 @@ same-length : tie.Need-same-length
 same-length c = search needs
 
 returns-2 : tie.Need-returns-2
-returns-2 c = tidy-short _ _ _ (c .before .before .before .before .before .before .tidy-fault .ensures) (c .before .before .before .before .before .if1 .left) _ (c .before .before .before .keep-words .ensures .0) _ (c .before .before .before .keep-words .ensures .1) (c .if2 .taken)
+returns-2 c =
+    tidy-short _ _ _ (c .before .before .before .before .before .before .tidy-fault .ensures)
+    (c .before .before .before .before .before .if1 .left) _ (c .before .before .before .keep-words .ensures .0) _
+    (c .before .before .before .keep-words .ensures .1) (c .if2 .taken)
 
 keep-words-requires-2 : tie.Need-keep-words-requires-2
 keep-words-requires-2 c κs = search needs
@@ -39,7 +42,12 @@ same-length-2 : tie.Need-same-length-2
 same-length-2 c = search needs
 
 returns-3 : tie.Need-returns-3
-returns-3 c = tidy-done _ _ _ (c .before .before .before .before .before .before .before .before .before .before .tidy-fault .ensures) (c .before .before .before .before .before .before .before .before .before .if1 .left) _ (c .before .before .before .before .before .before .before .keep-words .ensures .0) _ (c .before .before .before .before .before .before .before .keep-words .ensures .1) (c .before .before .before .before .if2 .left) _ (c .before .before .keep-words2 .ensures .1)
+returns-3 c =
+    tidy-done _ _ _ (c .before .before .before .before .before .before .before .before .before .before .tidy-fault .ensures)
+    (c .before .before .before .before .before .before .before .before .before .if1 .left) _
+    (c .before .before .before .before .before .before .before .keep-words .ensures .0) _
+    (c .before .before .before .before .before .before .before .keep-words .ensures .1) (c .before .before .before .before .if2 .left) _
+    (c .before .before .keep-words2 .ensures .1)
 
 pub tidy-spec : {M : Type 1} → statement M
 tidy-spec =
