@@ -13,14 +13,17 @@ use Rattle.signals.specs.Tidying.{tidied}
 use Rattle.signals.specs.declared.Told.the-variants as told
 use Rattle.signals.proofs.TidyFaults.{tidy-fault-range}
 use Rattle.signals.proofs.Tidying.{tidying}
-use Rattle.lists.specs.Questions.{instantFault, gapFault, valueAtOf, valueInOf, equalOf, impliesOf, tidyingFault}
+use Rattle.signals.specs.Words.{pairFault}
+use Rattle.questions.specs.Questions.{instantFault, gapFault, valueAtOf, valueInOf, equalOf, impliesOf}
+use Rattle.tidying.specs.Calls.{tidyingFault}
 use Rattle.sheets.proofs.Accepting.{listed-some}
 use Rattle.capi.specs.Packing.{SmallWritten, SmallTold, SmallVerdict}
 use Rattle.capi.proofs.SmallAnswers.{choice, first-small, list-small, written-small, answer-small}
 use Rattle.signals.specs.Answers.{firstOf, toldValue, toldOf}
 use Rattle.signals.proofs.FirstFault.{both-none}
 
-pair-small : (a b : List ℕ) → firstOf (listFault a) (listFault b) < 65536
+pair-small : (a b : List ℕ) → pairFault a b < 65536
+unfolding pairFault
 pair-small a b = first-small (listFault a) (listFault b) (list-small a) (list-small b)
 
 told-small : (fault : ℕ) (v : Bool) → fault < 65536 → SmallTold (toldOf fault v)

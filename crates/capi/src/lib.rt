@@ -5,7 +5,8 @@ ghost use lib.ListN.{length};
 ghost use Rattle.signals.specs.Signal.{NOT, connective, rising, falling, SR, RS, TON, TOF};
 ghost use Rattle.signals.specs.Words.{listFault};
 ghost use Rattle.signals.specs.Tidying.{tidied};
-ghost use Rattle.lists.specs.Questions.{valueAtOf, valueInOf, equalOf, impliesOf, tidyingFault};
+ghost use Rattle.questions.specs.Questions.{valueAtOf, valueInOf, equalOf, impliesOf};
+ghost use Rattle.tidying.specs.Calls.{tidyingFault};
 ghost use Rattle.sheets.specs.Reading.{sheetFault};
 ghost use Rattle.sheets.specs.Writing.{sheetBytes};
 ghost use Rattle.sheets.specs.Calls.{beginFault, placeOf, appendFault, appended};
@@ -105,7 +106,7 @@ pub extern "C" fn sgl_list_fault(list: &[u32]) -> u32
 pub extern "C" fn sgl_tidy(list: &[u32], out: &mut [u32]) -> u32
     ensures { λ r. ⌜ Exported (tidyingFault (now (list .entry)) (length (now (out .entry)))) (tidied (now (list .entry))) (now (out .entry)) r (now (out .exit)) ⌝ }
 {
-    pack_written(lists::tidy(list, out))
+    pack_written(tidying::tidy(list, out))
 }
 
 // The value at the instant k.
@@ -113,7 +114,7 @@ pub extern "C" fn sgl_tidy(list: &[u32], out: &mut [u32]) -> u32
 pub extern "C" fn sgl_value_at(list: &[u32], k: u32) -> u32
     ensures { λ r. ⌜ r ≡ packTold (valueAtOf (now (list .entry)) k) ⌝ }
 {
-    pack_told(lists::value_at(list, k))
+    pack_told(asking::value_at(list, k))
 }
 
 // The value in the gap k.
@@ -121,7 +122,7 @@ pub extern "C" fn sgl_value_at(list: &[u32], k: u32) -> u32
 pub extern "C" fn sgl_value_in(list: &[u32], k: u32) -> u32
     ensures { λ r. ⌜ r ≡ packTold (valueInOf (now (list .entry)) k) ⌝ }
 {
-    pack_told(lists::value_in(list, k))
+    pack_told(asking::value_in(list, k))
 }
 
 // Equality.
@@ -129,7 +130,7 @@ pub extern "C" fn sgl_value_in(list: &[u32], k: u32) -> u32
 pub extern "C" fn sgl_equal(a: &[u32], b: &[u32]) -> u32
     ensures { λ r. ⌜ r ≡ packTold (equalOf (now (a .entry)) (now (b .entry))) ⌝ }
 {
-    pack_told(lists::equal(a, b))
+    pack_told(asking::equal(a, b))
 }
 
 // Implication a to b.
@@ -137,7 +138,7 @@ pub extern "C" fn sgl_equal(a: &[u32], b: &[u32]) -> u32
 pub extern "C" fn sgl_implies(a: &[u32], b: &[u32]) -> u64
     ensures { λ r. ⌜ r ≡ packVerdict (impliesOf (now (a .entry)) (now (b .entry))) ⌝ }
 {
-    pack_verdict(lists::implies(a, b))
+    pack_verdict(asking::implies(a, b))
 }
 
 // NOT.

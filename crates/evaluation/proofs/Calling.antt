@@ -16,7 +16,7 @@ use Rattle.signals.specs.declared.Written.the-variants as written
 use Rattle.signals.specs.declared.Verdict.{Verdict}
 use Rattle.signals.specs.declared.Verdict.the-variants as verdict
 use Rattle.signals.proofs.Settling.{settled-later}
-use Rattle.lists.specs.Questions as questions
+use Rattle.questions.specs.Questions as questions
 use Rattle.operations.proofs.JudgedCalls.{refused, passes-on}
 use Rattle.grammar.specs.Tree.{Tree}
 use Rattle.grammar.specs.Code.{code}

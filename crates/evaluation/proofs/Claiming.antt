@@ -16,11 +16,12 @@ use Rattle.signals.specs.declared.Written.the-variants as written
 use Rattle.signals.specs.declared.Verdict.{Verdict}
 use Rattle.signals.specs.declared.Verdict.the-variants.{Refused}
 use Rattle.signals.proofs.Settling.{settled-later}
-use Rattle.lists.specs.Questions.{impliesOf, laterLast}
 use Rattle.grammar.specs.Tree.{Tree}
 use Rattle.grammar.specs.Formula.{formulaTree}
 use Rattle.grammar.specs.Parts.{parts}
 use Rattle.signals.proofs.AnyDate.{one-verdict}
+use Rattle.questions.specs.Questions.{impliesOf, laterLast}
+use Rattle.signals.specs.Words.{pairFault}
 use Rattle.sheets.specs.Reading.{sheetFault}
 use Rattle.calls.specs.OnSheet.{exactOn, signalOn, settlingDate}
 use Rattle.calls.specs.Calls.{readingFault, workFault, neededWork, partsFault, workingFault, claimFault, claimFails, claimVerdict, claimAnswer}
@@ -55,7 +56,7 @@ by-one f g v e n = let m : g ≡ 0 → ⊥ = λ z. n (sym e ∙ z) in rw (ne-eqb
 -- two lists compared
 pub compared : (sheet : List ℕ) → sheetFault sheet ≡ 0 → (t u : Tree) → listFault (exactOn sheet t) ≡ 0 → listFault (exactOn sheet u) ≡ 0
     → impliesOf (exactOn sheet t) (exactOn sheet u) ≡ claimVerdict sheet t u
-unfolding impliesOf claimFails verdictFor laterLast firstOf
+unfolding impliesOf claimFails verdictFor laterLast pairFault firstOf
 compared sheet ok t u a b =
     let n = max (lastDate (exactOn sheet t)) (lastDate (exactOn sheet u)) in
     let m = max (settlingDate sheet t) (settlingDate sheet u) in

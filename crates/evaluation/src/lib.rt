@@ -460,7 +460,7 @@ fn compare(
         Written::Count(count) => {
             let w = &work[..];
             let end = 256 + count;
-            lists::implies(&w[..f_count], &w[256..end])
+            asking::implies(&w[..f_count], &w[256..end])
         }
         Written::Refused(fault) => Verdict::Refused(fault),
     }

@@ -1,46 +1,24 @@
 -- The tests that the list check makes are those of the definitions, and one turn of its loop is one clause of `wordsFault`.
-use Prim.Native.Nat.{ℕ, zero, suc, _+_, _≤_, _<_, _/_, _%_}
+use Prim.Native.Nat.{ℕ, _+_, _≤_, _<_}
 use native.Mathlib.Omega.{arith}
 use native.Mathlib.Numerals.{add-one}
 use mathlib.Core.Path.{_≡_, refl, sym, _∙_}
-use mathlib.Core.Bool.{Bool, true, false, cond, _&&_, Bool·beq}
+use mathlib.Core.Bool.{Bool, true, false, cond}
 use mathlib.Core.List.{List, [], _∷_}
-use lib.Dec.{leb, ltb, eqb}
+use lib.Dec.{ltb}
 use lib.ListN.{length, getD, drop, drop-of-length-le}
 use lib.Seq.{drop-cons}
-use borrow.Author.Tests.{eqb-true, eqb-false, eq-eqb, ne-eqb, le-leb, lt-leb, lt-ltb, le-ltb}
+use borrow.Author.Tests.{le-leb, lt-leb, lt-ltb, le-ltb}
 use Rattle.lists.specs.Reading.{headFault}
-use Rattle.signals.specs.Words.{dateOf, valueAt, valueAfter, headValue, changesNothing, wordsFault, listFault, datesFault, tidyFault}
-
-pub both-up : (w : ℕ) → eqb (w % 4) 3 ≡ changesNothing true w
-unfolding changesNothing valueAt valueAfter
-both-up w = go (eqb (w / 2 % 2) 1) (eqb (w % 2) 1) refl refl
-  where
-    go : (a b : Bool) → eqb (w / 2 % 2) 1 ≡ a → eqb (w % 2) 1 ≡ b → eqb (w % 4) 3 ≡ (Bool·beq a true && Bool·beq b true)
-    go true true p q = eq-eqb (w % 4) 3 (omega (arith, eqb-true (w / 2 % 2) 1 p, eqb-true (w % 2) 1 q))
-    go true false p q = ne-eqb (w % 4) 3 (λ e. eqb-false (w % 2) 1 q (omega arith))
-    go false true p q = ne-eqb (w % 4) 3 (λ e. eqb-false (w / 2 % 2) 1 p (omega arith))
-    go false false p q = ne-eqb (w % 4) 3 (λ e. eqb-false (w / 2 % 2) 1 p (omega arith))
-
-pub both-down : (w : ℕ) → eqb (w % 4) 0 ≡ changesNothing false w
-unfolding changesNothing valueAt valueAfter
-both-down w = go (eqb (w / 2 % 2) 1) (eqb (w % 2) 1) refl refl
-  where
-    go : (a b : Bool) → eqb (w / 2 % 2) 1 ≡ a → eqb (w % 2) 1 ≡ b → eqb (w % 4) 0 ≡ (Bool·beq a false && Bool·beq b false)
-    go true true p q = ne-eqb (w % 4) 0 (λ e. omega (arith, eqb-true (w / 2 % 2) 1 p))
-    go true false p q = ne-eqb (w % 4) 0 (λ e. omega (arith, eqb-true (w / 2 % 2) 1 p))
-    go false true p q = ne-eqb (w % 4) 0 (λ e. omega (arith, eqb-true (w % 2) 1 q))
-    go false false p q =
-        let p' : (w / 2 % 2 ≡ 1) → ⊥ = eqb-false (w / 2 % 2) 1 p in
-        let q' : (w % 2 ≡ 1) → ⊥ = eqb-false (w % 2) 1 q in
-        eq-eqb (w % 4) 0 (omega arith)
+use Rattle.signals.specs.Words.{dateOf, valueAfter, headValue, changesNothing, wordsFault, listFault}
 
 module _ (l : List ℕ) (passed last : ℕ) (before : Bool) (h : passed < length l) where
   pub fault-3 : dateOf (getD l passed 0) ≤ last → wordsFault last before (drop passed l) ≡ 3
   unfolding wordsFault
   fault-3 e = rw (drop-cons l passed 0 h, le-leb _ _ e)
 
-  pub fault-4 : last < dateOf (getD l passed 0) → changesNothing before (getD l passed 0) ≡ true → wordsFault last before (drop passed l) ≡ 4
+  pub fault-4 : last < dateOf (getD l passed 0) → changesNothing before (getD l passed 0) ≡ true
+      → wordsFault last before (drop passed l) ≡ 4
   unfolding wordsFault
   fault-4 d e = rw (drop-cons l passed 0 h, lt-leb _ _ d, e)
 
@@ -52,20 +30,6 @@ module _ (l : List ℕ) (passed last : ℕ) (before : Bool) (h : passed < length
 pub done : (l : List ℕ) (passed last : ℕ) (before : Bool) → length l ≤ passed → wordsFault last before (drop passed l) ≡ 0
 unfolding wordsFault
 done l passed last before h = rw (drop-of-length-le l {i = passed} h)
-
--- the same for a list to be tidied
-module _ (l : List ℕ) (passed last : ℕ) (h : passed < length l) where
-  pub dates-3 : (d : ℕ) → d ≡ dateOf (getD l passed 0) → d ≤ last → datesFault last (drop passed l) ≡ 3
-  unfolding datesFault
-  dates-3 d q e = rw (drop-cons l passed 0 h, le-leb (dateOf (getD l passed 0)) last (omega arith))
-
-  pub dates-on : (d : ℕ) → d ≡ dateOf (getD l passed 0) → last < d → datesFault last (drop passed l) ≡ datesFault d (drop (passed + 1) l)
-  unfolding datesFault
-  dates-on d q e = rw (add-one, drop-cons l passed 0 h, lt-leb (dateOf (getD l passed 0)) last (omega arith), ← q)
-
-pub dates-done : (l : List ℕ) (passed last : ℕ) → length l ≤ passed → datesFault last (drop passed l) ≡ 0
-unfolding datesFault
-dates-done l passed last h = rw (drop-of-length-le l {i = passed} h)
 
 -- the length and the first word
 pub empty-1 : (l : List ℕ) → length l ≡ 0 → headFault l ≡ 1
@@ -94,12 +58,13 @@ head-some [] z = absurd (omega arith)
 head-some (w ∷ ws) z = omega arith
 
 -- the tests of the head before those of the words after it
-head-first : (a b : Bool) (r : ℕ) → (_≡_ {A = ℕ} (cond a 1 (cond b 2 0)) 0 → ⊥) → _≡_ {A = ℕ} (cond a 1 (cond b 2 0)) (cond a 1 (cond b 2 r))
+pub head-first : (a b : Bool) (r : ℕ) → (_≡_ {A = ℕ} (cond a 1 (cond b 2 0)) 0 → ⊥)
+    → _≡_ {A = ℕ} (cond a 1 (cond b 2 0)) (cond a 1 (cond b 2 r))
 head-first true b r n = refl
 head-first false true r n = refl
 head-first false false r n = absurd (n refl)
 
-head-past : (a b : Bool) (r : ℕ) → _≡_ {A = ℕ} (cond a 1 (cond b 2 0)) 0 → r ≡ cond a 1 (cond b 2 r)
+pub head-past : (a b : Bool) (r : ℕ) → _≡_ {A = ℕ} (cond a 1 (cond b 2 0)) 0 → r ≡ cond a 1 (cond b 2 r)
 head-past true b r z = absurd (omega arith)
 head-past false true r z = absurd (omega arith)
 head-past false false r z = refl
@@ -114,13 +79,3 @@ module _ (fault : ℕ) where
   unfolding headFault listFault
   list-words [] e z = absurd (omega arith)
   list-words (h ∷ ws) e z = head-past (ltb 256 (length (h ∷ ws))) (ltb 1 h) (wordsFault 0 (headValue h) ws) (sym e ∙ z)
-
-  pub tidy-head : (l : List ℕ) → fault ≡ headFault l → (fault ≡ 0 → ⊥) → fault ≡ tidyFault l
-  unfolding headFault tidyFault
-  tidy-head [] e n = e
-  tidy-head (h ∷ ws) e n = e ∙ head-first (ltb 256 (length (h ∷ ws))) (ltb 1 h) (datesFault 0 ws) (λ z. n (e ∙ z))
-
-  pub tidy-dates : (l : List ℕ) → fault ≡ headFault l → fault ≡ 0 → datesFault 0 (drop 1 l) ≡ tidyFault l
-  unfolding headFault tidyFault
-  tidy-dates [] e z = absurd (omega arith)
-  tidy-dates (h ∷ ws) e z = head-past (ltb 256 (length (h ∷ ws))) (ltb 1 h) (datesFault 0 ws) (sym e ∙ z)

@@ -1,14 +1,7 @@
+-- Proofs of the statements of specs/, and the lemmas that they and the proofs of functions share.
 pub mod Judging
 pub mod ReadingFacts
-pub mod Searching
+pub mod Counting
 pub mod ReaderSays
-pub mod Telling
-pub mod Stretches
-pub mod Watching
-pub mod Verdicts
-pub mod Equality
-pub mod Implication
-pub mod Keepings
-pub mod Giving
 pub mod Apart
 pub mod Above

@@ -14,11 +14,10 @@ use Rattle.signals.specs.Passing.{heldValue, passedDate}
 use Rattle.signals.proofs.WordFacts.{date-bounds}
 use Rattle.signals.proofs.Operand.{At, at-take, at-end, at-pass, next-later}
 use Rattle.signals.proofs.Normal.{acceptedNormal, accepted-start}
-use Rattle.lists.specs.Giving.{WithinM}
-use Rattle.lists.specs.Questions.{countBy, datedBy}
-use Rattle.lists.specs.Reading.{NEVER, nextDate}
+use Rattle.signals.specs.Giving.{WithinM}
+use Rattle.lists.specs.Reading.{NEVER, nextDate, countBy, datedBy}
 use Rattle.lists.specs.ReaderSays.{PastDate, Says, ReaderSays}
-use Rattle.lists.proofs.Searching.{next-in, next-none, seek-start, count-passed, none-left, pass-count}
+use Rattle.lists.proofs.Counting.{next-in, next-none, count-start, count-passed, none-left, pass-count}
 
 module _ (l : List ℕ) (z : Accepted l) where
   -- going along: p words passed, the list's signal is ahead of the last date passed
@@ -36,7 +35,7 @@ module _ (l : List ℕ) (z : Accepted l) where
   -- the words dated at or before k, the last date passed or a later one: those passed and some of those left
   counted : (k p : ℕ) → 1 ≤ p → p ≤ length l → dateBefore l p ≤ k → datedBy k l ≡ p + countBy k (drop p l)
   counted k zero o h le = absurd (omega arith)
-  counted k (suc zero) o h le = seek-start l k z .counted
+  counted k (suc zero) o h le = count-start l k z
   counted k (suc (suc i)) o h le =
       let e : suc i + 1 ≡ suc (suc i) = omega arith in
       let rec = counted k (suc i) (omega arith) (omega arith) (omega (arith, rises i h)) in
@@ -112,5 +111,5 @@ module _ (l : List ℕ) (z : Accepted l) where
           past = past;
         }
 
-pub readerSays : ReaderSays
-readerSays = record { says = λ l p z w o h. says l z w p o h; never = λ d n a b. omega arith }
+pub reader-says : ReaderSays
+reader-says = record { says = λ l p z w o h. says l z w p o h; never = λ d n a b. omega arith }

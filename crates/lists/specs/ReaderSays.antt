@@ -10,9 +10,8 @@ use Rattle.signals.specs.Words.{dateOf, signalOf}
 use Rattle.signals.specs.Normal.{Accepted}
 use Rattle.signals.specs.ListFaults.{dateBefore}
 use Rattle.signals.specs.Passing.{heldValue}
-use Rattle.lists.specs.Giving.{WithinM}
-use Rattle.lists.specs.Questions.{datedBy}
-use Rattle.lists.specs.Reading.{NEVER, nextDate, stepPast}
+use Rattle.signals.specs.Giving.{WithinM}
+use Rattle.lists.specs.Reading.{NEVER, nextDate, stepPast, datedBy}
 
 -- what going past date e tells
 pub record PastDate (l : List ℕ) (p e : ℕ) : Type 0 where

@@ -1,10 +1,10 @@
--- Reading along a list's words: the next word's date, and what passing a date gives.
-use Prim.Native.Nat.{ℕ}
+-- Reading along a list's words: the next word's date, what passing a date gives, and how many words are dated up to one.
+use Prim.Native.Nat.{ℕ, suc}
 use mathlib.Core.Bool.{cond}
 use mathlib.Core.List.{List, [], _∷_}
-use lib.Dec.{ltb}
+use lib.Dec.{leb, ltb}
 use lib.ListN.{length, getD}
-use Rattle.signals.specs.Words.{dateOf}
+use Rattle.signals.specs.Words.{dateOf, mostWords}
 use Rattle.signals.specs.Passing.{heldValue, atDate, afterDate, passedDate}
 use Rattle.lists.specs.declared.Step.{Step}
 
@@ -26,7 +26,16 @@ stepPast l passed date =
       passed = passedDate l passed date;
     }
 
+-- how many of these words are dated at or before k, and how many of a list's, the first word counted as date 0
+unfoldable pub countBy : ℕ → List ℕ → ℕ
+countBy k [] = 0
+countBy k (w ∷ ws) = cond (leb (dateOf w) k) (suc (countBy k ws)) (countBy k ws)
+
+unfoldable pub datedBy : ℕ → List ℕ → ℕ
+datedBy k [] = 0
+datedBy k (h ∷ ws) = suc (countBy k ws)
+
 -- the fault that a list's length and first word give, 0 for none
 unfoldable pub headFault : List ℕ → ℕ
 headFault [] = 1
-headFault (h ∷ ws) = cond (ltb 256 (length (h ∷ ws))) 1 (cond (ltb 1 h) 2 0)
+headFault (h ∷ ws) = cond (ltb mostWords (length (h ∷ ws))) 1 (cond (ltb 1 h) 2 0)

@@ -1,16 +1,16 @@
 // Compares document 01's examples that the calls on lists can reach: a line a vector, its name and 'ok', or what came instead.
-use lists::equal;
-use lists::implies;
+use asking::equal;
+use asking::implies;
+use asking::value_at;
+use asking::value_in;
 use lists::list_fault;
-use lists::tidy;
-use lists::value_at;
-use lists::value_in;
 use signals::Date;
 use signals::Length;
 use signals::Sum;
 use signals::Told;
 use signals::Verdict;
 use signals::Written;
+use tidying::tidy;
 
 // An answer as a number: a value as it is, a fault with a million before it.
 fn fault_code(fault: u32) -> u64 {

@@ -19,7 +19,7 @@ use Rattle.signals.proofs.WordFacts.{date-le}
 use Rattle.signals.proofs.Scan.{Held, scan-to, scan-settled}
 use Rattle.signals.proofs.Operand.{Ahead, pass-word, words-rise, value-none}
 use Rattle.signals.proofs.Normal.{last-le, start, acceptedNormal, lastDate-bound}
-use Rattle.lists.proofs.Giving.{within}
+use Rattle.signals.proofs.Giving.{within}
 use Rattle.operations.specs.Calls.{exactOfOne, exactOfTwo, faultOfOne, faultOfTwo}
 use Rattle.operations.specs.CallFaults.{Breaks6, Words32, NeverLonger, NeverMet}
 use Rattle.operations.proofs.CallFaults.{callFaultsExact}

@@ -13,8 +13,8 @@ use Rattle.signals.specs.Answers.{faultIn, writtenOf, outputOf}
 use Rattle.signals.specs.declared.Written.{Written}
 use Rattle.signals.proofs.Normal.{acceptedNormal, listOfSignal, accepted-settled}
 use Rattle.signals.proofs.Settling.{settling}
-use Rattle.lists.specs.Giving.{WithinM, Gives}
-use Rattle.lists.proofs.Giving.{no-fault, gives}
+use Rattle.signals.specs.Giving.{WithinM, Gives}
+use Rattle.signals.proofs.Giving.{no-fault, gives}
 use Rattle.operations.specs.Calls.{exactOfOne, exactOfTwo, exactOfDelay, faultOfOne, faultOfTwo, faultOfDelay}
 use Rattle.operations.specs.CallFaults.{Breaks6, AnswerFaults}
 use Rattle.operations.specs.OperationsGive.{OneGives, TwoGive, DelayGives, OperationsGive}

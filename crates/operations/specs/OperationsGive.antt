@@ -7,7 +7,7 @@ use Rattle.signals.specs.Signal.{Signal, Table, NOT, connective, rising, fallin
 use Rattle.signals.specs.Words.{signalOf}
 use Rattle.signals.specs.Answers.{faultIn}
 use Rattle.signals.specs.declared.Written.{Written}
-use Rattle.lists.specs.Giving.{Gives}
+use Rattle.signals.specs.Giving.{Gives}
 use Rattle.operations.specs.Calls.{CallOfOne, CallOfTwo, CallOfDelay}
 
 -- of one operand, of two, of a length and one

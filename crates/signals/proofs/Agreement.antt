@@ -8,8 +8,10 @@ use lib.Dec.{leb}
 use borrow.Author.Tests.{leb-true, leb-false, le-leb}
 use Rattle.signals.specs.Moment.{isGap, justBefore, opens, inOpen, inClosed, started, fromTo}
 use Rattle.signals.specs.Signal.{Signal, Table, implied, some, every, NOT, connective, AND, OR, rising, falling, SR, RS, TON, TOF}
-use Rattle.signals.specs.Quantified.{Up, Down, InOpen, InClosed, Before, Started, FromTo, UpNOT, UpConnective, UpAND, UpOR, UpRising, UpFalling, UpSR, UpRS, UpTON, UpTOF, Agreement}
-use Rattle.signals.proofs.Truth.{not-up, not-of, and-left, and-right, and-of, or-cases, or-left, or-right, implied-use, implied-of, some-up, some-of, every-up, every-of}
+use Rattle.signals.specs.Quantified.{Up, Down, InOpen, InClosed, Before, Started, FromTo, UpNOT, UpConnective, UpAND, UpOR, UpRising}
+use Rattle.signals.specs.Quantified.{UpFalling, UpSR, UpRS, UpTON, UpTOF, Agreement}
+use Rattle.signals.proofs.Truth.{not-up, not-of, and-left, and-right, and-of, or-cases, or-left, or-right, implied-use, implied-of}
+use Rattle.signals.proofs.Truth.{some-up, some-of, every-up, every-of}
 
 -- the spans of moments
 pub inOpen-up : (t1 t n : ℕ) → Up (inOpen t1 t n) → InOpen t1 t n
@@ -138,7 +140,8 @@ held-up span s r t e =
       t1,
       leb-true (opens t1) t (and-left (leb (opens t1) t) (s t1 && v) w),
       and-left (s t1) v w2,
-      λ n l m. not-up (r n) (implied-use (span t1 n) (not (r n)) (every-up (λ n. implied (span t1 n) (not (r n))) t (and-right (s t1) v w2) n l) m),
+      λ n l m. not-up (r n)
+          (implied-use (span t1 n) (not (r n)) (every-up (λ n. implied (span t1 n) (not (r n))) t (and-right (s t1) v w2) n l) m),
     )
 
 held-of : (span : ℕ → ℕ → Bool) (s r : Signal) (t : ℕ) → Held span s r t → Up (some (held span s r t) t)

@@ -12,7 +12,8 @@ use borrow.Author.Tests.{eqb-true, eqb-false, ne-eqb, lt-ltb, le-ltb, ltb-true, 
 use Rattle.signals.specs.Moment.{M, gap, instant}
 use Rattle.signals.specs.Answers.{faultOfSum, totalIn, pastM, sumFor, faultIn, countIn, writtenOf}
 use Rattle.signals.specs.Answers.{faultOfTold, valueIn, toldOf, faultOfVerdict, failsFirst, failsIn, judgedBy, verdictFor}
-use Rattle.signals.specs.AnswersSay.{GivenSum, GivenWritten, GivenTold, GivenVerdict, SumSays, WrittenSays, ToldSays, VerdictSays, AnswersSay}
+use Rattle.signals.specs.AnswersSay.{GivenSum, GivenWritten, GivenTold, GivenVerdict, SumSays, WrittenSays, ToldSays, VerdictSays}
+use Rattle.signals.specs.AnswersSay.{AnswersSay}
 use Rattle.signals.specs.declared.Sum.{Sum}
 use Rattle.signals.specs.declared.Sum.the-variants as sum
 use Rattle.signals.specs.declared.Written.{Written}
@@ -136,7 +137,8 @@ pub toldSays : ToldSays
 toldSays = record { fault = told-fault; value = told-value; refused = told-refused; given = told-given; every = told-every }
 
 -- a claim's
-fails-cases : (P : ℕ → Verdict → Type 0) → ((k : ℕ) → P (gap k) (verdict.FailsAfter k)) → ((k : ℕ) → 1 ≤ k → P (instant k) (verdict.FailsAt k))
+fails-cases : (P : ℕ → Verdict → Type 0) → ((k : ℕ) → P (gap k) (verdict.FailsAfter k))
+    → ((k : ℕ) → 1 ≤ k → P (instant k) (verdict.FailsAt k))
     → (t : ℕ) → P t (failsIn t)
 fails-cases P in-gap at-instant t =
     ⊎-elim

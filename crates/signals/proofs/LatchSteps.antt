@@ -12,7 +12,8 @@ use Rattle.signals.proofs.Truth.{bool-ext, not-up, not-of, and-left, an
 use Rattle.signals.proofs.Agreement.{SR-up, SR-of, RS-up1, RS-of1, OneRS, le-opens}
 
 -- r is down up to m + 1 when it is down up to m and at m + 1
-down-more : (r : Signal) (from m : ℕ) → ((n : ℕ) → from ≤ n → n ≤ m → Down (r n)) → Down (r (suc m)) → (n : ℕ) → from ≤ n → n ≤ suc m → Down (r n)
+down-more : (r : Signal) (from m : ℕ) → ((n : ℕ) → from ≤ n → n ≤ m → Down (r n)) → Down (r (suc m)) → (n : ℕ) → from ≤ n → n ≤ suc m
+    → Down (r n)
 down-more r from m h d n l u = ⊎-elim (λ v. h n l v) (λ e. rw e d) (le-cases n m u)
 
 -- RS: gaps and instants alike
@@ -90,9 +91,11 @@ SR-instant s r t g = bool-ext _ _ there back
 
     extend : Down (r t) → Down (r (suc t)) → UpSR s r t → Up (SR s r (suc t))
     extend d e (inl u) =
-        SR-of s r (suc t) (inr (t, omega arith, u, λ n i. ⊎-elim (λ l. let q : n ≡ t = omega (arith, i .0) in rw q d) (λ q. rw q e) (le-cases n t (i .1))))
+        SR-of s r (suc t) (inr
+        (t, omega arith, u, λ n i. ⊎-elim (λ l. let q : n ≡ t = omega (arith, i .0) in rw q d) (λ q. rw q e) (le-cases n t (i .1))))
     extend d e (inr h) =
-        SR-of s r (suc t) (inr (h .0, omega (arith, h .1), h .2, λ n i. down-more r (opens (h .0)) t (λ m a b. h .3 m (a, b)) e n (i .0) (i .1)))
+        SR-of s r (suc t) (inr
+        (h .0, omega (arith, h .1), h .2, λ n i. down-more r (opens (h .0)) t (λ m a b. h .3 m (a, b)) e n (i .0) (i .1)))
 
     back : Up (atInstant s r t) → Up (SR s r (suc t))
     back e =
@@ -142,7 +145,8 @@ SR-gap s r t g = bool-ext _ _ there back
     extend e (inl u) =
         SR-of s r (suc t) (inr (t, omega arith, u, λ n i. let q : n ≡ suc t = omega (arith, i .0, i .1) in rw q e))
     extend e (inr h) =
-        SR-of s r (suc t) (inr (h .0, omega (arith, h .1), h .2, λ n i. down-more r (opens (h .0)) t (λ m a b. h .3 m (a, b)) e n (i .0) (i .1)))
+        SR-of s r (suc t) (inr
+        (h .0, omega (arith, h .1), h .2, λ n i. down-more r (opens (h .0)) t (λ m a b. h .3 m (a, b)) e n (i .0) (i .1)))
 
     back : Up (s (suc t) || (SR s r t && not (r (suc t)))) → Up (SR s r (suc t))
     back e =
@@ -169,7 +173,8 @@ next-instant k = omega arith
 next-gap : (k : ℕ) → gap (suc k) ≡ suc (instant (suc k))
 next-gap k = omega arith
 
-SR-at : (s r : Signal) (k : ℕ) → SR s r (instant (suc k)) ≡ (s (instant (suc k)) || ((not (r (gap k)) && SR s r (gap k)) && not (r (instant (suc k)))))
+SR-at : (s r : Signal) (k : ℕ)
+    → SR s r (instant (suc k)) ≡ (s (instant (suc k)) || ((not (r (gap k)) && SR s r (gap k)) && not (r (instant (suc k)))))
 SR-at s r k = rw (next-instant k) (SR-instant s r (gap k) (omega arith))
 
 pub SR-after : (s r : Signal) (k : ℕ) → SR s r (gap (suc k)) ≡ (s (gap (suc k)) || (SR s r (instant (suc k)) && not (r (gap (suc k)))))
@@ -211,7 +216,8 @@ carried-SR : (s r : Signal) (k : ℕ) → carried true s r k ≡ (not (r (gap k)
 unfolding carried
 carried-SR s r zero = first-carried (s 0) (r 0) ∙ ap (λ (x : Bool). not (r 0) && x) (sym (SR-first s r))
 carried-SR s r (suc k) =
-    ap (λ (x : Bool). gapStep (s (gap (suc k))) (r (gap (suc k))) (s (instant (suc k)) || (x && not (r (instant (suc k)))))) (carried-SR s r k)
+    ap (λ (x : Bool). gapStep (s (gap (suc k))) (r (gap (suc k))) (s (instant (suc k)) || (x && not (r (instant (suc k))))))
+    (carried-SR s r k)
     ∙ ap (gapStep (s (gap (suc k))) (r (gap (suc k)))) (sym (SR-at s r k))
     ∙ carried-shown (s (gap (suc k))) (r (gap (suc k))) (SR s r (instant (suc k)))
     ∙ ap (λ (x : Bool). not (r (gap (suc k))) && x) (sym (SR-after s r k))
@@ -220,11 +226,13 @@ carried-RS : (s r : Signal) (k : ℕ) → carried false s r k ≡ RS s r (gap k)
 unfolding carried
 carried-RS s r zero = first-carried-RS (s 0) (r 0) ∙ sym (RS-first s r)
 carried-RS s r (suc k) =
-    ap (λ (x : Bool). gapStep (s (gap (suc k))) (r (gap (suc k))) (not (r (instant (suc k))) && (s (instant (suc k)) || x))) (carried-RS s r k)
+    ap (λ (x : Bool). gapStep (s (gap (suc k))) (r (gap (suc k))) (not (r (instant (suc k))) && (s (instant (suc k)) || x)))
+    (carried-RS s r k)
     ∙ ap (gapStep (s (gap (suc k))) (r (gap (suc k)))) (sym (RS-at s r k))
     ∙ sym (RS-after s r k)
 
-pub latch-at : (setWins : Bool) (s r : Signal) (k : ℕ) → latch setWins s r (instant (suc k)) ≡ atStep setWins (s (instant (suc k))) (r (instant (suc k))) (carried setWins s r k)
+pub latch-at : (setWins : Bool) (s r : Signal) (k : ℕ)
+    → latch setWins s r (instant (suc k)) ≡ atStep setWins (s (instant (suc k))) (r (instant (suc k))) (carried setWins s r k)
 latch-at true s r k = rw (carried-SR s r k) (SR-at s r k)
 latch-at false s r k = rw (carried-RS s r k) (RS-at s r k)
 

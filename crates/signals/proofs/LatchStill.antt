@@ -45,8 +45,11 @@ module _ (w : Bool) (s r : Signal) (k d : ℕ) (a b : Bool) (ss : Still s k d a)
   -- the bit carried in a gap of the span
   form : (j : ℕ) → k ≤ j → j < d → (x : Bool) × (carried w s r j ≡ gapStep a b x)
   form j l u =
-      let f : (x : Bool) × (carried w s r j ≡ gapStep (s (gap j)) (r (gap j)) x) = carried-form w s r j in
-      (f .0, f .1 ∙ ap₂ (λ (p q : Bool). gapStep p q (f .0)) (ss (gap j) (omega arith) (omega arith)) (rr (gap j) (omega arith) (omega arith)))
+      let f : (x : Bool) × (carried w s r j ≡ gapStep (s (gap j)) (r (gap j)) x) = carried-form w s r j in (
+        f .0,
+        f .1 ∙ ap₂ (λ (p q : Bool). gapStep p q (f .0)) (ss (gap j) (omega arith) (omega arith))
+            (rr (gap j) (omega arith) (omega arith)),
+      )
 
   step : (j : ℕ) → k ≤ j → suc j < d → carried w s r (suc j) ≡ carried w s r j
   unfolding carried
@@ -97,13 +100,15 @@ module _ (w : Bool) (s r : Signal) (k d : ℕ) (a b : Bool) (ss : Still s k d a)
       atInstant (suc j) m e = ap (latch w s r) e ∙ still-instant j (omega arith) (omega arith)
 
 -- what instant d and gap d make of the bit carried in gap k
-pub latch-next : (w : Bool) (s r : Signal) (k d : ℕ) (a b : Bool) → Still s k d a → Still r k d b → k < d → latch w s r (instant d) ≡ atStep w (s (instant d)) (r (instant d)) (carried w s r k)
+pub latch-next : (w : Bool) (s r : Signal) (k d : ℕ) (a b : Bool) → Still s k d a → Still r k d b → k < d
+    → latch w s r (instant d) ≡ atStep w (s (instant d)) (r (instant d)) (carried w s r k)
 latch-next w s r k zero a b ss rr l = absurd (omega arith)
 latch-next w s r k (suc d) a b ss rr l =
     latch-at w s r d
     ∙ ap (atStep w (s (instant (suc d))) (r (instant (suc d)))) (carried-still w s r k (suc d) a b ss rr d (omega arith) (omega arith))
 
-pub carried-next : (w : Bool) (s r : Signal) (k d : ℕ) (a b : Bool) → Still s k d a → Still r k d b → k < d → carried w s r d ≡ gapStep (s (gap d)) (r (gap d)) (atStep w (s (instant d)) (r (instant d)) (carried w s r k))
+pub carried-next : (w : Bool) (s r : Signal) (k d : ℕ) (a b : Bool) → Still s k d a → Still r k d b → k < d
+    → carried w s r d ≡ gapStep (s (gap d)) (r (gap d)) (atStep w (s (instant d)) (r (instant d)) (carried w s r k))
 unfolding carried
 carried-next w s r k zero a b ss rr l = absurd (omega arith)
 carried-next w s r k (suc d) a b ss rr l =
@@ -135,7 +140,8 @@ unfolding carried
 carried-first w s r a b p q = ap₂ (λ (x y : Bool). gapStep x y false) p q
 
 -- operands that stand still for good
-pub latch-settled : (w : Bool) (s r : Signal) (k : ℕ) (a b : Bool) → ((t : ℕ) → gap k ≤ t → s t ≡ a) → ((t : ℕ) → gap k ≤ t → r t ≡ b) → (t : ℕ) → gap k ≤ t → latch w s r t ≡ latch w s r (gap k)
+pub latch-settled : (w : Bool) (s r : Signal) (k : ℕ) (a b : Bool) → ((t : ℕ) → gap k ≤ t → s t ≡ a) → ((t : ℕ) → gap k ≤ t → r t ≡ b)
+    → (t : ℕ) → gap k ≤ t → latch w s r t ≡ latch w s r (gap k)
 latch-settled w s r k a b ss rr t l =
     latch-still w s r k (t + 1) a b (λ u m n. ss u m) (λ u m n. rr u m) t l (omega arith)
     ∙ sym (latch-still w s r k (t + 1) a b (λ u m n. ss u m) (λ u m n. rr u m) (gap k) (omega arith) (omega arith))

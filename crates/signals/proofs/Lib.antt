@@ -21,3 +21,5 @@ pub mod HeadFaults
 pub mod ListFaults
 pub mod TidyFaults
 pub mod Tidying
+pub mod Unchanged
+pub mod Giving

@@ -11,12 +11,14 @@ use borrow.Author.Tests.{lt-leb, leb-false, ltb-true, ltb-false}
 use lib.ListN.{length, getD}
 use Rattle.signals.specs.Moment.{gap, instant}
 use Rattle.signals.specs.Signal.{Signal}
-use Rattle.signals.specs.Words.{word, dateOf, valueAt, valueAfter, headValue, changesNothing, wordsFault, listFault, valueFrom, signalOf, lastFrom, lastDate, wordsOf, listOf}
+use Rattle.signals.specs.Words.{word, dateOf, valueAt, valueAfter, headValue, changesNothing, wordsFault, listFault, valueFrom}
+use Rattle.signals.specs.Words.{signalOf, lastFrom, lastDate, wordsOf, listOf}
 use Rattle.signals.specs.Settled.{SettledFrom, entry}
 use Rattle.signals.specs.Normal.{Normal, Accepted, Rising, DatesRise, AcceptedNormal, Unique, UniqueAccepted, ListOfSignal, ReadBack}
 use Rattle.signals.proofs.WordFacts.{dateOf-word, valueAt-word, valueAfter-word, word-of, num-le, headValue-num, num-headValue}
 use Rattle.signals.proofs.Scan.{scan-to, scan-settled, listOf-more, listOf-ext}
-use Rattle.signals.proofs.Operand.{Ahead, At, at-start, pass-word, words-rise, value-none, value-before, value-at, value-after, value-held}
+use Rattle.signals.proofs.Operand.{Ahead, At, at-start, pass-word, words-rise, value-none, value-before, value-at, value-after}
+use Rattle.signals.proofs.Operand.{value-held}
 
 -- the last date lies at or above the date before
 pub last-le : (k : ℕ) (ws : List ℕ) → Rising k ws → k ≤ lastFrom k ws
@@ -46,13 +48,15 @@ pub sound : (k : ℕ) (v : Bool) (w : ℕ) (ws : List ℕ) → wordsFault k v (w
 unfolding wordsFault
 sound k v w ws h = go (leb (dateOf w) k) (changesNothing v w) refl refl h
   where
-    go : (t u : Bool) → leb (dateOf w) k ≡ t → changesNothing v w ≡ u → cond t 3 (cond u 4 (wordsFault (dateOf w) (valueAfter w) ws)) ≡ 0 → Sound k v w ws
+    go : (t u : Bool) → leb (dateOf w) k ≡ t → changesNothing v w ≡ u → cond t 3 (cond u 4 (wordsFault (dateOf w) (valueAfter w) ws)) ≡ 0
+        → Sound k v w ws
     go true u p q z = absurd (omega arith)
     go false true p q z = absurd (omega arith)
     go false false p q z = record { above = leb-false (dateOf w) k p; changes = q; rest = z }
 
 -- the scan of an operand gives its words back
-pub read-words : (f : Signal) (m k : ℕ) (v : Bool) (ws : List ℕ) → Ahead f k v ws → wordsFault k v ws ≡ 0 → lastFrom k ws ≤ m → wordsOf f k (m - k) ≡ ws
+pub read-words : (f : Signal) (m k : ℕ) (v : Bool) (ws : List ℕ) → Ahead f k v ws → wordsFault k v ws ≡ 0 → lastFrom k ws ≤ m
+    → wordsOf f k (m - k) ≡ ws
 unfolding lastFrom
 read-words f m k v [] a h le = scan-settled f (m - k) k v (λ t g. a .says t g ∙ value-none v t)
 read-words f m k v (w ∷ ws) a h le =
@@ -102,9 +106,13 @@ acceptedNormal [] = (λ e. absurd (omega arith), λ p. absurd (p .0))
 acceptedNormal (h ∷ ws) = go (ltb 256 (length (h ∷ ws))) (ltb 1 h) refl refl
   where
     go : (t u : Bool) → ltb 256 (length (h ∷ ws)) ≡ t → ltb 1 h ≡ u
-        → (cond (ltb 256 (length (h ∷ ws))) 1 (cond (ltb 1 h) 2 (wordsFault 0 (headValue h) ws)) ≡ 0) ↔ (Normal (h ∷ ws) × (length (h ∷ ws) ≤ 256))
-    go true u p q =
-        (λ e. let z : _≡_ {A = ℕ} 1 0 = rw p at e in absurd (omega arith), λ n. absurd (omega (arith, ltb-true 256 (length (h ∷ ws)) p, n .1)))
+        → (cond (ltb 256 (length (h ∷ ws))) 1 (cond (ltb 1 h) 2 (wordsFault 0 (headValue h) ws)) ≡ 0) ↔
+        (Normal (h ∷ ws) × (length (h ∷ ws) ≤ 256))
+    go true u p q = (
+      λ e. let z : _≡_ {A = ℕ} 1 0 = rw p at e in absurd (omega arith),
+      λ n. absurd
+          (omega (arith, ltb-true 256 (length (h ∷ ws)) p, n .1)),
+    )
     go false true p q =
         (λ e. let z : _≡_ {A = ℕ} 2 0 = rw (p, q) at e in absurd (omega arith), λ n. absurd (omega (arith, ltb-true 1 h q, n .0 .0)))
     go false false p q =

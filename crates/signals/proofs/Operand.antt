@@ -37,7 +37,8 @@ unfolding valueFrom
 value-at v w ws =
     rw (le-ltb (instant (dateOf w)) (instant (dateOf w)) (omega arith), eq-eqb (instant (dateOf w)) (instant (dateOf w)) refl)
 
-pub value-after : (v : Bool) (w : ℕ) (ws : List ℕ) (t : ℕ) → 1 ≤ dateOf w → gap (dateOf w) ≤ t → valueFrom v (w ∷ ws) t ≡ valueFrom (valueAfter w) ws t
+pub value-after : (v : Bool) (w : ℕ) (ws : List ℕ) (t : ℕ) → 1 ≤ dateOf w → gap (dateOf w) ≤ t
+    → valueFrom v (w ∷ ws) t ≡ valueFrom (valueAfter w) ws t
 unfolding valueFrom
 value-after v w ws t h l =
     rw (le-ltb t (instant (dateOf w)) (omega arith), ne-eqb t (instant (dateOf w)) (omega arith))
@@ -55,15 +56,23 @@ pass-none f k e v a l =
       record { says = λ t g. a .says t (omega arith); rises = tt },
     )
 
-pub pass-before : (f : Signal) (k e : ℕ) (v : Bool) (w : ℕ) (ws : List ℕ) → Ahead f k v (w ∷ ws) → k < e → e < dateOf w → Held f k e v v v × Ahead f e v (w ∷ ws)
+pub pass-before : (f : Signal) (k e : ℕ) (v : Bool) (w : ℕ) (ws : List ℕ) → Ahead f k v (w ∷ ws) → k < e → e < dateOf w → Held f k e v v v
+    × Ahead f e v (w ∷ ws)
 pass-before f k e v w ws a l u =
     let still : (t : ℕ) → gap k ≤ t → t < instant (dateOf w) → f t ≡ v = λ t g o. a .says t g ∙ value-before v w ws t o in (
-      record { later = l; still = λ t g o. still t g (omega arith); at = still (instant e) (omega arith) (omega arith); after = still (gap e) (omega arith) (omega arith) },
+      record {
+        later = l;
+        still = λ t g o. still t g (omega arith);
+        at = still (instant e) (omega arith) (omega arith);
+        after = still
+            (gap e) (omega arith) (omega arith);
+      },
       record { says = λ t g. a .says t (omega arith); rises = (u, a .rises .1) },
     )
 
 -- passing the date of the first word left
-pub pass-word : (f : Signal) (k : ℕ) (v : Bool) (w : ℕ) (ws : List ℕ) → Ahead f k v (w ∷ ws) → Held f k (dateOf w) v (valueAt w) (valueAfter w) × Ahead f (dateOf w) (valueAfter w) ws
+pub pass-word : (f : Signal) (k : ℕ) (v : Bool) (w : ℕ) (ws : List ℕ) → Ahead f k v (w ∷ ws)
+    → Held f k (dateOf w) v (valueAt w) (valueAfter w) × Ahead f (dateOf w) (valueAfter w) ws
 pass-word f k v w ws a =
     let later : k < dateOf w = a .rises .0 in
     let on : (t : ℕ) → gap (dateOf w) ≤ t → f t ≡ valueFrom (valueAfter w) ws t =

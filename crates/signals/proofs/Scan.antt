@@ -23,7 +23,8 @@ entry-none true d = refl
 entry-none false d = refl
 
 -- one date of the scan
-pub wordsOf-suc : (s : Signal) (k n : ℕ) → wordsOf s k (suc n) ≡ entry (s (gap k)) (suc k) (s (instant (suc k))) (s (gap (suc k))) ++ wordsOf s (suc k) n
+pub wordsOf-suc : (s : Signal) (k n : ℕ)
+    → wordsOf s k (suc n) ≡ entry (s (gap k)) (suc k) (s (instant (suc k))) (s (gap (suc k))) ++ wordsOf s (suc k) n
 unfolding wordsOf entry
 wordsOf-suc s k n =
     let at : instant (suc k) ≡ gap k + 1 = omega arith in
@@ -43,14 +44,16 @@ pub record Held (s : Signal) (k d : ℕ) (v a b : Bool) : Type 0 where
   pub after : s (gap d) ≡ b
 
 -- (a) a stretch without change gives no words: the scan from k is the entry of date d before the scan from d
-pub scan-step : (s : Signal) (n k d : ℕ) (v a b : Bool) → Held s k d v a b → d ≤ k + n → wordsOf s k n ≡ entry v d a b ++ wordsOf s d (k + n - d)
+pub scan-step : (s : Signal) (n k d : ℕ) (v a b : Bool) → Held s k d v a b → d ≤ k + n
+    → wordsOf s k n ≡ entry v d a b ++ wordsOf s d (k + n - d)
 scan-step s zero k d v a b h le = absurd (omega (arith, h .later))
 scan-step s (suc n) k d v a b h le = go (ℕ-discrete (suc k) d) (λ on. scan-step s n (suc k) d v a b on (omega arith))
   where
     here : s (gap k) ≡ v
     here = h .still (gap k) (omega arith) (omega (arith, h .later))
 
-    go : Dec (suc k ≡ d) → (Held s (suc k) d v a b → wordsOf s (suc k) n ≡ entry v d a b ++ wordsOf s d (suc k + n - d)) → wordsOf s k (suc n) ≡ entry v d a b ++ wordsOf s d (k + suc n - d)
+    go : Dec (suc k ≡ d) → (Held s (suc k) d v a b → wordsOf s (suc k) n ≡ entry v d a b ++ wordsOf s d (suc k + n - d))
+        → wordsOf s k (suc n) ≡ entry v d a b ++ wordsOf s d (k + suc n - d)
     go (yes e) rec =
         let left : n ≡ k + suc n - d = omega arith in
         let at : s (instant (suc k)) ≡ a = rw e (h .at) in
@@ -65,7 +68,8 @@ scan-step s (suc n) k d v a b h le = go (ℕ-discrete (suc k) d) (λ on. scan-st
         wordsOf-suc s k n ∙ rw (here, at, after, entry-none, ← left) (rec on)
 
 -- the same over a fixed horizon m, as loops use it
-pub scan-to : (s : Signal) (m k d : ℕ) (v a b : Bool) → Held s k d v a b → d ≤ m → wordsOf s k (m - k) ≡ entry v d a b ++ wordsOf s d (m - d)
+pub scan-to : (s : Signal) (m k d : ℕ) (v a b : Bool) → Held s k d v a b → d ≤ m
+    → wordsOf s k (m - k) ≡ entry v d a b ++ wordsOf s d (m - d)
 scan-to s m k d v a b h le =
     let left : k + (m - k) - d ≡ m - d = omega (arith, h .later) in
     rw (← left) (scan-step s (m - k) k d v a b h (omega (arith, h .later)))
@@ -96,7 +100,8 @@ scan-more s zero m k h le =
 scan-more s (suc n) zero k h le = absurd (omega arith)
 scan-more s (suc n) (suc m) k h le =
     let e : suc k + n ≡ k + suc n = omega arith in
-    wordsOf-suc s k m ∙ ap (λ l. entry (s (gap k)) (suc k) (s (instant (suc k))) (s (gap (suc k))) ++ l) (scan-more s n m (suc k) (rw e h) (omega arith)) ∙ sym (wordsOf-suc s k n)
+    wordsOf-suc s k m ∙ ap (λ l. entry (s (gap k)) (suc k) (s (instant (suc k))) (s (gap (suc k))) ++ l)
+    (scan-more s n m (suc k) (rw e h) (omega arith)) ∙ sym (wordsOf-suc s k n)
 
 pub listOf-more : (s : Signal) (n m : ℕ) → SettledFrom s n → n ≤ m → listOf s m ≡ listOf s n
 unfolding listOf

@@ -9,7 +9,8 @@ use borrow.Author.Tests.{ltb-true, ltb-false, eqb-true, eqb-false}
 use mathlib.Core.List.{List, [], _∷_}
 use Rattle.signals.specs.Moment.{isGap, justBefore, opens, inOpen, inClosed, started, fromTo}
 use Rattle.signals.specs.Signal.{Signal, constant, some, every, rising, falling, SR, RS, TON, TOF}
-use Rattle.signals.specs.Words.{word, dateOf, valueAt, valueAfter, headValue, changesNothing, wordsFault, listFault, valueFrom, signalOf, lastFrom, lastDate, wordsOf, listOf}
+use Rattle.signals.specs.Words.{word, dateOf, valueAt, valueAfter, headValue, changesNothing, wordsFault, listFault, valueFrom}
+use Rattle.signals.specs.Words.{signalOf, lastFrom, lastDate, wordsOf, listOf}
 use Rattle.signals.specs.Quantified.{Up}
 use Rattle.signals.specs.Settled.{SettledFrom, Same}
 use Rattle.signals.specs.Starred.{Gives, Starred, f-list, e-list, l-list, f, e, l, one}
@@ -74,11 +75,13 @@ unfolding listFault wordsFault changesNothing valueAt valueAfter headValue dateO
 l-settled = accepted-settled l-list refl
 
 ton3f : Gives (TON 3 f) (0 ∷ 35 ∷ 36 ∷ [])
-unfolding listOf wordsOf word signalOf valueFrom listFault wordsFault changesNothing valueAt valueAfter headValue dateOf TON every started fromTo
+unfolding listOf wordsOf word signalOf valueFrom listFault wordsFault changesNothing valueAt valueAfter headValue dateOf TON every started
+    fromTo
 ton3f = gives (TON 3 f) 12 0 (35 ∷ 36 ∷ []) (settling .ton 3 f 9 f-settled) refl refl
 
 ton4f : Gives (TON 4 f) (0 ∷ [])
-unfolding listOf wordsOf word signalOf valueFrom listFault wordsFault changesNothing valueAt valueAfter headValue dateOf TON every started fromTo
+unfolding listOf wordsOf word signalOf valueFrom listFault wordsFault changesNothing valueAt valueAfter headValue dateOf TON every started
+    fromTo
 ton4f = gives (TON 4 f) 13 0 [] (settling .ton 4 f 9 f-settled) refl refl
 
 tof2f : Gives (TOF 2 f) (0 ∷ 23 ∷ 44 ∷ [])
@@ -90,35 +93,43 @@ unfolding listOf wordsOf word signalOf valueFrom listFault wordsFault changesNot
 tof2e = gives (TOF 2 e) 7 0 (23 ∷ 30 ∷ []) (settling .tof 2 e 5 e-settled) refl refl
 
 ton0e : Gives (TON 0 e) (0 ∷ 22 ∷ [])
-unfolding listOf wordsOf word signalOf valueFrom listFault wordsFault changesNothing valueAt valueAfter headValue dateOf TON every started fromTo
+unfolding listOf wordsOf word signalOf valueFrom listFault wordsFault changesNothing valueAt valueAfter headValue dateOf TON every started
+    fromTo
 ton0e = gives (TON 0 e) 5 0 (22 ∷ []) (settling .ton 0 e 5 e-settled) refl refl
 
 ton3one : Gives (TON 3 one) (0 ∷ 15 ∷ [])
-unfolding listOf wordsOf word signalOf valueFrom listFault wordsFault changesNothing valueAt valueAfter headValue dateOf TON every started fromTo constant
+unfolding listOf wordsOf word signalOf valueFrom listFault wordsFault changesNothing valueAt valueAfter headValue dateOf TON every started
+    fromTo constant
 ton3one = gives (TON 3 one) 3 0 (15 ∷ []) (settling .ton 3 one 0 (settling .constants true)) refl refl
 
 risingF : Gives (rising f) (0 ∷ 22 ∷ [])
-unfolding listOf wordsOf word signalOf valueFrom listFault wordsFault changesNothing valueAt valueAfter headValue dateOf rising isGap justBefore
+unfolding listOf wordsOf word signalOf valueFrom listFault wordsFault changesNothing valueAt valueAfter headValue dateOf rising isGap
+    justBefore
 risingF = gives (rising f) 9 0 (22 ∷ []) (settling .rises f 9 f-settled) refl refl
 
 risingL : Gives (rising l) (0 ∷ [])
-unfolding listOf wordsOf word signalOf valueFrom listFault wordsFault changesNothing valueAt valueAfter headValue dateOf rising isGap justBefore
+unfolding listOf wordsOf word signalOf valueFrom listFault wordsFault changesNothing valueAt valueAfter headValue dateOf rising isGap
+    justBefore
 risingL = gives (rising l) 5 0 [] (settling .rises l 5 l-settled) refl refl
 
 fallingE : Gives (falling e) (0 ∷ [])
-unfolding listOf wordsOf word signalOf valueFrom listFault wordsFault changesNothing valueAt valueAfter headValue dateOf falling isGap justBefore
+unfolding listOf wordsOf word signalOf valueFrom listFault wordsFault changesNothing valueAt valueAfter headValue dateOf falling isGap
+    justBefore
 fallingE = gives (falling e) 5 0 [] (settling .falls e 5 e-settled) refl refl
 
 srEE : Gives (SR e e) (0 ∷ 23 ∷ [])
-unfolding listOf wordsOf word signalOf valueFrom listFault wordsFault changesNothing valueAt valueAfter headValue dateOf SR some every opens inOpen
+unfolding listOf wordsOf word signalOf valueFrom listFault wordsFault changesNothing valueAt valueAfter headValue dateOf SR some every opens
+    inOpen
 srEE = gives (SR e e) 5 0 (23 ∷ []) (settling .sr e e 5 5 e-settled e-settled) refl refl
 
 rsEE : Gives (RS e e) (0 ∷ [])
-unfolding listOf wordsOf word signalOf valueFrom listFault wordsFault changesNothing valueAt valueAfter headValue dateOf RS some every opens inClosed
+unfolding listOf wordsOf word signalOf valueFrom listFault wordsFault changesNothing valueAt valueAfter headValue dateOf RS some every opens
+    inClosed
 rsEE = gives (RS e e) 5 0 [] (settling .rs e e 5 5 e-settled e-settled) refl refl
 
 srFF : Gives (SR f f) (0 ∷ 23 ∷ 36 ∷ [])
-unfolding listOf wordsOf word signalOf valueFrom listFault wordsFault changesNothing valueAt valueAfter headValue dateOf SR some every opens inOpen
+unfolding listOf wordsOf word signalOf valueFrom listFault wordsFault changesNothing valueAt valueAfter headValue dateOf SR some every opens
+    inOpen
 srFF = gives (SR f f) 9 0 (23 ∷ 36 ∷ []) (settling .sr f f 9 9 f-settled f-settled) refl refl
 
 pub starred : Starred

@@ -8,7 +8,8 @@ use lib.Dec.{ltb}
 use lib.ListN.{length, length-append}
 use borrow.Author.Tests.{ltb-false}
 use Rattle.signals.specs.Signal.{Signal}
-use Rattle.signals.specs.Words.{word, dateOf, valueAt, valueAfter, headValue, datesFault, tidyFault, signalOf, lastFrom, lastDate, wordsOf, listOf}
+use Rattle.signals.specs.Words.{word, dateOf, valueAt, valueAfter, headValue, datesFault, tidyFault, signalOf, lastFrom, lastDate}
+use Rattle.signals.specs.Words.{wordsOf, listOf}
 use Rattle.signals.specs.Settled.{SettledFrom, Same, entry}
 use Rattle.signals.specs.Normal.{Normal, Rising}
 use Rattle.signals.specs.Tidying.{tidied, Tidying}
@@ -54,7 +55,8 @@ entry-length v d a b = go (Bool·beq a v && Bool·beq b v)
     go true = omega arith
     go false = omega arith
 
-pub scan-length : (f : Signal) (m k : ℕ) (v : Bool) (ws : List ℕ) → Ahead f k v ws → lastFrom k ws ≤ m → length (wordsOf f k (m - k)) ≤ length ws
+pub scan-length : (f : Signal) (m k : ℕ) (v : Bool) (ws : List ℕ) → Ahead f k v ws → lastFrom k ws ≤ m
+    → length (wordsOf f k (m - k)) ≤ length ws
 unfolding lastFrom
 scan-length f m k v [] a le = rw (scan-settled f (m - k) k v (λ t g. a .says t g ∙ value-none v t)) (omega arith)
 scan-length f m k v (w ∷ ws) a le =
@@ -96,7 +98,9 @@ tidying =
       normal = tidied-normal;
       accepted = λ l z. acceptedNormal (tidied l) .1 (tidied-normal l z, omega (arith, tidied-shorter l z, short l z));
       denotes = tidied-denotes;
-      one = λ l m y z s. unique (tidied l) (tidied m) (tidied-normal l y) (tidied-normal m z) (λ t. tidied-denotes l y t ∙ s t ∙ sym (tidied-denotes m z t));
+      one =
+          λ l m y z s. unique (tidied l) (tidied m) (tidied-normal l y) (tidied-normal m z)
+          (λ t. tidied-denotes l y t ∙ s t ∙ sym (tidied-denotes m z t));
       keeps = λ l a. readBack l (acceptedNormal l .0 a .0) .same;
       shorter = tidied-shorter;
     }

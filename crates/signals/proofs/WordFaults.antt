@@ -45,7 +45,8 @@ pub fine-cons : (k : ℕ) (v : Bool) (w : ℕ) (ws : List ℕ) (i : ℕ) → Fin
 fine-cons k v w ws i f = (λ h. f .0 (omega (arith, h .0), h .1), λ h. f .1 (omega (arith, h .0), h .1, h .2))
 
 -- all words up to i are fine when the first is and the following up to i are
-pub fine-all : (k : ℕ) (v : Bool) (w : ℕ) (ws : List ℕ) → Fine k v (w ∷ ws) 0 → (i : ℕ) → ((j : ℕ) → j < i → Fine (dateOf w) (valueAfter w) ws j)
+pub fine-all : (k : ℕ) (v : Bool) (w : ℕ) (ws : List ℕ) → Fine k v (w ∷ ws) 0 → (i : ℕ)
+    → ((j : ℕ) → j < i → Fine (dateOf w) (valueAfter w) ws j)
     → (j : ℕ) → j < suc i → Fine k v (w ∷ ws) j
 fine-all k v w ws f i h zero l = f
 fine-all k v w ws f i h (suc j) l = fine-cons k v w ws j (h j (omega arith))
@@ -82,7 +83,8 @@ unfolding wordsFault changesNothing
 says-words k v [] = λ i. (λ h. omega (arith, h .0), λ h. omega (arith, h .0))
 says-words k v (w ∷ ws) = go (leb (dateOf w) k) (changesNothing v w) refl refl (says-words (dateOf w) (valueAfter w) ws)
   where
-    go : (t u : Bool) → leb (dateOf w) k ≡ t → changesNothing v w ≡ u → Says (wordsFault (dateOf w) (valueAfter w) ws) (dateOf w) (valueAfter w) ws
+    go : (t u : Bool) → leb (dateOf w) k ≡ t → changesNothing v w ≡ u
+        → Says (wordsFault (dateOf w) (valueAfter w) ws) (dateOf w) (valueAfter w) ws
         → Says (wordsFault k v (w ∷ ws)) k v (w ∷ ws)
     go true u p q rec = rw p (0, (omega arith, leb-true (dateOf w) k p), λ j l. absurd (omega arith))
     go false true p q rec =

@@ -18,3 +18,4 @@ pub mod Settling
 pub mod Checks
 pub mod ListFaults
 pub mod Tidying
+pub mod Giving

@@ -7,7 +7,8 @@ use lib.Dec.{leb, eqb}
 abbrev pub M : ℕ
 M = 1073741823
 
--- A moment is either the instant k (k from 1) or the gap k (k from 0). They are numbered in their order: gap 0, instant 1, gap 1, instant 2.
+-- A moment is either the instant k (k from 1) or the gap k (k from 0). They are numbered in their order: gap 0, instant 1,
+-- gap 1, instant 2.
 abbrev pub gap : ℕ → ℕ
 gap k = 2 * k
 

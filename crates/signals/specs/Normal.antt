@@ -36,7 +36,8 @@ Unique = (l m : List ℕ) → Normal l → Normal m → Same (signalOf l) (signa
 abbrev pub UniqueAccepted : Type 0
 UniqueAccepted = (l m : List ℕ) → Accepted l → Accepted m → Same (signalOf l) (signalOf m) → l ≡ m
 
--- The list of a signal that settles is normal, denotes the signal at every moment, and does not depend on the date up to which it is computed.
+-- The list of a signal that settles is normal, denotes the signal at every moment, and does not depend on the date up to which
+-- it is computed.
 pub record ListOf (s : Signal) (n : ℕ) : Type 0 where
   pub normal : Normal (listOf s n)
   pub denotes : Same (signalOf (listOf s n)) s

@@ -6,6 +6,7 @@ use lib.Dec.{leb, ltb, eqb}
 use lib.ListN.{length}
 use Rattle.signals.specs.Moment.{gap, instant}
 use Rattle.signals.specs.Signal.{Signal, num}
+use Rattle.signals.specs.Answers.{firstOf}
 
 -- A later word is 4 × date + 2 × (value at it) + (value after it).
 unfoldable pub word : ℕ → Bool → Bool → ℕ
@@ -39,15 +40,23 @@ unfoldable pub datesFault : ℕ → List ℕ → ℕ
 datesFault last [] = 0
 datesFault last (w ∷ ws) = cond (leb (dateOf w) last) 3 (datesFault (dateOf w) ws)
 
+-- the most words that a list has
+abbrev pub mostWords : ℕ
+mostWords = 256
+
 -- The fault of a list, 0 for an accepted one: 1 empty or over 256 words, 2 first word above 1, then 3 and 4 word by word.
 unfoldable pub listFault : List ℕ → ℕ
 listFault [] = 1
-listFault (h ∷ ws) = cond (ltb 256 (length (h ∷ ws))) 1 (cond (ltb 1 h) 2 (wordsFault 0 (headValue h) ws))
+listFault (h ∷ ws) = cond (ltb mostWords (length (h ∷ ws))) 1 (cond (ltb 1 h) 2 (wordsFault 0 (headValue h) ws))
 
 -- The fault of a list to be tidied: 1, 2, 3.
 unfoldable pub tidyFault : List ℕ → ℕ
 tidyFault [] = 1
-tidyFault (h ∷ ws) = cond (ltb 256 (length (h ∷ ws))) 1 (cond (ltb 1 h) 2 (datesFault 0 ws))
+tidyFault (h ∷ ws) = cond (ltb mostWords (length (h ∷ ws))) 1 (cond (ltb 1 h) 2 (datesFault 0 ws))
+
+-- The fault of two lists, first operand first.
+unfoldable pub pairFault : List ℕ → List ℕ → ℕ
+pairFault a b = firstOf (listFault a) (listFault b)
 
 -- What the words after the first denote, `before` being the value before them: before its date a word says nothing, at its
 -- date it gives its first value, from the gap after it on its second, until the next word's date.
@@ -70,7 +79,8 @@ unfoldable pub lastDate : List ℕ → ℕ
 lastDate [] = 0
 lastDate (h ∷ ws) = lastFrom 0 ws
 
--- The words of a signal for the n dates after date k: a word for each date at which, or after which, the value is not that of the gap before.
+-- The words of a signal for the n dates after date k: a word for each date at which, or after which, the value is not
+-- that of the gap before.
 unfoldable pub wordsOf : Signal → ℕ → ℕ → List ℕ
 wordsOf s k zero = []
 wordsOf s k (suc n) =

@@ -1,10 +1,15 @@
-// Dates, lengths, the one operation that adds them, and the answers that the crates above share.
+// Dates, lengths, the one operation that adds them, words, and the answers that the crates above share.
 ghost use mathlib.Core.Path.{_≡_};
+ghost use Prim.Native.Nat.{min};
+ghost use Rattle.signals.specs.Signal.{num};
 ghost use Rattle.signals.specs.Answers.{sumOf};
-ghost use Rattle.signals.specs.Words.{word};
+ghost use Rattle.signals.specs.Words.{word, changesNothing};
 
 // The largest date and the largest length.
 pub const M: u32 = 1073741823;
+
+// The most words that a list has.
+pub const WORDS: usize = 256;
 
 // A date counts ticks from the start.
 pub struct Date(pub u32);
@@ -69,4 +74,25 @@ pub fn word_of(date: Date, at: bool, after: bool) -> u64
     } else {
         if after { w + 1 } else { w }
     }
+}
+
+// Both values of the word equal the value before it.
+pub fn changes_nothing(before: bool, w: u32) -> bool
+    ensures { λ r. ⌜ r ≡ changesNothing before w ⌝ }
+{
+    if before { w % 4 == 3 } else { w % 4 == 0 }
+}
+
+// The earlier of two dates.
+pub fn earlier(a: Date, b: Date) -> Date
+    ensures { λ r. ⌜ r .0 ≡ min (a .0) (b .0) ⌝ }
+{
+    if a.0 < b.0 { a } else { b }
+}
+
+// A value as the index of its row or column in a table: 0 for down, 1 for up.
+pub fn index(v: bool) -> usize
+    ensures { λ r. ⌜ r ≡ num v ⌝ }
+{
+    if v { 1 } else { 0 }
 }

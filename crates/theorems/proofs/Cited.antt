@@ -108,17 +108,17 @@ laws-Substitutions-SubstitutionsExact = Rattle.laws.proofs.Substitutions.substi
 pub laws-WrongTurns-WrongTurns : Rattle.laws.specs.WrongTurns.WrongTurns
 laws-WrongTurns-WrongTurns = Rattle.laws.proofs.WrongTurns.wrong-turns
 
-pub lists-Equality-Equality : Rattle.lists.specs.Equality.Equality
-lists-Equality-Equality = Rattle.lists.proofs.Equality.equality
+pub questions-Equality-Equality : Rattle.questions.specs.Equality.Equality
+questions-Equality-Equality = Rattle.questions.proofs.Equality.equality
 
-pub lists-Giving-TidyingGives : Rattle.lists.specs.Giving.TidyingGives
-lists-Giving-TidyingGives = Rattle.lists.proofs.Giving.tidyingGives
+pub tidying-TidyingGives-TidyingGives : Rattle.tidying.specs.TidyingGives.TidyingGives
+tidying-TidyingGives-TidyingGives = Rattle.tidying.proofs.TidyingGives.tidying-gives
 
-pub lists-Implication-Implication : Rattle.lists.specs.Implication.Implication
-lists-Implication-Implication = Rattle.lists.proofs.Implication.implication
+pub questions-Implication-Implication : Rattle.questions.specs.Implication.Implication
+questions-Implication-Implication = Rattle.questions.proofs.Implication.implication
 
 pub lists-ReaderSays-ReaderSays : Rattle.lists.specs.ReaderSays.ReaderSays
-lists-ReaderSays-ReaderSays = Rattle.lists.proofs.ReaderSays.readerSays
+lists-ReaderSays-ReaderSays = Rattle.lists.proofs.ReaderSays.reader-says
 
 pub operations-CallFaults-CallFaultsExact : Rattle.operations.specs.CallFaults.CallFaultsExact
 operations-CallFaults-CallFaultsExact = Rattle.operations.proofs.CallFaults.callFaultsExact

@@ -25,7 +25,11 @@ P words passed r = r .0 ≡ nextDate words passed
 pub next-date-spec : {M : Type 1} → stated.statement M
 unfolding code.routine tablesOf
 next-date-spec 𝓤 H 𝓜 𝓖 𝓡 =
-    entered 𝓤 H (Plain R.the-row P 𝓤 H (𝓖 .A)) (tables 𝓤 H 𝓜 𝓡 code.env .C) (tables 𝓤 H 𝓜 𝓡 code.env .Λ) #next-date code.function (code.unfolded 𝓤 H 𝓜 𝓡)
-    (above-meets R.the-row P R′.mir maker.name callee.name (λ r u is. LL.lawful R.the-type R′.the-laws 𝓤 H (𝓖 .A) (givenOf 𝓤 H 𝓜 𝓖) .typed r _ is .0) 𝓤 H (𝓖 .A) (givenOf 𝓤 H 𝓜 𝓖) (tablesOf 𝓤 H 𝓜 (tables 𝓤 H 𝓜 𝓡 code.env))
+    entered 𝓤 H (Plain R.the-row P 𝓤 H (𝓖 .A)) (tables 𝓤 H 𝓜 𝓡 code.env .C) (tables 𝓤 H 𝓜 𝓡 code.env .Λ) #next-date code.function
+    (code.unfolded 𝓤 H 𝓜 𝓡)
+    (above-meets R.the-row P R′.mir maker.name callee.name
+    (λ r u is. LL.lawful R.the-type R′.the-laws 𝓤 H (𝓖 .A) (givenOf 𝓤 H 𝓜 𝓖) .typed r _ is .0) 𝓤 H (𝓖 .A) (givenOf 𝓤 H 𝓜 𝓖)
+    (tablesOf 𝓤 H 𝓜 (tables 𝓤 H 𝓜 𝓡 code.env))
     (cited 𝓤 H (Made 𝓤 H (𝓖 .A)) 𝓜 𝓡 code.env maker.name maker.routine code.calls-lists·reader-at (maker-thm.met 𝓤 H 𝓜 𝓖 𝓡))
-    (cited 𝓤 H (OfReader R.the-row P 𝓤 H (𝓖 .A)) 𝓜 𝓡 code.env callee.name callee.routine code.calls-lists·Reader·next-date (callee-thm.met 𝓤 H 𝓜 𝓖 𝓡)))
+    (cited 𝓤 H (OfReader R.the-row P 𝓤 H (𝓖 .A)) 𝓜 𝓡 code.env callee.name callee.routine code.calls-lists·Reader·next-date
+    (callee-thm.met 𝓤 H 𝓜 𝓖 𝓡)))

@@ -20,7 +20,8 @@ add-t17 c = search needs
 returns : tie.Need-returns
 unfolding dateOf valueAt valueAfter
 returns c =
-    step-taken _ _ _ _ (c .before .before .before .before .held-value-at .ensures) (is-next _ _ _ (c .before .before .before .if1 .taken) (c .if2 .taken))
+    step-taken _ _ _ _ (c .before .before .before .before .held-value-at .ensures)
+    (is-next _ _ _ (c .before .before .before .if1 .taken) (c .if2 .taken))
 
 returns-2 : tie.Need-returns-2
 unfolding dateOf valueAt valueAfter

@@ -10,7 +10,8 @@ use Rattle.lists.proofs.words_fault.Statement.{statement}
 use Rattle.lists.proofs.words_fault.Tie as tie
 
 abbrev Inv-loop : tie.InvT-loop
-Inv-loop list passed₀ last₀ before₀ passed last before = (passed ≤ length list) × (wordsFault 0 (headValue (getD list 0 0)) (drop 1 list) ≡ wordsFault last before (drop passed list))
+Inv-loop list passed₀ last₀ before₀ passed last before =
+    (passed ≤ length list) × (wordsFault 0 (headValue (getD list 0 0)) (drop 1 list) ≡ wordsFault last before (drop passed list))
 
 abbrev μ-loop : tie.MeasureT-loop
 μ-loop list passed₀ last₀ before₀ passed last before = length list - passed
@@ -30,14 +31,18 @@ shared-slice-read-w c = search needs
 
 returns : tie.Need-returns Inv-loop μ-loop
 unfolding dateOf
-returns c = sym (c .before .before .before .loop .inv .1 ∙ fault-3 _ _ _ _ (c .before .before .loop-test .taken) (omega (arith, c .if1 .taken)))
+returns c =
+    sym (c .before .before .before .loop .inv .1 ∙ fault-3 _ _ _ _ (c .before .before .loop-test .taken) (omega (arith, c .if1 .taken)))
 
 changes-nothing-requires : tie.Need-changes-nothing-requires Inv-loop μ-loop
 changes-nothing-requires c κs = search needs
 
 returns-2 : tie.Need-returns-2 Inv-loop μ-loop
 unfolding dateOf
-returns-2 c = sym (c .before .before .before .before .before .loop .inv .1 ∙ fault-4 _ _ _ _ (c .before .before .before .before .loop-test .taken) (c .before .before .if1 .left) (sym (c .before .changes-nothing .ensures) ∙ c .if2 .taken))
+returns-2 c =
+    sym (c .before .before .before .before .before .loop .inv .1
+    ∙ fault-4 _ _ _ _ (c .before .before .before .before .loop-test .taken) (c .before .before .if1 .left)
+    (sym (c .before .changes-nothing .ensures) ∙ c .if2 .taken))
 
 add-passed : tie.Need-add-passed Inv-loop μ-loop
 add-passed c = search needs
@@ -47,7 +52,12 @@ loop-less c = search needs
 
 loop-again : tie.Need-loop-again Inv-loop μ-loop
 unfolding dateOf valueAfter
-loop-again c = (omega arith, c .before .before .before .before .before .loop .inv .1 ∙ no-fault _ _ _ _ (c .before .before .before .before .loop-test .taken) (c .before .before .if1 .left) (sym (c .before .changes-nothing .ensures) ∙ c .if2 .left))
+loop-again c = (
+  omega arith,
+  c .before .before .before .before .before .loop .inv .1
+      ∙ no-fault _ _ _ _ (c .before .before .before .before .loop-test .taken) (c .before .before .if1 .left)
+      (sym (c .before .changes-nothing .ensures) ∙ c .if2 .left),
+)
 
 returns-3 : tie.Need-returns-3 Inv-loop μ-loop
 returns-3 c = sym (c .before .loop .inv .1 ∙ done _ _ _ _ (c .loop-test .left))

@@ -22,6 +22,8 @@ P words passed r = r ≡ heldValue words passed
 pub held-spec : {M : Type 1} → stated.statement M
 unfolding code.routine tablesOf
 held-spec 𝓤 H 𝓜 𝓖 𝓡 =
-    entered 𝓤 H (OfReader bool P 𝓤 H (𝓖 .A)) (tables 𝓤 H 𝓜 𝓡 code.env .C) (tables 𝓤 H 𝓜 𝓡 code.env .Λ) #held code.function (code.unfolded 𝓤 H 𝓜 𝓡)
-    (apart-meets bool P tyBool callee.name (λ r u is. bool-lawful 𝓤 H (𝓖 .A) (givenOf 𝓤 H 𝓜 𝓖) .typed r _ is .0) 𝓤 H (𝓖 .A) (givenOf 𝓤 H 𝓜 𝓖) (tablesOf 𝓤 H 𝓜 (tables 𝓤 H 𝓜 𝓡 code.env))
+    entered 𝓤 H (OfReader bool P 𝓤 H (𝓖 .A)) (tables 𝓤 H 𝓜 𝓡 code.env .C) (tables 𝓤 H 𝓜 𝓡 code.env .Λ) #held code.function
+    (code.unfolded 𝓤 H 𝓜 𝓡)
+    (apart-meets bool P tyBool callee.name (λ r u is. bool-lawful 𝓤 H (𝓖 .A) (givenOf 𝓤 H 𝓜 𝓖) .typed r _ is .0) 𝓤 H (𝓖 .A)
+    (givenOf 𝓤 H 𝓜 𝓖) (tablesOf 𝓤 H 𝓜 (tables 𝓤 H 𝓜 𝓡 code.env))
     (cited 𝓤 H (Plain bool P 𝓤 H (𝓖 .A)) 𝓜 𝓡 code.env callee.name callee.routine code.calls-lists·held-value-at (callee-thm.met 𝓤 H 𝓜 𝓖 𝓡)))

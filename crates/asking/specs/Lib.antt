@@ -1,0 +1,2 @@
+-- What the search and the scan find.
+pub mod Finding

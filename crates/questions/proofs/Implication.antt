@@ -1,0 +1,29 @@
+-- The verdict on two accepted lists is that on their signals.
+use Prim.Native.Nat.{ℕ, _≤_}
+use mathlib.Core.Path.{_≡_, refl}
+use mathlib.Core.Logic.{_↔_}
+use mathlib.Core.List.{List}
+use Rattle.signals.specs.Moment.{gap, instant}
+use Rattle.signals.specs.Words.{listFault, pairFault, signalOf}
+use Rattle.signals.specs.Normal.{Accepted}
+use Rattle.signals.specs.Implication.{verdictOf}
+use Rattle.signals.specs.Earliest.{Judged}
+use Rattle.signals.proofs.Implication.{verdict-judged, failsIn-instant, failsIn-gap}
+use Rattle.questions.specs.Questions.{laterLast, impliesOf}
+use Rattle.questions.specs.Implication.{Claimed, Implication}
+use Rattle.questions.proofs.LaterLast.{settled-a, settled-b}
+use Rattle.signals.specs.Answers.{firstOf, verdictFor}
+
+verdict-is : (a b : List ℕ) → Accepted a → Accepted b → impliesOf a b ≡ verdictOf (signalOf a) (signalOf b) (laterLast a b)
+unfolding impliesOf verdictFor pairFault firstOf
+verdict-is a b za zb = rw (za, zb)
+
+pub implication : Implication
+implication a b za zb =
+    let j = verdict-judged (signalOf a) (signalOf b) (laterLast a b) (settled-a a b za zb) (settled-b a b za zb) in
+    record {
+      holds = rw (verdict-is a b za zb) (j .holds);
+      failsAt = λ k l. rw (verdict-is a b za zb) (rw (failsIn-instant k l) at (j .fails (instant k)));
+      failsAfter = λ k. rw (verdict-is a b za zb) (rw (failsIn-gap k) at (j .fails (gap k)));
+      either = rw (verdict-is a b za zb) (j .either);
+    }

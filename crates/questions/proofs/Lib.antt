@@ -1,0 +1,4 @@
+-- Proofs of the statements of specs/.
+pub mod LaterLast
+pub mod Equality
+pub mod Implication
