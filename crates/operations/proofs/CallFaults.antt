@@ -16,7 +16,7 @@ use Rattle.signals.specs.Quantified.{Up, Down}
 use Rattle.signals.specs.Normal.{Accepted}
 use Rattle.signals.proofs.Truth.{up-or-down, not-both, or-cases, or-left, or-right}
 use Rattle.signals.proofs.ListFaults.{list-fault-range}
-use Rattle.operations.specs.Calls.{changesAfterM, answerFault, lengthFault, pairFault, exactOfOne, exactOfTwo, exactOfDelay, faultOfOne, faultOfTwo, faultOfDelay}
+use Rattle.operations.specs.Calls.{changesAfterM, answerFault, lengthFault, pairFault, exactOfOne, exactOfTwo, exactOfDelay, faultOfOne, faultOfTwo, faultOfDelay, partFault, roomFault}
 use Rattle.operations.specs.CallFaults.{Breaks5, Breaks6, Breaks7, Breaks8, AnswerFaults, FaultsOfOne, FaultsOfTwo, FaultsOfDelay, CallFaultsExact}
 use Rattle.operations.proofs.JudgedCalls.{pair-none}
 use Rattle.signals.specs.Answers.{firstOf}
@@ -46,7 +46,7 @@ data Ways (fault : ℕ) (exact : List ℕ) (n : ℕ) : Type 0 where
   whole : fault ≡ 0 → (¬ Breaks5 exact) → (¬ Breaks6 exact) → (¬ Breaks7 exact n) → Ways fault exact n
 
 answer-ways : (exact : List ℕ) (n : ℕ) → Ways (answerFault exact n) exact n
-unfolding answerFault
+unfolding answerFault partFault roomFault firstOf
 answer-ways exact n = go (ltb 256 (length exact)) (changesAfterM exact) (ltb n (length exact)) refl refl refl
   where
     not-long : ltb 256 (length exact) ≡ false → ¬ Breaks5 exact
@@ -56,7 +56,7 @@ answer-ways exact n = go (ltb 256 (length exact)) (changesAfterM exact) (ltb n (
     not-late q b = not-both (late-of exact b) q
 
     go : (t u v : Bool) → ltb 256 (length exact) ≡ t → changesAfterM exact ≡ u → ltb n (length exact) ≡ v
-        → Ways (cond (ltb 256 (length exact)) 5 (cond (changesAfterM exact) 6 (cond (ltb n (length exact)) 7 0))) exact n
+        → Ways (answerFault exact n) exact n
     go true u v p q r = long (rw p) (ltb-true 256 (length exact) p)
     go false true v p q r = late (rw (p, q)) (not-long p) (late-up exact q)
     go false false true p q r = short (rw (p, q, r)) (not-long p) (not-late q) (ltb-true n (length exact) r)
@@ -301,5 +301,5 @@ of-delay operation d a n =
     back b (inl g) = g .0
     back b (inr g) = absurd (g .1 b)
 
-pub callFaultsExact : CallFaultsExact
-callFaultsExact = record { one = of-one; two = of-two; delay = of-delay }
+pub call-faults-exact : CallFaultsExact
+call-faults-exact = record { one = of-one; two = of-two; delay = of-delay }

@@ -134,9 +134,9 @@ late-change s n h = (forth, back)
         go (yes l) = placed k m (change-word s n 0 k (omega arith) (omega arith) c)
         go (no o) = absurd (settled-still s n k h (omega arith) c)
 
-pub changeIsWord : ChangeIsWord
+pub change-is-word : ChangeIsWord
 unfolding exactOfDelay
-changeIsWord =
+change-is-word =
     record {
       signal = late-change;
       ton = λ d a h. late-change (TON d (signalOf a)) (lastDate a + d) (settling .ton d (signalOf a) (lastDate a) (accepted-settled a h));

@@ -1,20 +1,6 @@
-pub mod Emitting
-pub mod BuildingLaws
-pub mod Scanning
-pub mod Copying
-pub mod MergeCases
-pub mod MergeHeld
-pub mod MergeTurn
+-- The proofs of the statements of specs/, and the order of a call's faults.
 pub mod JudgedCalls
-pub mod OneOperand
 pub mod CallFaults
 pub mod LateWords
 pub mod NeverMet
 pub mod OperationsGive
-pub mod DelayCases
-pub mod DelaySignals
-pub mod DelayTiming
-pub mod DelayUpcoming
-pub mod DelayTurn
-pub mod DelayLoop
-pub mod DelayJudged

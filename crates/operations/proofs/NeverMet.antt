@@ -22,7 +22,7 @@ use Rattle.signals.proofs.Normal.{last-le, start, acceptedNormal, lastDate-boun
 use Rattle.signals.proofs.Giving.{within}
 use Rattle.operations.specs.Calls.{exactOfOne, exactOfTwo, faultOfOne, faultOfTwo}
 use Rattle.operations.specs.CallFaults.{Breaks6, Words32, NeverLonger, NeverMet}
-use Rattle.operations.proofs.CallFaults.{callFaultsExact}
+use Rattle.operations.proofs.CallFaults.{call-faults-exact}
 
 -- g keeps the value that it has in gap k for as long as f does
 abbrev Follows : Signal → Signal → Type 0
@@ -106,18 +106,19 @@ falling-follows f k t l h =
 on-time : (s : Signal) (n : ℕ) → n ≤ M → ¬ Breaks6 (listOf s n)
 on-time s n h (i, l, m) = omega (arith, within s n h i l)
 
-last-32 : (a : List ℕ) → Words32 a → lastDate a ≤ M
+-- a list of 32-bit words has no date after M
+pub last-32 : (a : List ℕ) → Words32 a → lastDate a ≤ M
 last-32 a h = lastDate-bound M a (λ i l. date-le (getD a i 0) (h i l))
 
 never-5 : (operation : Signal → Signal) → NeverLonger operation → (a : List ℕ) (n : ℕ) → ¬ (faultOfOne operation a n ≡ 5)
 never-5 operation short a n e =
-    let g = callFaultsExact .one operation a n .answer .five .0 e in
+    let g = call-faults-exact .one operation a n .answer .five .0 e in
     omega (arith, g .1, short a (g .0), acceptedNormal a .0 (g .0) .1)
 
 never-6-one : (operation : Signal → Signal) (a : List ℕ) (n : ℕ) → Words32 a → ¬ (faultOfOne operation a n ≡ 6)
 unfolding exactOfOne
 never-6-one operation a n h e =
-    on-time (operation (signalOf a)) (lastDate a) (last-32 a h) (callFaultsExact .one operation a n .answer .six .0 e .2)
+    on-time (operation (signalOf a)) (lastDate a) (last-32 a h) (call-faults-exact .one operation a n .answer .six .0 e .2)
 
 never-6-two : (operation : Signal → Signal → Signal) (a b : List ℕ) (n : ℕ) → Words32 a → Words32 b → ¬ (faultOfTwo operation a b n ≡ 6)
 unfolding exactOfTwo
@@ -126,10 +127,10 @@ never-6-two operation a b n h k e =
     (operation (signalOf a) (signalOf b))
     (max (lastDate a) (lastDate b))
     (omega (arith, last-32 a h, last-32 b k))
-    (callFaultsExact .two operation a b n .answer .six .0 e .2)
+    (call-faults-exact .two operation a b n .answer .six .0 e .2)
 
-pub neverMet : NeverMet
-neverMet =
+pub never-met : NeverMet
+never-met =
     record {
       notLonger = never-longer NOT NOT-follows;
       risingLonger = never-longer rising rising-follows;

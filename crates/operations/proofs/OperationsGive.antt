@@ -18,7 +18,7 @@ use Rattle.signals.proofs.Giving.{no-fault, gives}
 use Rattle.operations.specs.Calls.{exactOfOne, exactOfTwo, exactOfDelay, faultOfOne, faultOfTwo, faultOfDelay}
 use Rattle.operations.specs.CallFaults.{Breaks6, AnswerFaults}
 use Rattle.operations.specs.OperationsGive.{OneGives, TwoGive, DelayGives, OperationsGive}
-use Rattle.operations.proofs.CallFaults.{callFaultsExact}
+use Rattle.operations.proofs.CallFaults.{call-faults-exact}
 
 in-time : (exact : List ℕ) → (¬ Breaks6 exact) → WithinM exact
 in-time exact none i l = go (decLe (dateOf (getD exact i 0)) M)
@@ -60,7 +60,7 @@ one-gives operation settles a out answer after call z =
     (faultOfOne operation a (length out))
     _
     out
-    (callFaultsExact .one operation a (length out) .answer)
+    (call-faults-exact .one operation a (length out) .answer)
     (λ s. settles (signalOf a) (lastDate a) (accepted-settled a s))
     answer
     after
@@ -77,7 +77,7 @@ two-give operation settles a b out answer after call z =
     (faultOfTwo operation a b (length out))
     _
     out
-    (callFaultsExact .two operation a b (length out) .answer)
+    (call-faults-exact .two operation a b (length out) .answer)
     (λ s. settles (signalOf a) (signalOf b) (lastDate a) (lastDate b) (accepted-settled a (s .0)) (accepted-settled b (s .1)))
     answer
     after
@@ -94,15 +94,15 @@ delay-gives operation settles d a out answer after call z =
     (faultOfDelay (operation d) d a (length out))
     _
     out
-    (callFaultsExact .delay (operation d) d a (length out) .answer)
+    (call-faults-exact .delay (operation d) d a (length out) .answer)
     (λ s. settles d (signalOf a) (lastDate a) (accepted-settled a (s .0)))
     answer
     after
     call
     z
 
-pub operationsGive : OperationsGive
-operationsGive =
+pub operations-give : OperationsGive
+operations-give =
     record {
       not = one-gives NOT (settling .not);
       connectives = λ table. two-give (connective table) (settling .tables table);

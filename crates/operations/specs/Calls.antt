@@ -1,25 +1,32 @@
 -- Each operation on lists as a call: its faults in document 01's order, its exact answer, its output.
 use Prim.Native.Nat.{ℕ, _+_, max}
 use mathlib.Core.Path.{_≡_}
-use mathlib.Core.Bool.{Bool, true, false, cond, _||_}
+use mathlib.Core.Bool.{Bool, false, cond, _||_}
 use mathlib.Core.List.{List, [], _∷_}
-use lib.Dec.{ltb, eqb}
+use lib.Dec.{ltb}
 use lib.ListN.{length}
-use Rattle.signals.specs.Answers.{writtenOf, outputOf}
+use Rattle.signals.specs.Answers.{firstOf, writtenOf, outputOf}
 use Rattle.signals.specs.declared.Written.{Written}
 use Rattle.signals.specs.Moment.{M}
-use Rattle.signals.specs.Signal.{Signal, Table, NOT, connective, rising, falling, SR, RS, TON, TOF}
+use Rattle.signals.specs.Signal.{Signal}
 use Rattle.signals.specs.Words.{dateOf, listFault, signalOf, lastDate, listOf}
-use Rattle.signals.specs.Answers.{firstOf}
 
 -- a word of the list is dated after M
 unfoldable pub changesAfterM : List ℕ → Bool
 changesAfterM [] = false
 changesAfterM (w ∷ ws) = ltb M (dateOf w) || changesAfterM ws
 
--- 5: the exact answer is over 256 words, those past M counted; 6: it changes after M; 7: the output, of n words, is shorter
+-- 5: the exact answer is over 256 words, those past M counted; 6: it changes after M; 5 where both apply
+unfoldable pub partFault : List ℕ → ℕ
+partFault exact = cond (ltb 256 (length exact)) 5 (cond (changesAfterM exact) 6 0)
+
+-- 7: the output, of n words, is shorter than the answer
+unfoldable pub roomFault : List ℕ → ℕ → ℕ
+roomFault exact n = cond (ltb n (length exact)) 7 0
+
+-- 5, 6, 7
 unfoldable pub answerFault : List ℕ → ℕ → ℕ
-answerFault exact n = cond (ltb 256 (length exact)) 5 (cond (changesAfterM exact) 6 (cond (ltb n (length exact)) 7 0))
+answerFault exact n = firstOf (partFault exact) (roomFault exact n)
 
 -- 8: the length is above M
 unfoldable pub lengthFault : ℕ → ℕ

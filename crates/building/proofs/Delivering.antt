@@ -1,0 +1,113 @@
+-- Copying the front of a slot to an output, word by word; and the call's output from what is delivered.
+use Prim.Native.Nat.{ℕ, suc, _+_, _≤_, _<_}
+use native.Mathlib.Omega.{arith}
+use native.Mathlib.Numerals.{add-one}
+use mathlib.Core.Path.{_≡_, refl, sym, _∙_, ap}
+use mathlib.Core.Bool.{Bool, true, false, cond, _||_}
+use mathlib.Core.List.{List, [], _∷_, _++_, append-assoc}
+use lib.Dec.{ltb, eqb}
+use lib.ListN.{length, take, drop, set, getD}
+use lib.Seq.{take-suc, drop-cons, set-at, length-take-le, take-at}
+use borrow.Author.Tests.{lt-ltb, le-ltb, ltb-false, eqb-true}
+use Rattle.signals.specs.Answers.{firstOf, writtenOf, outputOf}
+use Rattle.signals.specs.declared.Written.{Written}
+use Rattle.signals.specs.declared.Written.the-variants.{Count, Refused}
+use Rattle.signals.proofs.FirstFault.{both-none}
+use Rattle.operations.proofs.JudgedCalls.{part-none}
+use Rattle.operations.specs.Calls.{partFault, roomFault, answerFault, changesAfterM}
+use Rattle.building.specs.Building.{Built, madeFault, Delivers}
+use Rattle.building.specs.declared.Made.{Made}
+use Rattle.building.proofs.BuildingLaws.{slot-short}
+
+copy-step : (s o : List ℕ) (i : ℕ) → i < length s → i < length o
+    → set (take i s ++ drop i o) i (getD s i 0) ≡ take (i + 1) s ++ drop (i + 1) o
+copy-step s o i hs ho =
+    rw (add-one, take-suc s i 0 hs, drop-cons o i 0 ho)
+    (set-at (take i s) (getD o i 0) (drop (suc i) o) (getD s i 0) i (length-take-le i s (omega arith))
+    ∙ sym (append-assoc (take i s) (getD s i 0 ∷ []) (drop (suc i) o)))
+
+pub copy-next : (s o out : List ℕ) (i : ℕ) → out ≡ take i s ++ drop i o → i < length s → i < length o
+    → set out i (getD s i 0) ≡ take (i + 1) s ++ drop (i + 1) o
+copy-next s o out i e hs ho = rw e (copy-step s o i hs ho)
+
+-- the tests that the code makes
+module _ (made : Made) (slot out : List ℕ) where
+  pub too-long : 256 < made .count → Delivers made slot out (Refused 5) out
+  unfolding madeFault writtenOf outputOf
+  too-long h = (rw (lt-ltb 256 (made .count) h), rw (lt-ltb 256 (made .count) h))
+
+  module _ (h : made .count ≤ 256) where
+    pub not-held : length slot < made .count → Delivers made slot out (Refused 5) out
+    unfolding madeFault writtenOf outputOf
+    not-held s =
+        (rw (le-ltb 256 (made .count) h, lt-ltb (length slot) (made .count) s), rw (le-ltb 256 (made .count) h, lt-ltb (length slot) (made .count) s))
+
+    module _ (s : made .count ≤ length slot) where
+      pub too-late : made .late ≡ true → Delivers made slot out (Refused 6) out
+      unfolding madeFault writtenOf outputOf
+      too-late l =
+          (rw (le-ltb 256 (made .count) h, le-ltb (length slot) (made .count) s, l), rw (le-ltb 256 (made .count) h, le-ltb (length slot) (made .count) s, l))
+
+      pub no-room : made .late ≡ false → length out < made .count → Delivers made slot out (Refused 7) out
+      unfolding madeFault writtenOf outputOf
+      no-room l o = (
+        rw (le-ltb 256 (made .count) h, le-ltb (length slot) (made .count) s, l, lt-ltb (length out) (made .count) o),
+        rw (le-ltb 256 (made .count) h, le-ltb (length slot) (made .count) s, l, lt-ltb (length out) (made .count) o),
+      )
+
+      pub whole : made .late ≡ false → made .count ≤ length out → (after : List ℕ) → after ≡ take (made .count) slot ++ drop (made .count) out
+          → Delivers made slot out (Count (made .count)) after
+      unfolding madeFault writtenOf outputOf
+      whole l o after q =
+          let long : length (take (made .count) slot) ≡ made .count = length-take-le (made .count) slot s in (
+            rw (le-ltb 256 (made .count) h, le-ltb (length slot) (made .count) s, l, le-ltb (length out) (made .count) o, long),
+            rw (le-ltb 256 (made .count) h, le-ltb (length slot) (made .count) s, l, le-ltb (length out) (made .count) o, long) q,
+          )
+
+-- a call's words matter where it has no fault
+written-alike : (fault : ℕ) (words exact : List ℕ) → (fault ≡ 0 → words ≡ exact) → writtenOf fault words ≡ writtenOf fault exact
+unfolding writtenOf
+written-alike fault words exact h = go (eqb fault 0) refl
+  where
+    go : (t : Bool) → eqb fault 0 ≡ t → cond t (Count (length words)) (Refused fault) ≡ cond t (Count (length exact)) (Refused fault)
+    go true e = rw (h (eqb-true fault 0 e))
+    go false e = refl
+
+output-alike : (fault : ℕ) (words exact out : List ℕ) → (fault ≡ 0 → words ≡ exact) → outputOf fault words out ≡ outputOf fault exact out
+unfolding outputOf
+output-alike fault words exact out h = go (eqb fault 0) refl
+  where
+    go : (t : Bool) → eqb fault 0 ≡ t → cond t (words ++ drop (length words) out) out ≡ cond t (exact ++ drop (length exact) out) out
+    go true e = rw (h (eqb-true fault 0 e))
+    go false e = refl
+
+-- what is delivered of the whole answer, built in a slot of 256 words or more, is what the call gives
+module _ (exact old slot : List ℕ) (made : Made) (b : Built exact old slot made) (room : 256 ≤ length old) (kept : length slot ≡ length old)
+    (out : List ℕ)
+  where
+    same-fault : madeFault made (length slot) (length out) ≡ answerFault exact (length out)
+    unfolding madeFault answerFault partFault roomFault firstOf
+    same-fault = rw (b .count-is, b .late-is) (go (ltb 256 (length exact)) (changesAfterM exact) (ltb (length out) (length exact)) refl)
+      where
+        go : (t u v : Bool) → ltb 256 (length exact) ≡ t
+            → _≡_ {A = ℕ}
+            (cond (t || ltb (length slot) (length exact)) 5 (cond u 6 (cond v 7 0)))
+            (cond (eqb (cond t 5 (cond u 6 0)) 0) (cond v 7 0) (cond t 5 (cond u 6 0)))
+        go true u v p = refl
+        go false u v p = rw (le-ltb (length slot) (length exact) (omega (arith, ltb-false 256 (length exact) p))) (ways u v)
+          where
+            ways : (u v : Bool) → _≡_ {A = ℕ} (cond u 6 (cond v 7 0)) (cond (eqb (cond u 6 0) 0) (cond v 7 0) (cond u 6 0))
+            ways true v = refl
+            ways false v = refl
+
+    same-words : answerFault exact (length out) ≡ 0 → take (made .count) slot ≡ exact
+    unfolding answerFault
+    same-words z =
+        let p = part-none exact (both-none (partFault exact) (roomFault exact (length out)) z .0) in
+        rw (b .count-is, b .slot-is, slot-short exact old (p .1) (omega (arith, p .0))) (take-at exact (drop (length exact) old) (length exact) refl)
+
+    pub delivered : (r : Written) (after : List ℕ) → Delivers made slot out r after
+        → (r ≡ writtenOf (answerFault exact (length out)) exact) × (after ≡ outputOf (answerFault exact (length out)) exact out)
+    delivered r after d =
+        let e = rw same-fault at d in
+        (e .0 ∙ written-alike _ _ _ same-words, e .1 ∙ output-alike _ _ _ _ same-words)

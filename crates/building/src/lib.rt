@@ -1,0 +1,153 @@
+// How an answer is built word by word in a slot, judged, and handed over.
+ghost use mathlib.Core.Path.{_≡_};
+ghost use mathlib.Core.List.{_++_};
+ghost use Prim.Native.Nat.{_≤_};
+ghost use lib.ListN.{length, take, drop};
+ghost use Rattle.building.specs.Building.{idle, oneMore, Begins, Emits, Delivers};
+ghost use Rattle.building.specs.Slots.{madeAnswer};
+use signals::Date;
+use signals::M;
+use signals::Written;
+
+// The most words that an answer has.
+pub const WORDS: usize = 256;
+
+// The most that a count says, far above the words of any answer.
+const MOST: usize = 18446744073709551615;
+
+// The answer being built in a slot: the value after its last word, its words counted, and whether one is dated after M.
+pub struct Made {
+    pub value: bool,
+    pub count: usize,
+    pub late: bool,
+}
+
+// Both values equal the value before.
+fn idle_word(before: bool, at: bool, after: bool) -> bool
+    ensures { λ r. ⌜ r ≡ idle before at after ⌝ }
+{
+    if before {
+        if at { after } else { false }
+    } else {
+        if at { false } else { !after }
+    }
+}
+
+fn one_more(count: usize) -> usize
+    ensures { λ r. ⌜ r ≡ oneMore count ⌝ }
+{
+    if count < MOST { count + 1 } else { count }
+}
+
+// The first word of an answer.
+pub fn begin(slot: &mut [u32], value: bool) -> Made
+    ensures { λ r. ⌜ Begins value (now (slot .entry)) r (now (slot .exit)) ⌝ }
+{
+    if slot.len() != 0 {
+        if value {
+            slot[0] = 1;
+        } else {
+            slot[0] = 0;
+        }
+    }
+    Made {
+        value,
+        count: 1,
+        late: false,
+    }
+}
+
+// A word of the given date and values, unless it changes nothing: counted always, stored while the slot has room and none
+// is dated after M.
+pub fn emit(slot: &mut [u32], made: Made, date: Date, at: bool, after: bool) -> Made
+    ensures { λ r. ⌜ Emits made (date .0) at after (now (slot .entry)) r (now (slot .exit)) ⌝ }
+{
+    if idle_word(made.value, at, after) {
+        return made;
+    }
+    let count = made.count;
+    let on = date.0;
+    if made.late {
+        return Made {
+            value: after,
+            count: one_more(count),
+            late: true,
+        };
+    }
+    if M < on {
+        return Made {
+            value: after,
+            count: one_more(count),
+            late: true,
+        };
+    }
+    if count < slot.len() {
+        slot[count] = signals::word_of(date, at, after) as u32;
+        return Made {
+            value: after,
+            count: count + 1,
+            late: false,
+        };
+    }
+    Made {
+        value: after,
+        count: one_more(count),
+        late: false,
+    }
+}
+
+// The first count words of a slot, copied to the output.
+fn copy_words(slot: &[u32], count: usize, out: &mut [u32])
+    requires { ⌜ (count ≤ length (now slot)) × (count ≤ length (now out)) ⌝ }
+    ensures { λ r. ⌜ now (out .exit) ≡ take count (now (slot .entry)) ++ drop count (now (out .entry)) ⌝ }
+{
+    let mut i: usize = 0;
+    while i < count {
+        out[i] = slot[i];
+        i += 1;
+    }
+}
+
+// The answer in a slot, judged (5, 6, 7) and handed over.
+pub fn deliver(slot: &[u32], made: Made, out: &mut [u32]) -> Written
+    ensures { λ r. ⌜ Delivers made (now (slot .entry)) (now (out .entry)) r (now (out .exit)) ⌝ }
+{
+    let count = made.count;
+    if WORDS < count {
+        return Written::Refused(5);
+    }
+    if slot.len() < count {
+        return Written::Refused(5);
+    }
+    if made.late {
+        return Written::Refused(6);
+    }
+    if out.len() < count {
+        return Written::Refused(7);
+    }
+    copy_words(slot, count, out);
+    Written::Count(count)
+}
+
+// What a call in a lent slot gives: the answer's words, counted, stand in the slot; or it is over 256 words, or changes after M;
+// or the call did not begin, for a fault of an operand or of the length, or for a slot under 256 words.
+pub enum SlotAnswer {
+    Stands(usize),
+    TooLong,
+    TooLate,
+    NotBegun,
+}
+
+// The answer built in a slot, judged.
+pub fn finish(made: Made) -> SlotAnswer
+    ensures { λ r. ⌜ r ≡ madeAnswer made ⌝ }
+{
+    let count = made.count;
+    if WORDS < count {
+        return SlotAnswer::TooLong;
+    }
+    if made.late {
+        return SlotAnswer::TooLate;
+    }
+    SlotAnswer::Stands(count)
+}

@@ -1,0 +1,127 @@
+-- The date that a delay looks at next: after the date passed, not after the next word's nor the pending one, within the horizon.
+use Prim.Native.Nat.{ℕ, zero, suc, _+_, _*_, _-_, _≤_, _<_}
+use native.Mathlib.Omega.{arith}
+use mathlib.Core.Path.{_≡_, refl, sym, _∙_, ap, subst}
+use mathlib.Core.Bool.{Bool, true, false, cond}
+use mathlib.Core.List.{List, [], _∷_}
+use lib.Dec.{leb, ltb, eqb}
+use lib.ListN.{length, getD, drop}
+use borrow.Author.Tests.{ltb-true, ltb-false, lt-ltb, le-ltb}
+use Rattle.signals.specs.Moment.{M, gap, instant}
+use Rattle.signals.specs.Signal.{Signal}
+use Rattle.signals.specs.Words.{dateOf, lastFrom, lastDate}
+use Rattle.signals.specs.Normal.{Rising}
+use Rattle.signals.specs.Quantified.{Up, Down}
+use Rattle.signals.proofs.Truth.{not-both}
+use Rattle.signals.proofs.Operand.{At, next-later, words-left}
+use Rattle.signals.proofs.Normal.{last-le}
+use Rattle.lists.specs.Reading.{NEVER, nextDate}
+use Rattle.delays.specs.Delay.{upcomingDate}
+use Rattle.delays.specs.declared.Timer.{Timer}
+use Rattle.delays.proofs.DelayCases.{upcoming-due, upcoming-word, upcoming-none}
+use Rattle.delays.proofs.DelayTiming.{momentOf, Timed, timed-ahead}
+
+-- the next word's date is at most the last
+last-drop : (x y j : ℕ) (ws : List ℕ) → j < length ws → lastFrom x ws ≡ lastFrom y (drop j ws)
+unfolding lastFrom
+last-drop x y j [] h = absurd (omega arith)
+last-drop x y zero (w ∷ ws) h = refl
+last-drop x y (suc j) (w ∷ ws) h = last-drop (dateOf w) y j ws (omega arith)
+
+pub next-within : (f : Signal) (l : List ℕ) (p k : ℕ) → At f l p k → p < length l → dateOf (getD l p 0) ≤ lastDate l
+unfolding lastDate lastFrom
+next-within f [] p k a h = absurd (omega arith)
+next-within f (x ∷ ws) zero k a h = absurd (omega (arith, a .one))
+next-within f (x ∷ ws) (suc j) k a h =
+    let left : drop j ws ≡ getD (x ∷ ws) (suc j) 0 ∷ drop (suc j + 1) (x ∷ ws) = words-left (x ∷ ws) (suc j) h in
+    let rises : Rising k (getD (x ∷ ws) (suc j) 0 ∷ drop (suc j + 1) (x ∷ ws)) = subst (λ (r : List ℕ). Rising k r) left (a .ahead .rises) in
+    let e : lastFrom 0 ws ≡ lastFrom k (getD (x ∷ ws) (suc j) 0 ∷ drop (suc j + 1) (x ∷ ws)) = last-drop 0 k j ws (omega arith) ∙ ap (lastFrom k) left in
+    omega (arith, e, last-le (dateOf (getD (x ∷ ws) (suc j) 0)) (drop (suc j + 1) (x ∷ ws)) (rises .1))
+
+next-in : (l : List ℕ) (p : ℕ) → p < length l → nextDate l p ≡ dateOf (getD l p 0)
+unfolding nextDate
+next-in l p h = rw (lt-ltb p (length l) h)
+
+next-end : (l : List ℕ) (p : ℕ) → length l ≤ p → nextDate l p ≡ NEVER
+unfolding nextDate
+next-end l p h = rw (le-ltb p (length l) h)
+
+pub record Upcoming (l : List ℕ) (p : ℕ) (s : Timer) (k n e : ℕ) : Type 0 where
+  pub later : k < e
+  pub by-word : p < length l → e ≤ dateOf (getD l p 0)
+  pub by-due : Up (s .waiting) → e ≤ s .due .0
+  pub within : e < NEVER → e ≤ n
+  pub none : NEVER ≤ e → (length l ≤ p) × Down (s .waiting)
+
+-- what is told of the next word's date
+record NextWord (l : List ℕ) (p k n e : ℕ) : Type 0 where
+  later : k < e
+  by-word : p < length l → e ≤ dateOf (getD l p 0)
+  within : e < NEVER → e ≤ n
+  none : NEVER ≤ e → length l ≤ p
+
+next-word : (f : Signal) (l : List ℕ) (p k n : ℕ) → At f l p k → k ≤ n → lastDate l ≤ M → lastDate l ≤ n → n < NEVER → NextWord l p k n (nextDate l p)
+next-word f l p k n a le early far small = go (ltb p (length l)) refl
+  where
+    go : (b : Bool) → ltb p (length l) ≡ b → NextWord l p k n (nextDate l p)
+    go true q =
+        let h = ltb-true p (length l) q in
+        let e = next-in l p h in
+        let w = next-within f l p k a h in
+        record {
+          later = omega (arith, next-later f l p k a h);
+          by-word = λ i. omega arith;
+          within = λ i. omega arith;
+          none = λ i. absurd (omega arith);
+        }
+    go false q =
+        let h = ltb-false p (length l) q in
+        let e = next-end l p h in
+        record { later = omega arith; by-word = λ i. absurd (omega arith); within = λ i. absurd (omega arith); none = λ i. h }
+
+module _ (f g E : Signal) (l : List ℕ) (p k n : ℕ) (s : Timer) (a : At f l p k) (h : Timed g E n s (gap k)) (le : k ≤ n) (early : lastDate l ≤ M) (far : lastDate l ≤ n) (small : n < NEVER) where
+  due-later : Up (s .waiting) → k < s .due .0
+  due-later w = go (s .at) (timed-ahead g E n s (gap k) h w .0)
+    where
+      go : (x : Bool) → gap k < momentOf x (s .due .0) → k < s .due .0
+      go true q = omega arith
+      go false q = omega arith
+
+  pub upcoming-is : Upcoming l p s k n (upcomingDate l p s)
+  upcoming-is = go (s .waiting) refl (ltb (s .due .0) (nextDate l p)) refl
+    where
+      w : NextWord l p k n (nextDate l p)
+      w = next-word f l p k n a le early far small
+
+      go : (x : Bool) → s .waiting ≡ x → (y : Bool) → ltb (s .due .0) (nextDate l p) ≡ y → Upcoming l p s k n (upcomingDate l p s)
+      go true q true r =
+          let lt = ltb-true (s .due .0) (nextDate l p) r in
+          let e = upcoming-due l p s q lt in
+          let bound = timed-ahead g E n s (gap k) h q .1 in
+          record {
+            later = omega (arith, due-later q);
+            by-word = λ i. omega (arith, w .by-word i);
+            by-due = λ i. omega arith;
+            within = λ i. omega arith;
+            none = λ i. absurd (omega arith);
+          }
+      go true q false r =
+          let ge = ltb-false (s .due .0) (nextDate l p) r in
+          let e = upcoming-word l p s q ge in
+          let bound = timed-ahead g E n s (gap k) h q .1 in
+          record {
+            later = omega (arith, w .later);
+            by-word = λ i. omega (arith, w .by-word i);
+            by-due = λ i. omega arith;
+            within = λ i. omega arith;
+            none = λ i. absurd (omega arith);
+          }
+      go false q y r =
+          let e = upcoming-none l p s q in
+          record {
+            later = omega (arith, w .later);
+            by-word = λ i. omega (arith, w .by-word i);
+            by-due = λ i. not-both i q;
+            within = λ i. omega (arith, w .within (omega arith));
+            none = λ i. (w .none (omega arith), q);
+          }

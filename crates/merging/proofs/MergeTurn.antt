@@ -1,0 +1,261 @@
+-- One turn of the merge's loop: the next date of either operand is passed in both, and what it shows is put into the slot.
+use Prim.Native.Nat.{ℕ, zero, suc, _+_, _-_, _≤_, _<_, _^_, min, max}
+use native.Mathlib.Omega.{arith}
+use mathlib.Core.Path.{_≡_, refl, sym, _∙_, ap, ap₂}
+use mathlib.Core.Bool.{Bool, true, false, cond, _&&_}
+use mathlib.Core.List.{List, [], _∷_}
+use mathlib.Core.Logic.{_⊎_, inl, inr, ⊎-elim}
+use lib.Dec.{ltb, eqb}
+use lib.ListN.{length, getD, set, length-set}
+use lib.Seq.{set-set}
+use borrow.Author.Tests.{lt-ltb, le-ltb, ltb-true, ltb-false, eq-eqb}
+use Rattle.signals.specs.Moment.{gap, M}
+use Rattle.signals.specs.Signal.{Signal, Table, num}
+use Rattle.signals.specs.Words.{dateOf, signalOf, lastDate, lastFrom, listOf, listFault, headValue}
+use Rattle.signals.specs.Normal.{Normal, Accepted, Rising}
+use Rattle.signals.specs.Passing.{heldValue, isNext, atDate, afterDate, passedDate}
+use Rattle.signals.proofs.Operand.{At, Passed, at-pass, at-end, next-later, value-held}
+use Rattle.signals.proofs.Normal.{accepted-start, acceptedNormal, last-le, lastDate-bound}
+use Rattle.signals.proofs.WordFacts.{date-bounds, date-le}
+use Rattle.signals.proofs.Operand.{words-rise}
+use Rattle.lists.specs.Reading.{nextDate, NEVER, stepPast}
+use Rattle.lists.specs.declared.Step.{Step}
+use Rattle.operations.specs.Calls.{exactOfTwo}
+use Rattle.building.specs.Building.{emitted, emittedIn, begun, Built}
+use Rattle.merging.specs.Merging.{merged, bitOf, firstShown, dateShown}
+use Rattle.building.specs.declared.Made.{Made}
+use Rattle.merging.specs.declared.Operation.{Operation}
+use Rattle.merging.specs.declared.Shown.{Shown}
+use Rattle.building.proofs.Scanning.{Scanning, scanning-begin, scanning-emit, scanning-done, built-over}
+use Rattle.merging.proofs.MergeHeld.{heldBy, Turned, turned, first, still-for-good}
+
+-- no word of the list is dated after n
+abbrev pub Dates : List ℕ → ℕ → Type 0
+Dates l n = (i : ℕ) → i < length l → dateOf (getD l i 0) ≤ n
+
+dates-rising : (k : ℕ) (ws : List ℕ) → Rising k ws → (i : ℕ) → i < length ws → dateOf (getD ws i 0) ≤ lastFrom k ws
+unfolding lastFrom
+dates-rising k [] r i h = absurd (omega arith)
+dates-rising k (w ∷ ws) r zero h = last-le (dateOf w) ws (r .1)
+dates-rising k (w ∷ ws) r (suc i) h = dates-rising (dateOf w) ws (r .1) i (omega arith)
+
+pub accepted-dates : (l : List ℕ) → Accepted l → Dates l (lastDate l)
+unfolding lastDate
+accepted-dates l a = go l (acceptedNormal l .0 a .0)
+  where
+    go : (l : List ℕ) → Normal l → Dates l (lastDate l)
+    go [] n i h = absurd n
+    go (w ∷ ws) n zero h = omega (arith, date-bounds w, n .0)
+    go (w ∷ ws) n (suc i) h = dates-rising 0 ws (words-rise 0 (headValue w) ws (n .1)) i (omega arith)
+
+pub dates-more : (l : List ℕ) (n m : ℕ) → Dates l n → n ≤ m → Dates l m
+dates-more l n m d le i h = let u = d i h in omega arith
+
+-- the next date, of a word left and of none
+next-of : (l : List ℕ) (p : ℕ) → p < length l → nextDate l p ≡ dateOf (getD l p 0)
+unfolding nextDate
+next-of l p h = rw (lt-ltb p (length l) h)
+
+next-none : (l : List ℕ) (p : ℕ) → length l ≤ p → nextDate l p ≡ NEVER
+unfolding nextDate
+next-none l p h = rw (le-ltb p (length l) h)
+
+pub left-or-none : (l : List ℕ) (p : ℕ) → (p < length l) ⊎ (length l ≤ p)
+left-or-none l p = go (ltb p (length l)) refl
+  where
+    go : (t : Bool) → ltb p (length l) ≡ t → (p < length l) ⊎ (length l ≤ p)
+    go true e = inl (ltb-true p (length l) e)
+    go false e = inr (ltb-false p (length l) e)
+
+pub next-above : (f : Signal) (l : List ℕ) (p k : ℕ) → At f l p k → k < NEVER → k < nextDate l p
+next-above f l p k a h =
+    ⊎-elim (λ u. rw (next-of l p u) (next-later f l p k a u)) (λ u. rw (next-none l p u) h) (left-or-none l p)
+
+pub next-within : (l : List ℕ) (p n : ℕ) → Dates l n → p < length l → nextDate l p ≤ n
+next-within l p n d h = rw (next-of l p h) (d p h)
+
+-- a date not after the next one
+pub not-after : (l : List ℕ) (p e : ℕ) → e ≤ nextDate l p → p < length l → e ≤ dateOf (getD l p 0)
+not-after l p e h u = rw (next-of l p u) at h
+
+-- passing never goes back, and goes on at the next word's date
+pub passed-keeps : (l : List ℕ) (p e : ℕ) → p ≤ passedDate l p e
+unfolding passedDate
+passed-keeps l p e = go (isNext l p e)
+  where
+    go : (t : Bool) → p ≤ cond t (p + 1) p
+    go true = omega arith
+    go false = omega arith
+
+pub passed-next : (l : List ℕ) (p e : ℕ) → e ≡ nextDate l p → e < NEVER → passedDate l p e ≡ p + 1
+unfolding passedDate isNext
+passed-next l p e q h =
+    ⊎-elim
+    (λ u. rw (lt-ltb p (length l) u, eq-eqb (dateOf (getD l p 0)) e (sym (next-of l p u) ∙ sym q)))
+    (λ u. absurd (let z : e ≡ NEVER = q ∙ next-none l p u in omega arith))
+    (left-or-none l p)
+
+module _ (o : Operation) (table : Table) (a b : List ℕ) (n : ℕ) (old : List ℕ) where
+  pub record Merging (k : ℕ) (slot : List ℕ) (made : Made) (bit : Bool) (i j : ℕ) : Type 0 where
+    pub scan : Scanning (merged o table (signalOf a) (signalOf b)) n k old slot made
+    pub left : At (signalOf a) a i k
+    pub right : At (signalOf b) b j k
+    pub bit-is : bit ≡ bitOf o (signalOf a) (signalOf b) k
+    pub below : k ≤ n
+
+  pub merge-begin : Accepted a → Accepted b
+      → Merging 0 (set old 0 (num ((firstShown o table (heldValue a 1) (heldValue b 1)) .after))) (begun ((firstShown o table (heldValue a 1) (heldValue b 1)) .after)) ((firstShown o table (heldValue a 1) (heldValue b 1)) .carried) 1 1
+  merge-begin ha hb =
+      record {
+        scan = scanning-begin (merged o table (signalOf a) (signalOf b)) n old _ (shows .0);
+        left = sa;
+        right = sb;
+        bit-is = shows .1;
+        below = omega arith;
+      }
+    where
+      sa : At (signalOf a) a 1 0
+      sa = accepted-start a ha
+
+      sb : At (signalOf b) b 1 0
+      sb = accepted-start b hb
+
+      va : signalOf a 0 ≡ heldValue a 1
+      va = sa .ahead .says 0 (omega arith) ∙ value-held (heldValue a 1) 0 _ 0 (sa .ahead .rises) (omega arith)
+
+      vb : signalOf b 0 ≡ heldValue b 1
+      vb = sb .ahead .says 0 (omega arith) ∙ value-held (heldValue b 1) 0 _ 0 (sb .ahead .rises) (omega arith)
+
+      shows : ((firstShown o table (heldValue a 1) (heldValue b 1)) .after ≡ merged o table (signalOf a) (signalOf b) 0) × ((firstShown o table (heldValue a 1) (heldValue b 1)) .carried ≡ bitOf o (signalOf a) (signalOf b) 0)
+      shows = first o table (signalOf a) (signalOf b) (heldValue a 1) (heldValue b 1) va vb
+
+  module _ (da : Dates a n) (db : Dates b n) (small : n < NEVER) (i j k : ℕ) (slot : List ℕ) (made : Made) (bit : Bool) (m : Merging k slot made bit i j) (more : i + j < length a + length b) where
+    pub nextOfBoth : ℕ
+    nextOfBoth = min (nextDate a i) (nextDate b j)
+
+    above : k < nextOfBoth
+    unfolding nextOfBoth
+    above =
+        let x = next-above (signalOf a) a i k (m .left) (omega (arith, m .below)) in
+        let y = next-above (signalOf b) b j k (m .right) (omega (arith, m .below)) in
+        omega arith
+
+    within : nextOfBoth ≤ n
+    unfolding nextOfBoth
+    within =
+        ⊎-elim (λ u. let x = next-within a i n da u in omega arith)
+        (λ u. let y = next-within b j n db (omega arith) in omega arith)
+        (left-or-none a i)
+
+    pub turn-left : Passed (signalOf a) a i k nextOfBoth
+    unfolding nextOfBoth
+    turn-left = at-pass (signalOf a) a i k nextOfBoth (m .left) above (not-after a i nextOfBoth (omega arith))
+
+    pub turn-right : Passed (signalOf b) b j k nextOfBoth
+    unfolding nextOfBoth
+    turn-right = at-pass (signalOf b) b j k nextOfBoth (m .right) above (not-after b j nextOfBoth (omega arith))
+
+    turned-here : Turned o table (signalOf a) (signalOf b) k nextOfBoth (heldBy o table (signalOf a) (signalOf b) k (heldValue a i) (heldValue b j))
+        ((dateShown o table bit (heldValue a i) (atDate a i nextOfBoth) (afterDate a i nextOfBoth) (atDate b j nextOfBoth) (afterDate b j nextOfBoth)) .at)
+        ((dateShown o table bit (heldValue a i) (atDate a i nextOfBoth) (afterDate a i nextOfBoth) (atDate b j nextOfBoth) (afterDate b j nextOfBoth)) .after)
+        ((dateShown o table bit (heldValue a i) (atDate a i nextOfBoth) (afterDate a i nextOfBoth) (atDate b j nextOfBoth) (afterDate b j nextOfBoth)) .carried)
+    turned-here =
+        turned o table (signalOf a) (signalOf b) k nextOfBoth (heldValue a i) (atDate a i nextOfBoth) (afterDate a i nextOfBoth) (heldValue b j) (atDate b j nextOfBoth) (afterDate b j nextOfBoth) bit (m .bit-is) (turn-left .held) (turn-right .held)
+
+    pub progress : i + j < passedDate a i nextOfBoth + passedDate b j nextOfBoth
+    unfolding nextOfBoth
+    progress = go (leb-or (nextDate a i) (nextDate b j))
+      where
+        leb-or : (x y : ℕ) → (min x y ≡ x) ⊎ (min x y ≡ y)
+        leb-or x y = split (ltb x y) refl
+          where
+            split : (t : Bool) → ltb x y ≡ t → (min x y ≡ x) ⊎ (min x y ≡ y)
+            split true e = inl (let h = ltb-true x y e in omega arith)
+            split false e = inr (let h = ltb-false x y e in omega arith)
+
+        ka : i ≤ passedDate a i nextOfBoth
+        ka = passed-keeps a i nextOfBoth
+
+        kb : j ≤ passedDate b j nextOfBoth
+        kb = passed-keeps b j nextOfBoth
+
+        go : (min (nextDate a i) (nextDate b j) ≡ nextDate a i) ⊎ (min (nextDate a i) (nextDate b j) ≡ nextDate b j) → i + j < passedDate a i nextOfBoth + passedDate b j nextOfBoth
+        go (inl e) = let x = passed-next a i nextOfBoth e (omega (arith, within)) in omega (arith, kb)
+        go (inr e) = let x = passed-next b j nextOfBoth e (omega (arith, within)) in omega (arith, ka)
+
+    -- the turn as the code makes it
+    pub merge-turn : (d : ℕ) → d ≡ nextOfBoth → (at after next : Bool)
+        → at ≡ (dateShown o table bit (heldValue a i) (atDate a i d) (afterDate a i d) (atDate b j d) (afterDate b j d)) .at
+        → after ≡ (dateShown o table bit (heldValue a i) (atDate a i d) (afterDate a i d) (atDate b j d) (afterDate b j d)) .after
+        → next ≡ (dateShown o table bit (heldValue a i) (atDate a i d) (afterDate a i d) (atDate b j d) (afterDate b j d)) .carried
+        → Merging d (emittedIn slot made d at after) (emitted made d at after) next (passedDate a i d) (passedDate b j d)
+    merge-turn d e at after next ea ef en =
+        rw (ea, ef, en, e)
+        (record {
+          scan = scanning-emit (merged o table (signalOf a) (signalOf b)) n old k nextOfBoth _ _ _ slot made (m .scan) (turned-here .held) within (omega arith);
+          left = turn-left .on;
+          right = turn-right .on;
+          bit-is = turned-here .bit;
+          below = within;
+        })
+
+  pub merge-done : (k : ℕ) (slot : List ℕ) (made : Made) (bit : Bool) (i j : ℕ) → Merging k slot made bit i j → length a + length b ≤ i + j
+      → Built (listOf (merged o table (signalOf a) (signalOf b)) n) old slot made
+  merge-done k slot made bit i j m done =
+      scanning-done (merged o table (signalOf a) (signalOf b)) n old k slot made (m .scan)
+      (still-for-good o table (signalOf a) (signalOf b) k (heldValue a i) (heldValue b j)
+      (at-end (signalOf a) a i k (m .left) (omega (arith, m .left .within, m .right .within)))
+      (at-end (signalOf b) b j k (m .right) (omega (arith, m .left .within, m .right .within))))
+
+-- the loop's start, from what the calls before it give; the slot where the loop begins stands for the old one
+pub merge-start : (o : Operation) (table : Table) (a b : List ℕ) (n : ℕ) (entry slot : List ℕ) (p q : Bool) (shown : Shown) (made : Made)
+    → Accepted a → Accepted b → p ≡ heldValue a 1 → q ≡ heldValue b 1 → shown ≡ firstShown o table p q
+    → made ≡ begun (shown .after) → slot ≡ set entry 0 (num (shown .after)) → Merging o table a b n slot 0 slot made (shown .carried) 1 1
+merge-start o table a b n entry slot p q shown made ha hb ep eq es em el =
+    rw (em, el, es, ep, eq)
+    (rw (set-set entry 0 v v) at (merge-begin o table a b n (set entry 0 v) ha hb))
+  where
+    v : ℕ
+    v = num ((firstShown o table (heldValue a 1) (heldValue b 1)) .after)
+
+pub merge-end : (o : Operation) (table : Table) (a b entry start slot : List ℕ) (x : ℕ) (made : Made) (bit : Bool) (i j k : ℕ) → start ≡ set entry 0 x
+    → Merging o table a b (max (lastDate a) (lastDate b)) start k slot made bit i j → length a + length b ≤ i + j
+    → Built (exactOfTwo (merged o table) a b) entry slot made
+unfolding exactOfTwo
+merge-end o table a b entry start slot x made bit i j k e m done =
+    let n = max (lastDate a) (lastDate b) in
+    built-over (merged o table (signalOf a) (signalOf b)) n entry slot made x (rw e at (merge-done o table a b n start k slot made bit i j m done))
+
+-- what the loop knows of its two lists throughout
+pub record Operands (a b : List ℕ) : Type 0 where
+  pub first : Accepted a
+  pub second : Accepted b
+  pub first-small : lastDate a ≤ M
+  pub second-small : lastDate b ≤ M
+
+pub short : (l : List ℕ) → Accepted l → length l ≤ 256
+short l h = acceptedNormal l .0 h .1
+
+module _ (o : Operation) (table : Table) (a b old : List ℕ) (k : ℕ) (slot : List ℕ) (made : Made) (bit : Bool) (i j : ℕ)
+    (x : Operands a b) (m : Merging o table a b (max (lastDate a) (lastDate b)) old k slot made bit i j) (more : i + j < length a + length b) where
+  da : Dates a (max (lastDate a) (lastDate b))
+  da = dates-more a (lastDate a) (max (lastDate a) (lastDate b)) (accepted-dates a (x .first)) (omega arith)
+
+  db : Dates b (max (lastDate a) (lastDate b))
+  db = dates-more b (lastDate b) (max (lastDate a) (lastDate b)) (accepted-dates b (x .second)) (omega arith)
+
+  pub loop-turn : (na nb d : ℕ) (p q : Step) (s : Shown) → na ≡ nextDate a i → nb ≡ nextDate b j → d ≡ min na nb → p ≡ stepPast a i d → q ≡ stepPast b j d
+      → s ≡ dateShown o table bit (p .before) (p .at) (p .after) (q .at) (q .after)
+      → (slot′ : List ℕ) (made′ : Made) → made′ ≡ emitted made d (s .at) (s .after) → slot′ ≡ emittedIn slot made d (s .at) (s .after)
+      → Merging o table a b (max (lastDate a) (lastDate b)) old d slot′ made′ (s .carried) (p .passed) (q .passed)
+  unfolding nextOfBoth
+  loop-turn na nb d p q s ea eb ed ep eq es slot′ made′ em el =
+      rw (em, el, es, ep, eq)
+      (merge-turn o table a b (max (lastDate a) (lastDate b)) old da db (omega (arith, x .first-small, x .second-small)) i j k slot made bit m more d (ed ∙ rw (ea, eb)) _ _ _ refl refl refl)
+
+  pub loop-falls : (na nb d : ℕ) (p q : Step) → na ≡ nextDate a i → nb ≡ nextDate b j → d ≡ min na nb → p ≡ stepPast a i d → q ≡ stepPast b j d
+      → i + j < p .passed + q .passed
+  unfolding nextOfBoth
+  loop-falls na nb d p q ea eb ed ep eq =
+      rw (ep, eq, ed, ea, eb)
+      (progress o table a b (max (lastDate a) (lastDate b)) old da db (omega (arith, x .first-small, x .second-small)) i j k slot made bit m more)

@@ -1,0 +1,21 @@
+-- `merging::rising` is the merge that shows the first operand's rises.
+use mathlib.Core.Path.{refl}
+use Rattle.merging.proofs.OneOperand.{call-of-one}
+use borrow.Author.Needs.{needs}
+use Rattle.merging.proofs.rising.Statement.{statement}
+use Rattle.merging.proofs.rising.Tie as tie
+
+slice-aggregate-operate : tie.Need-slice-aggregate-operate
+slice-aggregate-operate c = search needs
+
+operate-requires : tie.Need-operate-requires
+operate-requires c κs = search needs
+
+same-length : tie.Need-same-length
+same-length c = search needs
+
+returns : tie.Need-returns
+returns c = call-of-one _ _ (λ f g t. refl) _ (c .before .before .before .before .before .before .before .args .out .now) _ _ (c .before .before .operate .ensures)
+
+pub rising-spec : {M : Type 1} → statement M
+rising-spec = tie.close (tie.spec slice-aggregate-operate operate-requires same-length returns)

@@ -1,0 +1,2 @@
+-- Definitions that mirror the merge.
+pub mod Merging
