@@ -13,8 +13,8 @@ use Rattle.formulas.specs.Tree.{Tree, leaf, unary, binary, down, up, name}
 use Rattle.formulas.specs.Grammar.{Writes}
 use Rattle.formulas.specs.Formula.{accepted, partsOf, depthOf, longestOf, formulaTree, formulaFault}
 use Rattle.formulas.proofs.Reading.{tree-of, refused-of, faults-exact}
-use Rattle.sheets.specs.Names.{among}
-use Rattle.sheets.specs.Reading.{signalsOn, names}
+use Rattle.format.specs.Names.{among}
+use Rattle.format.specs.Reading.{signalsOn, names}
 use Rattle.calls.specs.OnSheet.{namesFound}
 use Rattle.calls.specs.Calls.{readingFault}
 use Rattle.calls.specs.Tabled.{Check, Names, Breaks13, ReadingChecks}

@@ -12,8 +12,8 @@ use Rattle.formulas.specs.Tree.{Tree, Leaf, leaf, unary, binary, down, up, name
 use Rattle.formulas.specs.Grammar.{Writes}
 use Rattle.formulas.specs.Exactness.{Ten, Eleven, Eight, Twelve}
 use Rattle.laws.specs.Rewriting.{parts, partAt}
-use Rattle.sheets.specs.Names.{among}
-use Rattle.sheets.specs.Reading.{sheetFault, signalsOn, names}
+use Rattle.format.specs.Names.{among}
+use Rattle.format.specs.Reading.{sheetFault, signalsOn, names}
 use Rattle.calls.specs.OnSheet.{signalOn}
 use Rattle.calls.specs.Calls.{neededWork}
 use Rattle.calls.specs.NormalLists.{ListFor}

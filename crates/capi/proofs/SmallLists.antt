@@ -14,7 +14,7 @@ use Rattle.signals.specs.declared.Told.the-variants as told
 use Rattle.signals.proofs.TidyFaults.{tidyFaultsExact}
 use Rattle.signals.proofs.Tidying.{tidying}
 use Rattle.lists.specs.Questions.{instantFault, gapFault, valueAtOf, valueInOf, equalOf, impliesOf, tidyingFault}
-use Rattle.sheets.proofs.Accepting.{listed-some}
+use Rattle.format.proofs.Accepting.{listed-some}
 use Rattle.capi.specs.Packing.{SmallWritten, SmallTold, SmallVerdict}
 use Rattle.capi.proofs.SmallAnswers.{choice, first-small, list-small, written-small, answer-small}
 use Rattle.signals.specs.Answers.{firstOf, toldValue, toldOf}

@@ -21,7 +21,7 @@ use Rattle.formulas.specs.Tree.{Tree}
 use Rattle.formulas.specs.Formula.{formulaTree}
 use Rattle.laws.specs.Rewriting.{parts}
 use Rattle.laws.proofs.Consequences.{one-verdict}
-use Rattle.sheets.specs.Reading.{sheetFault}
+use Rattle.format.specs.Reading.{sheetFault}
 use Rattle.calls.specs.OnSheet.{exactOn, signalOn, settlingDate}
 use Rattle.calls.specs.Calls.{readingFault, workFault, neededWork, partsFault, workingFault, claimFault, claimFails, claimVerdict, claimAnswer}
 use Rattle.calls.proofs.Settles.{settles}

@@ -17,7 +17,7 @@ use Rattle.formulas.specs.Code.{Part, operand, one, two, code, work, top}
 use Rattle.formulas.specs.Formula.{partOf}
 use Rattle.formulas.proofs.Working.{code-determines}
 use Rattle.laws.specs.Rewriting.{parts}
-use Rattle.sheets.specs.Reading.{sheetFault}
+use Rattle.format.specs.Reading.{sheetFault}
 use Rattle.calls.specs.OnSheet.{exactOn}
 use Rattle.calls.specs.Calls.{partFault, partsFault}
 use Rattle.evaluation.specs.declared.Next.{Next}

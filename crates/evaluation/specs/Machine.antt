@@ -21,8 +21,8 @@ use Rattle.formulas.specs.Tree.{Tree, Leaf, Unary, Binary, leaf, unary, binary,
 use Rattle.formulas.specs.Code.{Part, operand, one, two, ticksOf, top, code}
 use Rattle.formulas.specs.Formula.{nameAt, partOf, codeOf, formulaTree}
 use Rattle.names.specs.Names.{wellNamed}
-use Rattle.sheets.specs.Names.{among}
-use Rattle.sheets.specs.Reading.{signalsOn, names}
+use Rattle.format.specs.Names.{among}
+use Rattle.format.specs.Reading.{signalsOn, names}
 use Rattle.calls.specs.OnSheet.{exactOn, leafFound}
 use Rattle.calls.specs.Calls.{partFault, partsFault, readingFault, workFault, workingFault, roomFault, wordsOn, claimFails}
 use Rattle.laws.specs.Rewriting.{parts}
