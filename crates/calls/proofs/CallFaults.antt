@@ -13,7 +13,7 @@ use Rattle.grammar.specs.Grammar.{Writes}
 use Rattle.grammar.specs.Formula.{formulaTree}
 use Rattle.grammar.proofs.Reading.{tree-of}
 use Rattle.grammar.specs.Parts.{parts, partAt}
-use Rattle.sheets.specs.Reading.{sheetFault}
+use Rattle.format.specs.Reading.{sheetFault}
 use Rattle.calls.specs.OnSheet.{signalOn, exactOn}
 use Rattle.calls.specs.Calls.{neededWork, readingFault, workFault, partsFault, workingFault, wordsOn, roomFault, callFault, claimFault}
 use Rattle.calls.specs.NormalLists.{ListFor}

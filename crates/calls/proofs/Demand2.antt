@@ -23,15 +23,15 @@ use Rattle.operations.specs.Calls.{changesAfterM}
 use Rattle.grammar.specs.Tree.{Tree}
 use Rattle.grammar.specs.Grammar.{Writes}
 use Rattle.grammar.proofs.Reading.{tree-of}
-use Rattle.sheets.specs.Bytes.{Bytes, Words}
-use Rattle.sheets.specs.Names.{among}
-use Rattle.sheets.specs.Reading.{sheetFault, signalsOn, names, listNamed, environmentOn, entry}
-use Rattle.sheets.specs.Sentences.{SheetFaulty}
-use Rattle.sheets.specs.Calls.{appendFault, appended}
-use Rattle.sheets.proofs.Steps.{same-refl}
-use Rattle.sheets.proofs.Named.{among-snoc, named-new}
-use Rattle.sheets.proofs.Appending.{appends}
-use Rattle.sheets.proofs.Theorems.{append-keeps-sheet}
+use Rattle.slices.specs.Bytes.{Bytes, Words}
+use Rattle.format.specs.Names.{among}
+use Rattle.format.specs.Reading.{sheetFault, signalsOn, names, listNamed, environmentOn, entry}
+use Rattle.format.specs.Sentences.{SheetFaulty}
+use Rattle.format.specs.Calls.{appendFault, appended}
+use Rattle.format.proofs.Steps.{same-refl}
+use Rattle.format.proofs.Named.{among-snoc, named-new}
+use Rattle.format.proofs.Appending.{appends}
+use Rattle.format.proofs.Theorems.{append-keeps-sheet}
 use Rattle.calls.specs.OnSheet.{signalOn, settlingDate, exactOn}
 use Rattle.calls.specs.Calls.{neededWork, partFault, workingFault, wordsOn, callFault, callAnswer, callOutput, claimFault, claimFails, claimVerdict, claimAnswer}
 use Rattle.calls.specs.NormalLists.{ListFor, TheList, JudgedAs}
@@ -40,7 +40,7 @@ use Rattle.calls.specs.Tabled.{CallFaultIs}
 use Rattle.calls.specs.Demand2.{Delivered, GivesTheList, GivesTheVerdict, ReadsBack, Demand2}
 use Rattle.calls.specs.Demand3.{wordsGiven}
 use Rattle.calls.proofs.FirstFault.{passed}
-use Rattle.calls.proofs.SheetLists.{named-words}
+use Rattle.format.proofs.SheetLists.{named-words}
 use Rattle.calls.proofs.Settles.{settles, exact-for, one-for}
 use Rattle.calls.proofs.PartFaults.{of-late, whole-none}
 use Rattle.calls.proofs.ReadingFaults.{derived, text-fine}

@@ -21,7 +21,7 @@ use Rattle.grammar.specs.Formula.{formulaTree}
 use Rattle.grammar.proofs.Reading.{tree-of}
 use Rattle.laws.specs.Rewriting.{Rewrites}
 use Rattle.laws.proofs.Soundness.{same-signal}
-use Rattle.sheets.specs.Reading.{environmentOn}
+use Rattle.format.specs.Reading.{environmentOn}
 use Rattle.calls.specs.OnSheet.{signalOn}
 use Rattle.calls.specs.Calls.{neededWork, wordsOn, callFault, claimFault, claimVerdict, claimAnswer}
 use Rattle.calls.specs.Answered.{Answered}

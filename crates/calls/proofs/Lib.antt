@@ -1,7 +1,6 @@
 -- The proofs of the statements of specs/.
 pub mod OneNameRule
 pub mod FirstFault
-pub mod SheetLists
 pub mod Settles
 pub mod PartFaults
 pub mod ReadingFaults

@@ -21,15 +21,15 @@ use Rattle.grammar.specs.Exactness.{LengthIn}
 use Rattle.grammar.proofs.Reading.{tree-of, one-tree}
 use Rattle.grammar.proofs.Faults.{of-fine}
 use Rattle.grammar.specs.Parts.{parts}
-use Rattle.sheets.specs.Bytes.{Bytes, Words}
+use Rattle.slices.specs.Bytes.{Bytes, Words}
 use Rattle.names.specs.Names.{letter, allOf, nameByte, wellNamed}
-use Rattle.sheets.specs.Names.{among}
-use Rattle.sheets.specs.Reading.{sheetFault, signalsOn, names, listNamed, environmentOn}
+use Rattle.format.specs.Names.{among}
+use Rattle.format.specs.Reading.{sheetFault, signalsOn, names, listNamed, environmentOn}
 use Rattle.calls.specs.OnSheet.{settlingDate, exactOn, leafFound, namesFound}
 use Rattle.calls.specs.TreesOnSheets.{TreesOnSheets}
 use Rattle.calls.proofs.Settles.{settles, exact-for}
 use Rattle.calls.specs.Calls.{readingFault, partFault, partsFault, workingFault, wordsOn}
-use Rattle.calls.proofs.SheetLists.{sheet-sound, named-sound, named-words}
+use Rattle.format.proofs.SheetLists.{sheet-sound, named-sound, named-words}
 use Rattle.calls.proofs.PartFaults.{late-of}
 use Rattle.calls.proofs.NotRefused.{Clear}
 use Rattle.calls.proofs.OneNameRule.{one-name-rule}

@@ -25,7 +25,7 @@ use Rattle.calls.specs.OneFault.{OneFault}
 use Rattle.calls.specs.OneEngine.{Agrees, OneEngine, OneEngineWhereAnswered, AgreeingMeets}
 use Rattle.calls.proofs.FirstFault.{zero-or-not}
 use Rattle.signals.proofs.Checks.{Single, check-single}
-use Rattle.calls.proofs.SheetLists.{sheet-of}
+use Rattle.format.proofs.FaultNumbers.{sheet-of}
 use Rattle.calls.proofs.ReadingFaults.{derived, text-fine}
 use Rattle.calls.proofs.CallFaults.{call-fault, claim-fault}
 use Rattle.calls.proofs.NotRefused.{Clear, call-clear, answered-clear, clear-short, clear-tight, call-refused, enough-served, claim-fault-shown, short-claim}

@@ -15,7 +15,7 @@ use Rattle.signals.proofs.Truth.{or-cases, or-left, or-right, not-both}
 use Rattle.operations.specs.Calls.{changesAfterM}
 use Rattle.grammar.specs.Tree.{Tree, leaf, unary, binary}
 use Rattle.grammar.specs.Parts.{parts}
-use Rattle.sheets.specs.Reading.{sheetFault}
+use Rattle.format.specs.Reading.{sheetFault}
 use Rattle.calls.specs.OnSheet.{signalOn, exactOn}
 use Rattle.calls.specs.Calls.{partFault, partsFault}
 use Rattle.calls.specs.NormalLists.{ListFor}

@@ -20,12 +20,12 @@ use Rattle.grammar.specs.Reader.{run, next, bad, stepped, expect, put, passLeng
 use Rattle.grammar.specs.Formula.{timedPart, nameAt, accepted, partsOf, depthOf, longestOf, formulaFault}
 use Rattle.grammar.proofs.Reading.{tree-of}
 use Rattle.grammar.specs.Parts.{parts}
-use Rattle.sheets.specs.Bytes.{low16, low32, wordsIn}
+use Rattle.slices.specs.Bytes.{low16, low32, wordsIn}
 use Rattle.slices.specs.Slices.{before}
 use Rattle.names.specs.Names.{letter, digit, allOf, nameByte, wellNamed}
-use Rattle.sheets.specs.Names.{zeros, fieldFits, same, among}
-use Rattle.sheets.specs.Reading as reading
-use Rattle.sheets.specs.Reading.{wordCount, signalSize, laterWordsFault, sheetWordsFault, signalFault, signalsFault, frontFault, countOn, sheetFault, signalsFrom, signalsOn, names, listNamed, environmentOn}
+use Rattle.format.specs.Names.{zeros, fieldFits, same, among}
+use Rattle.format.specs.Reading as reading
+use Rattle.format.specs.Reading.{wordCount, signalSize, laterWordsFault, sheetWordsFault, signalFault, signalsFault, frontFault, countOn, sheetFault, signalsFrom, signalsOn, names, listNamed, environmentOn}
 use Rattle.calls.specs.OnSheet.{settlingDate, exactOn, namesFound}
 use Rattle.calls.specs.Calls.{neededWork, partFault, partsFault, wordsOn, claimFails, claimVerdict}
 use Rattle.calls.specs.Engine.{defined}

@@ -13,8 +13,8 @@ use Rattle.grammar.specs.Grammar.{Writes}
 use Rattle.grammar.specs.Formula.{accepted, formulaTree, formulaFault}
 use Rattle.grammar.proofs.Reading.{tree-of, refused-of}
 use Rattle.grammar.proofs.Faults.{formula-checks}
-use Rattle.sheets.specs.Names.{among}
-use Rattle.sheets.specs.Reading.{signalsOn, names}
+use Rattle.format.specs.Names.{among}
+use Rattle.format.specs.Reading.{signalsOn, names}
 use Rattle.calls.specs.OnSheet.{namesFound}
 use Rattle.calls.specs.Calls.{readingFault}
 use Rattle.calls.specs.Tabled.{Names, Breaks13, ReadingChecks}

@@ -10,11 +10,11 @@ use Rattle.signals.specs.Settled.{SettledFrom}
 use Rattle.signals.proofs.Settling.{settling, settled-later}
 use Rattle.signals.proofs.Normal.{accepted-settled, listOfSignal, unique}
 use Rattle.grammar.specs.Tree.{Tree, leaf, unary, binary, down, up, name, invert, rise, fall, ton, tof, and, or, sr, rs}
-use Rattle.sheets.specs.Names.{same}
-use Rattle.sheets.specs.Reading.{sheetFault, Entry, nameOf, listOn, signalsOn, listNamed, environmentOn}
+use Rattle.format.specs.Names.{same}
+use Rattle.format.specs.Reading.{sheetFault, Entry, nameOf, listOn, signalsOn, listNamed, environmentOn}
 use Rattle.calls.specs.OnSheet.{signalOn, settlingDate, exactOn}
 use Rattle.calls.specs.NormalLists.{ListFor}
-use Rattle.calls.proofs.SheetLists.{AllSound, sheet-sound}
+use Rattle.format.proofs.SheetLists.{AllSound, sheet-sound}
 
 none-settles : SettledFrom (signalOf []) (lastDate [])
 unfolding signalOf

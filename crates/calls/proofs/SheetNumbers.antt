@@ -4,12 +4,12 @@ use native.Mathlib.Omega.{arith}
 use mathlib.Core.Path.{_≡_, sym, _∙_}
 use mathlib.Core.Logic.{inl, inr, _↔_}
 use mathlib.Core.List.{List}
-use Rattle.sheets.specs.Bytes.{Bytes}
-use Rattle.sheets.specs.Reading.{sheetFault}
-use Rattle.sheets.specs.Sentences.{SheetFaulty}
-use Rattle.sheets.proofs.ExactSheets.{sheet-faults-exact}
 use Rattle.calls.specs.Tabled.{SheetBreaks, Breaks7, Breaks18, ReadingChecks, WorkingChecks, CallFaultIs, ClaimFaultIs}
 use Rattle.signals.specs.Checks.{Check, NoFault}
+use Rattle.slices.specs.Bytes.{Bytes}
+use Rattle.format.specs.Reading.{sheetFault}
+use Rattle.format.specs.Sentences.{SheetFaulty}
+use Rattle.format.proofs.ExactSheets.{sheet-faults-exact}
 
 -- none of the numbers 14 to 17
 abbrev Other : (ℕ → Type 0) → Type 0

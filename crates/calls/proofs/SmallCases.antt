@@ -18,9 +18,9 @@ use Rattle.grammar.specs.Reader.{run, next, bad, stepped, expect, put, prefixKi
 use Rattle.grammar.specs.Formula.{accepted, partsOf, formulaTree, depthOf, longestOf, formulaFault}
 use Rattle.grammar.proofs.Reading.{tree-of}
 use Rattle.grammar.specs.Parts.{parts}
-use Rattle.sheets.specs.Bytes.{low16}
-use Rattle.sheets.specs.Names.{same}
-use Rattle.sheets.specs.Reading.{signalsFault, frontFault, countOn, sheetFault}
+use Rattle.slices.specs.Bytes.{low16}
+use Rattle.format.specs.Names.{same}
+use Rattle.format.specs.Reading.{signalsFault, frontFault, countOn, sheetFault}
 use Rattle.calls.specs.OnSheet.{settlingDate, exactOn, namesFound}
 use Rattle.calls.specs.Calls.{neededWork, readingFault, partFault, partsFault, workingFault, wordsOn, claimFails, claimVerdict}
 use Rattle.calls.specs.Answered.{Answered, Enough}

@@ -13,7 +13,7 @@ use Rattle.operations.specs.Calls.{changesAfterM}
 use Rattle.grammar.specs.Tree.{Tree}
 use Rattle.grammar.specs.Formula.{formulaFault, formulaTree}
 use Rattle.grammar.specs.Parts.{parts}
-use Rattle.sheets.specs.Reading.{sheetFault}
+use Rattle.format.specs.Reading.{sheetFault}
 use Rattle.calls.specs.OnSheet.{signalOn, settlingDate, exactOn, namesFound}
 use Rattle.signals.specs.Answers.{firstOf}
 

@@ -11,11 +11,11 @@ use Rattle.signals.specs.Settled.{Same}
 use Rattle.signals.specs.declared.Written.the-variants.{Count}
 use Rattle.grammar.specs.Tree.{Tree}
 use Rattle.grammar.specs.Grammar.{Writes}
-use Rattle.sheets.specs.Bytes.{Bytes, Words}
-use Rattle.sheets.specs.Names.{among}
-use Rattle.sheets.specs.Reading.{sheetFault, signalsOn, names, listNamed, environmentOn}
-use Rattle.sheets.specs.Sentences.{SheetFaulty}
-use Rattle.sheets.specs.Calls.{appendFault, appended}
+use Rattle.slices.specs.Bytes.{Bytes, Words}
+use Rattle.format.specs.Names.{among}
+use Rattle.format.specs.Reading.{sheetFault, signalsOn, names, listNamed, environmentOn}
+use Rattle.format.specs.Sentences.{SheetFaulty}
+use Rattle.format.specs.Calls.{appendFault, appended}
 use Rattle.calls.specs.OnSheet.{signalOn}
 use Rattle.calls.specs.Calls.{neededWork}
 use Rattle.calls.specs.Engine.{Engine}

@@ -8,7 +8,7 @@ use Rattle.signals.specs.Answers.{faultIn}
 use Rattle.signals.specs.Implication.{faultOfVerdict}
 use Rattle.signals.specs.declared.Written.the-variants.{Count}
 use Rattle.signals.specs.declared.Verdict.the-variants.{Refused}
-use Rattle.sheets.specs.Reading.{sheetFault}
+use Rattle.format.specs.Reading.{sheetFault}
 use Rattle.calls.specs.Calls.{neededWork, readingFault, workingFault, wordsOn, callAnswer, claimAnswer, claimVerdict}
 use Rattle.calls.specs.Answered.{Answered, Enough}
 use Rattle.grammar.specs.Formula.{formulaTree}

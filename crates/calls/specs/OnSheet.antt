@@ -6,8 +6,8 @@ use Rattle.signals.specs.Signal.{Signal}
 use Rattle.signals.specs.Words.{lastDate, listOf}
 use Rattle.grammar.specs.Tree.{Tree, Leaf, leaf, unary, binary, down, up, name, signal}
 use Rattle.grammar.specs.Code.{ticksOf}
-use Rattle.sheets.specs.Names.{among}
-use Rattle.sheets.specs.Reading.{signalsOn, names, listNamed, environmentOn}
+use Rattle.format.specs.Names.{among}
+use Rattle.format.specs.Reading.{signalsOn, names, listNamed, environmentOn}
 
 -- A formula's signal on a sheet is what the operations make of its names' signals there: a name stands for the signal that the sheet
 -- gives it.

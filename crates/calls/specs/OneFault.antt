@@ -3,7 +3,7 @@ use Prim.Native.Nat.{ℕ, _≤_}
 use mathlib.Core.Path.{_≡_}
 use mathlib.Core.Logic.{_⊎_}
 use mathlib.Core.List.{List}
-use Rattle.sheets.specs.Reading.{sheetFault}
+use Rattle.format.specs.Reading.{sheetFault}
 use Rattle.calls.specs.Calls.{callFault, claimFault}
 use Rattle.calls.specs.Tabled.{CallFaultIs, ClaimFaultIs}
 

@@ -13,8 +13,8 @@ use Rattle.grammar.specs.Tree.{Tree, Leaf, leaf, unary, binary, down, up, name}
 use Rattle.grammar.specs.Grammar.{Writes}
 use Rattle.grammar.specs.Exactness.{FormulaChecks}
 use Rattle.grammar.specs.Parts.{parts, partAt}
-use Rattle.sheets.specs.Names.{among}
-use Rattle.sheets.specs.Reading.{sheetFault, signalsOn, names}
+use Rattle.format.specs.Names.{among}
+use Rattle.format.specs.Reading.{sheetFault, signalsOn, names}
 use Rattle.calls.specs.OnSheet.{signalOn}
 use Rattle.calls.specs.Calls.{neededWork}
 use Rattle.calls.specs.NormalLists.{ListFor}

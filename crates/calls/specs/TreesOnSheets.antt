@@ -5,8 +5,8 @@ use mathlib.Core.Bool.{true}
 use mathlib.Core.List.{List}
 use Rattle.signals.specs.Settled.{SettledFrom}
 use Rattle.grammar.specs.Tree.{Tree, Leaf, leaf}
-use Rattle.sheets.specs.Bytes.{Bytes}
-use Rattle.sheets.specs.Reading.{sheetFault}
+use Rattle.slices.specs.Bytes.{Bytes}
+use Rattle.format.specs.Reading.{sheetFault}
 use Rattle.calls.specs.OnSheet.{signalOn, settlingDate, exactOn, leafFound}
 use Rattle.calls.specs.Calls.{partFault}
 use Rattle.calls.specs.NormalLists.{ListFor}

@@ -12,7 +12,7 @@ use Rattle.operations.specs.Calls.{changesAfterM}
 use Rattle.grammar.specs.Tree.{Tree}
 use Rattle.grammar.specs.Formula.{formulaFault, formulaTree, accepted, longestOf, partsOf, depthOf}
 use Rattle.grammar.specs.Parts.{parts}
-use Rattle.sheets.specs.Reading.{sheetFault}
+use Rattle.format.specs.Reading.{sheetFault}
 use Rattle.calls.specs.OnSheet.{exactOn, namesFound}
 use Rattle.calls.specs.Calls.{neededWork, readingFault, workFault, partFault, partsFault, workingFault, wordsOn, roomFault, callFault, callAnswer, claimFault, claimAnswer}
 use Rattle.calls.proofs.FirstFault.{passed}

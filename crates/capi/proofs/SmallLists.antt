@@ -16,7 +16,7 @@ use Rattle.signals.proofs.Tidying.{tidying}
 use Rattle.signals.specs.Words.{pairFault}
 use Rattle.questions.specs.Questions.{instantFault, gapFault, valueAtOf, valueInOf, equalOf, impliesOf}
 use Rattle.tidying.specs.Calls.{tidyingFault}
-use Rattle.sheets.proofs.Accepting.{listed-some}
+use Rattle.format.proofs.Accepting.{listed-some}
 use Rattle.capi.specs.Packing.{SmallWritten, SmallTold, SmallVerdict}
 use Rattle.capi.proofs.SmallAnswers.{choice, first-small, list-small, written-small, answer-small}
 use Rattle.signals.specs.Answers.{firstOf, toldValue, toldOf}

@@ -10,21 +10,22 @@ use lib.ListN.{length, drop, length-append, length-drop}
 use borrow.Author.Tests.{eqb-true}
 use Rattle.signals.specs.Words.{listFault}
 use Rattle.signals.specs.Answers.{writtenOf}
-use Rattle.sheets.specs.Bytes.{bytes16}
+use Rattle.slices.specs.Bytes.{bytes16}
 use Rattle.names.specs.Names.{wellNamed}
-use Rattle.sheets.specs.Names.{among}
-use Rattle.sheets.specs.Reading.{signalSize, wordCount, nameAt, signalFault, signalsFault, sheetFault, countOn, signalsOn, names, Entry, entry}
-use Rattle.sheets.specs.Writing.{entryBytes, entriesBytes, sheetBytes}
-use Rattle.sheets.specs.Calls.{faultOfPlace, beginFault, lookupFault, placeOf, appended, appendFault}
-use Rattle.sheets.specs.declared.Place.{Place}
-use Rattle.sheets.specs.declared.Place.the-variants as place
-use Rattle.sheets.proofs.Judging.{sound}
-use Rattle.sheets.proofs.Locating.{front-none, signals-none, place-within, lookup-none, place-fault}
-use Rattle.sheets.proofs.Fields.{named-short}
-use Rattle.sheets.proofs.Filling.{two, length-entry}
-use Rattle.sheets.proofs.Accepting.{listed-some}
-use Rattle.sheets.proofs.Appending.{length-on, entries-snoc, appends}
-use Rattle.calls.proofs.SheetLists.{Sound, AllSound, OfSheets, sheet-sound, sheet-of}
+use Rattle.format.specs.Names.{among}
+use Rattle.format.specs.Reading.{signalSize, wordCount, nameAt, signalFault, signalsFault, sheetFault, countOn, signalsOn, names, Entry, entry}
+use Rattle.format.specs.Writing.{entryBytes, entriesBytes, sheetBytes}
+use Rattle.format.specs.Calls.{faultOfPlace, beginFault, lookupFault, placeOf, appended, appendFault}
+use Rattle.format.specs.declared.Place.{Place}
+use Rattle.format.specs.declared.Place.the-variants as place
+use Rattle.format.proofs.Judging.{sound}
+use Rattle.format.proofs.Locating.{front-none, signals-none, place-within, lookup-none, place-fault}
+use Rattle.format.proofs.Fields.{named-short}
+use Rattle.format.proofs.Filling.{two, length-entry}
+use Rattle.format.proofs.Accepting.{listed-some}
+use Rattle.format.proofs.Appending.{length-on, entries-snoc, appends}
+use Rattle.format.proofs.SheetLists.{Sound, AllSound, sheet-sound}
+use Rattle.format.proofs.FaultNumbers.{OfSheets, sheet-of}
 use Rattle.capi.specs.Packing.{SmallWritten, SmallPlace}
 use Rattle.capi.proofs.SmallAnswers.{choice, list-small, written-small}
 use Rattle.signals.specs.Answers.{firstOf}

@@ -6,15 +6,15 @@ use mathlib.Core.Option.{Option, none, some}
 use lib.Dec.{eqb}
 use Rattle.signals.specs.Signal.{Table, num}
 use Rattle.signals.specs.Answers.{faultIn, countIn, faultOfTold, valueIn, faultOfVerdict, failsFirst}
-use Rattle.sheets.specs.Calls.{faultOfPlace, firstByte, byteCount}
+use Rattle.format.specs.Calls.{faultOfPlace, firstByte, byteCount}
 use Rattle.signals.specs.declared.Written.{Written}
 use Rattle.signals.specs.declared.Written.the-variants as written
 use Rattle.signals.specs.declared.Told.{Told}
 use Rattle.signals.specs.declared.Told.the-variants as told
 use Rattle.signals.specs.declared.Verdict.{Verdict}
 use Rattle.signals.specs.declared.Verdict.the-variants as verdict
-use Rattle.sheets.specs.declared.Place.{Place}
-use Rattle.sheets.specs.declared.Place.the-variants as place
+use Rattle.format.specs.declared.Place.{Place}
+use Rattle.format.specs.declared.Place.the-variants as place
 
 -- 65,536 × fault
 unfoldable pub packFault : ℕ → ℕ

@@ -7,9 +7,9 @@ ghost use Rattle.signals.specs.Words.{listFault};
 ghost use Rattle.signals.specs.Tidying.{tidied};
 ghost use Rattle.questions.specs.Questions.{valueAtOf, valueInOf, equalOf, impliesOf};
 ghost use Rattle.tidying.specs.Calls.{tidyingFault};
-ghost use Rattle.sheets.specs.Reading.{sheetFault};
-ghost use Rattle.sheets.specs.Writing.{sheetBytes};
-ghost use Rattle.sheets.specs.Calls.{beginFault, placeOf, appendFault, appended};
+ghost use Rattle.format.specs.Reading.{sheetFault};
+ghost use Rattle.format.specs.Writing.{sheetBytes};
+ghost use Rattle.format.specs.Calls.{beginFault, placeOf, appendFault, appended};
 ghost use Rattle.calls.specs.Calls.{callAnswer, callOutput, claimAnswer};
 ghost use Rattle.evaluation.specs.Work.{firstFault, firstClaimFault};
 ghost use Rattle.capi.specs.Packing.{
@@ -27,7 +27,7 @@ ghost use Rattle.capi.specs.Packing.{
 };
 ghost use Rattle.capi.specs.Exports.{Exported, ExportedOne, ExportedTwo, ExportedDelay};
 ghost use Prim.Native.Nat.{_<_};
-use sheets::Place;
+use format::Place;
 use signals::Length;
 use signals::Told;
 use signals::Verdict;
@@ -210,7 +210,7 @@ pub extern "C" fn sgl_tof(d: u32, f: &[u32], out: &mut [u32]) -> u32
 pub extern "C" fn sgl_begin(out: &mut [u8]) -> u32
     ensures { λ r. ⌜ Exported (beginFault (length (now (out .entry)))) (sheetBytes []) (now (out .entry)) r (now (out .exit)) ⌝ }
 {
-    pack_written(sheets::begin(out))
+    pack_written(appending::begin(out))
 }
 
 // The fault of a sheet.
@@ -234,7 +234,7 @@ pub extern "C" fn sgl_lookup(sheet: &[u8], name: &[u8]) -> u64
 pub extern "C" fn sgl_append(sheet: &[u8], name: &[u8], list: &[u32], out: &mut [u8]) -> u32
     ensures { λ r. ⌜ Exported (appendFault (now (sheet .entry)) (now (name .entry)) (now (list .entry)) (length (now (out .entry)))) (appended (now (sheet .entry)) (now (name .entry)) (now (list .entry))) (now (out .entry)) r (now (out .exit)) ⌝ }
 {
-    pack_written(sheets::append(sheet, name, list, out))
+    pack_written(appending::append(sheet, name, list, out))
 }
 
 // The list of a formula's signal on a sheet. Refused by check 18 or an earlier one it leaves the work area as it was; else that is free.

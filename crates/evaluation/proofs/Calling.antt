@@ -23,7 +23,7 @@ use Rattle.grammar.specs.Code.{code}
 use Rattle.grammar.specs.Formula.{codeOf, formulaTree}
 use Rattle.grammar.specs.Parts.{parts}
 use Rattle.signals.proofs.AnyDate.{one-verdict}
-use Rattle.sheets.specs.Reading.{sheetFault}
+use Rattle.format.specs.Reading.{sheetFault}
 use Rattle.calls.specs.OnSheet.{exactOn, signalOn, settlingDate}
 use Rattle.calls.specs.Calls.{readingFault, workFault, neededWork, partsFault, workingFault, wordsOn, roomFault, callFault, callAnswer, callOutput, claimFault, claimVerdict, claimAnswer}
 use Rattle.calls.proofs.Settles.{settles}

@@ -22,7 +22,7 @@ use Rattle.grammar.specs.Parts.{parts}
 use Rattle.signals.proofs.AnyDate.{one-verdict}
 use Rattle.questions.specs.Questions.{impliesOf, laterLast}
 use Rattle.signals.specs.Words.{pairFault}
-use Rattle.sheets.specs.Reading.{sheetFault}
+use Rattle.format.specs.Reading.{sheetFault}
 use Rattle.calls.specs.OnSheet.{exactOn, signalOn, settlingDate}
 use Rattle.calls.specs.Calls.{readingFault, workFault, neededWork, partsFault, workingFault, claimFault, claimFails, claimVerdict, claimAnswer}
 use Rattle.calls.proofs.Settles.{settles}

@@ -15,7 +15,7 @@ use Rattle.signals.proofs.Normal.{accepted-settled, acceptedNormal}
 use Rattle.operations.specs.Calls.{exactOfOne, exactOfTwo, exactOfDelay, changesAfterM}
 use Rattle.grammar.specs.Tree.{Tree, Unary, Binary, unary, binary, invert, rise, fall, ton, tof, and, or, sr, rs, applyUnary, applyBinary}
 use Rattle.signals.proofs.AnyDate.{one-list}
-use Rattle.sheets.specs.Reading.{sheetFault}
+use Rattle.format.specs.Reading.{sheetFault}
 use Rattle.calls.specs.OnSheet.{signalOn, settlingDate, exactOn}
 use Rattle.calls.specs.Calls.{partFault}
 use Rattle.calls.proofs.Settles.{settles, exact-for}

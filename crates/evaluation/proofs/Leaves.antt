@@ -16,18 +16,18 @@ use Rattle.signals.proofs.WordFacts.{date-le}
 use Rattle.operations.specs.Calls.{changesAfterM}
 use Rattle.calls.specs.Calls.{partFault}
 use Rattle.signals.proofs.Normal.{readBack, acceptedNormal}
-use Rattle.sheets.specs.Bytes.{Bytes, wordsIn}
+use Rattle.slices.specs.Bytes.{Bytes, wordsIn}
 use Rattle.names.specs.Names.{wellNamed}
-use Rattle.sheets.specs.Names.{among}
-use Rattle.sheets.specs.Reading.{sheetFault, signalsOn, names, listNamed, environmentOn}
-use Rattle.sheets.specs.Calls.{lookupFault, lookupOf, placeOf, partAt}
-use Rattle.sheets.specs.declared.Place.{Place}
-use Rattle.sheets.specs.declared.Place.the-variants.{At, Refused}
-use Rattle.sheets.proofs.Digits.{bytes-drop, wordsIn-below}
-use Rattle.sheets.specs.Theorems.{decoded, PartIsList}
-use Rattle.sheets.proofs.Theorems.{lookup-gives-the-list}
 use Rattle.grammar.specs.Tree.{Leaf, leaf, down, up, name}
 use Rattle.grammar.specs.Formula.{nameAt}
+use Rattle.format.specs.Names.{among}
+use Rattle.format.specs.Reading.{sheetFault, signalsOn, names, listNamed, environmentOn}
+use Rattle.format.specs.Calls.{lookupFault, lookupOf, placeOf, partAt}
+use Rattle.format.specs.declared.Place.{Place}
+use Rattle.format.specs.declared.Place.the-variants.{At, Refused}
+use Rattle.format.proofs.Digits.{bytes-drop, wordsIn-below}
+use Rattle.format.specs.Theorems.{decoded, PartIsList}
+use Rattle.format.proofs.Theorems.{lookup-gives-the-list}
 use Rattle.calls.specs.OnSheet.{exactOn, settlingDate, signalOn}
 use Rattle.evaluation.specs.Machine.{leafOf, leafKnown, Loaded}
 use Rattle.evaluation.proofs.SlotFacts.{short}

@@ -17,7 +17,7 @@ use Rattle.grammar.specs.Code.{Part, operand, one, two, code, work, top}
 use Rattle.grammar.specs.Formula.{partOf}
 use Rattle.grammar.proofs.Working.{code-determines}
 use Rattle.grammar.specs.Parts.{parts}
-use Rattle.sheets.specs.Reading.{sheetFault}
+use Rattle.format.specs.Reading.{sheetFault}
 use Rattle.calls.specs.OnSheet.{exactOn}
 use Rattle.calls.specs.Calls.{partFault, partsFault}
 use Rattle.evaluation.specs.declared.Next.{Next}

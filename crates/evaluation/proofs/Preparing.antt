@@ -21,16 +21,16 @@ use Rattle.grammar.proofs.Coding.{code-exact}
 use Rattle.grammar.proofs.Reading.{reader-exact, parts-exact, longest-of}
 use Rattle.grammar.proofs.Faults.{fine-of}
 use Rattle.grammar.proofs.Storing.{code-after-front}
-use Rattle.sheets.specs.Names.{same, among}
 use Rattle.names.specs.Names.{wellNamed}
-use Rattle.sheets.specs.Reading.{sheetFault, signalsOn, names, Entry, nameOf}
-use Rattle.sheets.specs.Calls.{lookupFault}
-use Rattle.sheets.proofs.Steps.{same-equal}
+use Rattle.format.specs.Names.{same, among}
+use Rattle.format.specs.Reading.{sheetFault, signalsOn, names, Entry, nameOf}
+use Rattle.format.specs.Calls.{lookupFault}
+use Rattle.format.proofs.Steps.{same-equal}
 use Rattle.calls.specs.OnSheet.{namesFound, leafFound}
 use Rattle.calls.specs.Calls.{readingFault}
 use Rattle.calls.proofs.FirstFault.{passed, missed}
 use Rattle.calls.proofs.ReadingFaults.{derived}
-use Rattle.calls.proofs.SheetLists.{Sound, AllSound, sheet-sound}
+use Rattle.format.proofs.SheetLists.{Sound, AllSound, sheet-sound}
 use Rattle.evaluation.specs.Machine.{leafOf, leafKnown, Known, AllKnown, partsIn, partFound, allFound, Prepared}
 use Rattle.evaluation.proofs.Leaves.{leaf-name, leaf-up, leaf-down}
 use Rattle.evaluation.proofs.PartCodes.{part-leaf-low, part-leaf-high, part-unary, part-binary}

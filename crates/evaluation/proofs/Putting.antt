@@ -7,8 +7,8 @@ use mathlib.Core.Path.{_≡_, refl, sym, _∙_, ap}
 use mathlib.Core.List.{List, [], _∷_, _++_}
 use lib.ListN.{length, take, drop, getD, set, length-drop, drop-of-length-le, length-set}
 use lib.Seq.{paste, paste-suc, paste-zero, take-all, take-nil, drop-drop, getD-drop}
-use Rattle.sheets.specs.Bytes.{low32, wordsIn}
 use Rattle.grammar.specs.Formula.{nameAt}
+use Rattle.slices.specs.Bytes.{low32, wordsIn}
 
 pub put-next : (d s w : List ℕ) (at i v : ℕ) → w ≡ paste d at s i → v ≡ getD s i 0 → at + i < length d → i < length s → set w (at + i) v ≡ paste d at s (i + 1)
 put-next d s w at i v e ev hd hs = rw (e, ev) (paste-suc d at s i 0 hd hs ∙ ap (paste d at s) (sym (add-one i)))

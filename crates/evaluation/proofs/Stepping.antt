@@ -15,7 +15,7 @@ use Rattle.signals.specs.declared.Written.{Written}
 use Rattle.signals.specs.declared.Written.the-variants.{Count, Refused}
 use Rattle.grammar.specs.Tree.{Tree, Leaf, Unary, Binary, leaf, unary, binary}
 use Rattle.grammar.specs.Code.{Part, operand, one, two, ticksOf, top}
-use Rattle.sheets.specs.Reading.{sheetFault}
+use Rattle.format.specs.Reading.{sheetFault}
 use Rattle.calls.specs.OnSheet.{exactOn}
 use Rattle.calls.specs.Calls.{partFault}
 use Rattle.evaluation.specs.declared.Next.{Next}

@@ -20,9 +20,9 @@ use Rattle.operations.specs.declared.SlotAnswer.the-variants.{Stands, TooLong, 
 use Rattle.grammar.specs.Tree.{Tree, Leaf, Unary, Binary, leaf, unary, binary, down, up, name, invert, rise, fall, ton, tof, and, or, sr, rs}
 use Rattle.grammar.specs.Code.{Part, operand, one, two, ticksOf, top, code}
 use Rattle.grammar.specs.Formula.{nameAt, partOf, codeOf, formulaTree}
-use Rattle.sheets.specs.Names.{among}
 use Rattle.names.specs.Names.{wellNamed}
-use Rattle.sheets.specs.Reading.{signalsOn, names}
+use Rattle.format.specs.Names.{among}
+use Rattle.format.specs.Reading.{signalsOn, names}
 use Rattle.calls.specs.OnSheet.{exactOn, leafFound}
 use Rattle.calls.specs.Calls.{partFault, partsFault, readingFault, workFault, workingFault, roomFault, wordsOn, claimFails}
 use Rattle.grammar.specs.Parts.{parts}

@@ -1,7 +1,7 @@
 -- The work area: untouched by a call that does not pass check 18, free after one that does.
 use Prim.Native.Nat.{ℕ}
 use mathlib.Core.List.{List}
-use Rattle.sheets.specs.Reading.{sheetFault}
+use Rattle.format.specs.Reading.{sheetFault}
 use Rattle.calls.specs.Calls.{readingFault, workFault}
 use Rattle.signals.specs.Answers.{firstOf}
 

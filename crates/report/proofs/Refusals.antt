@@ -13,7 +13,7 @@ use Rattle.signals.specs.Answers.{failsIn, judgedBy, verdictFor, faultOfVerdict
 use Rattle.signals.specs.declared.Verdict.{Verdict}
 use Rattle.signals.specs.declared.Verdict.the-variants.{Holds, FailsAt, FailsAfter, Refused}
 use Rattle.grammar.specs.Formula.{formulaTree}
-use Rattle.sheets.specs.Reading.{sheetFault}
+use Rattle.format.specs.Reading.{sheetFault}
 use Rattle.calls.specs.Calls.{neededWork, claimFault, claimFails, claimVerdict, claimAnswer}
 use Rattle.calls.specs.Tabled.{Check, NoFault, SheetBreaks, Breaks18, ReadingChecks, WorkingChecks, ClaimFaultIs}
 use Rattle.calls.proofs.OneEngine.{one-fault}

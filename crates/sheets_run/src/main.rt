@@ -68,13 +68,13 @@ fn begun(label: &[u8], n: usize) {
     let mut space = [7u8; 9];
     if n <= 9 {
         let out = &mut space[0..n];
-        let answer = sheets::begin(out);
+        let answer = appending::begin(out);
         answered(label, answer, out);
     }
 }
 
 fn added(label: &[u8], sheet: &[u8], name: &[u8], list: &[u32], out: &mut [u8]) {
-    let answer = sheets::append(sheet, name, list, out);
+    let answer = appending::append(sheet, name, list, out);
     answered(label, answer, out);
 }
 

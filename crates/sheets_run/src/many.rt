@@ -28,7 +28,7 @@ fn grown(sheet: &mut [u8], n: usize, name: &[u8], list: &[u32], other: &mut [u8]
     if sheet.len() < n {
         return n;
     }
-    match sheets::append(&sheet[0..n], name, list, other) {
+    match appending::append(&sheet[0..n], name, list, other) {
         Written::Count(count) => {
             if other.len() <= sheet.len() {
                 bytes::copy(other, sheet);
@@ -73,7 +73,7 @@ fn shown(label: &[u8], sheet: &[u8], n: usize, list: &[u32], other: &mut [u8]) {
 fn sheet_of(label: &[u8], many: usize, list: &[u32]) {
     let mut sheet = io::large_buffer();
     let mut other = io::large_buffer();
-    sheets::begin(&mut sheet);
+    appending::begin(&mut sheet);
     io::write_all(1, b"built");
     let n = built(&mut sheet, many, list, &mut other);
     line_end();

@@ -3,8 +3,8 @@ use borrow.Author.Needs.{needs}
 use native.Mathlib.Omega.{arith}
 use Prim.Native.Nat.{ℕ, _+_, _*_, _<_}
 use mathlib.Core.Path.{_≡_, sym, ap, subst, _∙_}
-use Rattle.sheets.specs.declared.Place.{Place}
-use Rattle.sheets.specs.declared.Place.the-variants.{At, Refused}
+use Rattle.format.specs.declared.Place.{Place}
+use Rattle.format.specs.declared.Place.the-variants.{At, Refused}
 use Rattle.capi.specs.Packing.{packPlace, SmallPlace}
 use Rattle.capi.proofs.pack_place.Statement.{statement}
 use Rattle.capi.proofs.pack_place.Tie as tie

@@ -1,7 +1,7 @@
 -- `capi::sgl_lookup` packs the answer.
 use borrow.Author.Needs.{needs}
 use mathlib.Core.Path.{_≡_, sym, ap, subst, _∙_}
-use Rattle.sheets.specs.declared.Place.{Place}
+use Rattle.format.specs.declared.Place.{Place}
 use Rattle.capi.specs.Packing.{packPlace, SmallPlace}
 use Rattle.capi.proofs.SmallSheets.{place-small}
 use Rattle.capi.proofs.sgl_lookup.Statement.{statement}

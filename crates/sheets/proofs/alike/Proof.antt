@@ -5,8 +5,8 @@ use Prim.Native.Nat.{_-_, _≤_}
 use denote.Ref.{now}
 use mathlib.Core.Path.{_≡_, refl, sym, _∙_}
 use lib.ListN.{length, drop}
-use Rattle.sheets.specs.Names.{same}
-use Rattle.sheets.proofs.Steps.{same-differ, same-agree, same-end, same-unequal}
+use Rattle.format.specs.Names.{same}
+use Rattle.format.proofs.Steps.{same-differ, same-agree, same-end, same-unequal}
 use Rattle.sheets.proofs.alike.Statement.{statement}
 use Rattle.sheets.proofs.alike.Tie as tie
 

@@ -5,8 +5,8 @@ use Prim.Native.Nat.{_-_, _≤_}
 use denote.Ref.{now}
 use mathlib.Core.Path.{_≡_, refl, sym, _∙_}
 use lib.ListN.{length, drop}
-use Rattle.sheets.specs.Names.{zeros}
-use Rattle.sheets.proofs.Steps.{zeros-not, zeros-step, zeros-end}
+use Rattle.format.specs.Names.{zeros}
+use Rattle.format.proofs.Steps.{zeros-not, zeros-step, zeros-end}
 use Rattle.sheets.proofs.all_zero.Statement.{statement}
 use Rattle.sheets.proofs.all_zero.Tie as tie
 

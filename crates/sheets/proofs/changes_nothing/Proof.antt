@@ -3,7 +3,7 @@ use Prim.Native.Nat.{_/_, _%_}
 use mathlib.Core.Path.{refl}
 use lib.Dec.{eqb}
 use Rattle.signals.specs.Words.{valueAt, valueAfter}
-use Rattle.sheets.proofs.Walking.{unchanged-as}
+use Rattle.format.proofs.Walking.{unchanged-as}
 use Rattle.sheets.proofs.changes_nothing.Statement.{statement}
 use Rattle.sheets.proofs.changes_nothing.Tie as tie
 

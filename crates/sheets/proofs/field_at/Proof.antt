@@ -1,7 +1,7 @@
 -- `sheets::field_at` meets its contract.
 use borrow.Author.Needs.{needs}
 use denote.Ref.{now}
-use Rattle.sheets.proofs.Walking.{field-is}
+use Rattle.format.proofs.Walking.{field-is}
 use Rattle.sheets.proofs.field_at.Statement.{statement}
 use Rattle.sheets.proofs.field_at.Tie as tie
 

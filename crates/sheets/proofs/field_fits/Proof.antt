@@ -1,7 +1,7 @@
 -- `sheets::field_fits` meets its contract.
 use borrow.Author.Needs.{needs}
 use denote.Ref.{now}
-use Rattle.sheets.proofs.Steps.{name-within, fits-if-zeros, fits-not}
+use Rattle.format.proofs.Steps.{name-within, fits-if-zeros, fits-not}
 use Rattle.sheets.proofs.field_fits.Statement.{statement}
 use Rattle.sheets.proofs.field_fits.Tie as tie
 

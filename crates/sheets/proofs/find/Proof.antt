@@ -6,9 +6,9 @@ use Prim.Native.Nat.{_-_, _≤_}
 use mathlib.Core.Path.{_≡_, refl, sym, _∙_}
 use lib.ListN.{length, drop}
 use denote.Ref.{now}
-use Rattle.sheets.specs.Calls.{placeFrom}
-use Rattle.sheets.specs.Walk.{Whole}
-use Rattle.sheets.proofs.Walking.{room, room10, whole-next, found, not-here, place-none}
+use Rattle.format.specs.Calls.{placeFrom}
+use Rattle.format.specs.Walk.{Whole}
+use Rattle.format.proofs.Walking.{room, room10, whole-next, found, not-here, place-none}
 use Rattle.sheets.proofs.find.Statement.{statement}
 use Rattle.sheets.proofs.find.Tie as tie
 

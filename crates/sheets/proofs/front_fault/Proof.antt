@@ -4,10 +4,10 @@ use mathlib.Core.Path.{_≡_, refl, sym, _∙_}
 use mathlib.Core.Bool.{cond}
 use lib.Dec.{ltb}
 use borrow.Author.Tests.{lt-ltb, le-ltb}
-use Rattle.sheets.specs.Reading.{frontFault}
+use Rattle.format.specs.Reading.{frontFault}
 use denote.Ref.{now}
 use lib.Seq.{length-take-le}
-use Rattle.sheets.proofs.Judging.{front-short, front-mark, front-cut, front-version, front-no-count, front-counted}
+use Rattle.format.proofs.Judging.{front-short, front-mark, front-cut, front-version, front-no-count, front-counted}
 use Rattle.sheets.proofs.front_fault.Statement.{statement}
 use Rattle.sheets.proofs.front_fault.Tie as tie
 

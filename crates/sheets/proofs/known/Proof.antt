@@ -3,7 +3,7 @@ use borrow.Author.Needs.{needs}
 use mathlib.Core.Path.{sym, ap, _∙_}
 use lib.ListN.{drop}
 use denote.Ref.{now}
-use Rattle.sheets.proofs.Judging.{foundIn, found-known}
+use Rattle.format.proofs.Judging.{foundIn, found-known}
 use Rattle.sheets.proofs.known.Statement.{statement}
 use Rattle.sheets.proofs.known.Tie as tie
 

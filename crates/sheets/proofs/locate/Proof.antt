@@ -4,9 +4,9 @@ use Prim.Native.Nat.{ℕ}
 use mathlib.Core.Path.{sym, ap, _∙_}
 use lib.ListN.{drop}
 use denote.Ref.{now}
-use Rattle.sheets.specs.declared.Place.the-variants.{Refused}
-use Rattle.sheets.specs.Calls.{placeFrom}
-use Rattle.sheets.proofs.Locating.{count-is, front-none, sheet-whole, place-bad-sheet, place-bad-name, place-walked}
+use Rattle.format.specs.declared.Place.the-variants.{Refused}
+use Rattle.format.specs.Calls.{placeFrom}
+use Rattle.format.proofs.Locating.{count-is, front-none, sheet-whole, place-bad-sheet, place-bad-name, place-walked}
 use Rattle.sheets.proofs.locate.Statement.{statement}
 use Rattle.sheets.proofs.locate.Tie as tie
 
@@ -23,11 +23,7 @@ well-named-requires : tie.Need-well-named-requires
 well-named-requires c κs = search needs
 
 read16-requires : tie.Need-read16-requires
-read16-requires c κs =
-    let args = c .before .before .before .before .before .before .args in
-    let sheet-fault = c .before .before .before .sheet-fault in
-    let if1 = c .before .before .if1 in
-    front-none (now (args .sheet)) (sym (sheet-fault .ensures) ∙ if1 .left) .room
+read16-requires c κs = search needs
 
 find-requires : tie.Need-find-requires
 find-requires c κs =

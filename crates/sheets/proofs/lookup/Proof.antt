@@ -3,7 +3,7 @@ use borrow.Author.Needs.{needs}
 use native.Mathlib.Omega.{arith}
 use mathlib.Core.Path.{sym, _∙_}
 use denote.Ref.{now, ptr}
-use Rattle.sheets.proofs.Locating.{place-within, part-is, lies-at, part-none}
+use Rattle.format.proofs.Locating.{place-within, part-is, lies-at, part-none}
 use Rattle.sheets.proofs.lookup.Statement.{statement}
 use Rattle.sheets.proofs.lookup.Tie as tie
 

@@ -2,8 +2,8 @@
 use borrow.Author.Needs.{needs}
 use mathlib.Core.Path.{sym, ap, _∙_}
 use denote.Ref.{now}
-use Rattle.sheets.specs.Calls.{faultOfPlace}
-use Rattle.sheets.proofs.Locating.{place-fault}
+use Rattle.format.specs.Calls.{faultOfPlace}
+use Rattle.format.proofs.Locating.{place-fault}
 use Rattle.sheets.proofs.lookup_fault.Statement.{statement}
 use Rattle.sheets.proofs.lookup_fault.Tie as tie
 

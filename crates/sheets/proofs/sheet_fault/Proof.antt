@@ -1,6 +1,6 @@
 -- `sheets::sheet_fault` meets its contract: the fault from here, after the signals passed, is the fault of the sheet.
-use Rattle.sheets.proofs.Walking.{size-least}
-use Rattle.sheets.proofs.Judging.{none-left, some-left}
+use Rattle.format.proofs.Walking.{size-least}
+use Rattle.format.proofs.Judging.{none-left, some-left}
 use borrow.Author.Needs.{needs}
 use native.Mathlib.Omega.{arith}
 use Prim.Native.Nat.{_+_, _-_, _≤_}
@@ -8,9 +8,9 @@ use mathlib.Core.Path.{_≡_, refl, sym, _∙_}
 use lib.ListN.{length, drop}
 use denote.Ref.{now}
 use native.Mathlib.Nat.{sub-zero}
-use Rattle.sheets.specs.Reading.{sheetFault, signalsFault, signalsFrom, names, countOn}
-use Rattle.sheets.specs.Walk.{Whole, sizeOf}
-use Rattle.sheets.proofs.Judging.{fronted, sheet-front, sheet-past, signals-fault, signals-end, room-next, at-next, whole-after, fault-next}
+use Rattle.format.specs.Reading.{sheetFault, signalsFault, signalsFrom, names, countOn}
+use Rattle.format.specs.Walk.{Whole, sizeOf}
+use Rattle.format.proofs.Judging.{fronted, sheet-front, sheet-past, signals-fault, signals-end, room-next, at-next, whole-after, fault-next}
 use Rattle.sheets.proofs.sheet_fault.Statement.{statement}
 use Rattle.sheets.proofs.sheet_fault.Tie as tie
 
@@ -35,7 +35,7 @@ returns c =
     front-fault .ensures ∙ sheet-front (now (args .sheet)) (λ e. c .if1 .taken (front-fault .ensures ∙ e))
 
 read16-requires : tie.Need-read16-requires Inv-loop μ-loop
-read16-requires c κs = fronted (now (c .before .before .before .args .sheet)) (sym (c .before .front-fault .ensures) ∙ c .if1 .left) .room
+read16-requires c κs = search needs
 
 loop-holds : tie.Need-loop-holds Inv-loop μ-loop
 unfolding sizeOf signalsFrom names countOn

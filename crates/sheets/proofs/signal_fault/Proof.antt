@@ -3,9 +3,9 @@ use borrow.Author.Needs.{needs}
 use mathlib.Core.Path.{sym, ap, _∙_}
 use lib.ListN.{drop}
 use denote.Ref.{now}
-use Rattle.sheets.specs.Names.{fieldFits}
-use Rattle.sheets.specs.Reading.{names, signalsFrom}
-use Rattle.sheets.proofs.Judging.{known-name, signal-cut, signal-malformed, signal-repeated, signal-no-count, signal-none, signal-many, signal-words}
+use Rattle.format.specs.Names.{fieldFits}
+use Rattle.format.specs.Reading.{names, signalsFrom}
+use Rattle.format.proofs.Judging.{known-name, signal-cut, signal-malformed, signal-repeated, signal-no-count, signal-none, signal-many, signal-words}
 use Rattle.sheets.proofs.signal_fault.Statement.{statement}
 use Rattle.sheets.proofs.signal_fault.Tie as tie
 

@@ -2,7 +2,7 @@
 use borrow.Author.Needs.{needs}
 use lib.ListN.{drop}
 use denote.Ref.{now}
-use Rattle.sheets.proofs.Walking.{size-at}
+use Rattle.format.proofs.Walking.{size-at}
 use Rattle.sheets.proofs.signal_size.Statement.{statement}
 use Rattle.sheets.proofs.signal_size.Tie as tie
 

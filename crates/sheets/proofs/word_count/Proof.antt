@@ -1,7 +1,7 @@
 -- `sheets::word_count` meets its contract.
 use borrow.Author.Needs.{needs}
 use denote.Ref.{now}
-use Rattle.sheets.proofs.Walking.{count-at}
+use Rattle.format.proofs.Walking.{count-at}
 use Rattle.sheets.proofs.word_count.Statement.{statement}
 use Rattle.sheets.proofs.word_count.Tie as tie
 

@@ -1,12 +1,12 @@
 -- `sheets::words_fault` meets its contract: the fault of the words left from here is that of all after the first.
-use Rattle.sheets.proofs.Walking.{words-cut, words-high, words-next, later-cut, later-date, later-same, later-next, later-end}
+use Rattle.format.proofs.Walking.{words-cut, words-high, words-next, later-cut, later-date, later-same, later-next, later-end}
 use borrow.Author.Needs.{needs}
 use native.Mathlib.Omega.{arith}
 use Prim.Native.Nat.{_-_, _≤_}
 use mathlib.Core.Path.{_≡_, sym, _∙_}
 use lib.ListN.{length, drop}
 use denote.Ref.{now}
-use Rattle.sheets.specs.Reading.{sheetWordsFault, laterWordsFault}
+use Rattle.format.specs.Reading.{sheetWordsFault, laterWordsFault}
 use Rattle.sheets.proofs.words_fault.Statement.{statement}
 use Rattle.sheets.proofs.words_fault.Tie as tie
 
@@ -23,7 +23,7 @@ returns : tie.Need-returns Inv-loop μ-loop
 returns c = sym (words-cut (c .before .before .args .n) (now (c .before .before .args .s)) (c .before .before .args .from) (c .if1 .taken))
 
 read32-requires : tie.Need-read32-requires Inv-loop μ-loop
-read32-requires c κs = omega arith
+read32-requires c κs = search needs
 
 returns-2 : tie.Need-returns-2 Inv-loop μ-loop
 returns-2 c =
@@ -49,7 +49,7 @@ returns-3 c =
     sym (later-cut (loop .last) (loop .before) (args .n) (loop .i) (now (args .s)) (loop .at) (loop-test .taken) (c .if3 .taken)) ∙ loop .inv .2
 
 read32-requires-2 : tie.Need-read32-requires-2 Inv-loop μ-loop
-read32-requires-2 c κs = omega arith
+read32-requires-2 c κs = search needs
 
 returns-4 : tie.Need-returns-4 Inv-loop μ-loop
 returns-4 c =

@@ -1,0 +1,24 @@
+-- Laws that the proofs of the functions cite, and the theorems about sheets.
+pub mod Steps
+pub mod Walking
+pub mod Judging
+pub mod PlaceSays
+pub mod Locating
+pub mod Placing
+pub mod Filling
+pub mod Digits
+pub mod Fields
+pub mod Accepting
+pub mod OneSignal
+pub mod ReadBack
+pub mod Appending
+pub mod Named
+pub mod SheetLists
+pub mod FaultNumbers
+pub mod Looked
+pub mod Theorems
+pub mod LookupPlace
+pub mod WordCuts
+pub mod Exactly
+pub mod ExactSheets
+pub mod ExactCalls
