@@ -14,3 +14,4 @@ pub mod NotRefused
 pub mod OneEngine
 pub mod WrongEngines
 pub mod Printed
+pub mod Work

@@ -1,7 +1,2 @@
--- The bounds by which every packed number fits.
-pub mod SmallAnswers
-pub mod SmallLists
-pub mod SmallOperations
-pub mod SmallSheets
+-- What the exports' proofs share.
 pub mod Connected
-pub mod SmallCalls

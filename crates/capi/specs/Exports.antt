@@ -1,4 +1,5 @@
--- The whole of an exported call on lists: the number it returns and the output at exit, in the definitions of the library's calls.
+-- The whole of an exported call that writes or works: the number it returns, the output and the work area at exit, in the definitions of
+-- the library's calls.
 use Prim.Native.Nat.{ℕ}
 use mathlib.Core.Path.{_≡_}
 use mathlib.Core.List.{List}
@@ -6,7 +7,12 @@ use lib.ListN.{length}
 use Rattle.signals.specs.Signal.{Signal}
 use Rattle.signals.specs.Answers.{writtenOf, outputOf}
 use Rattle.operations.specs.Calls.{faultOfOne, exactOfOne, faultOfTwo, exactOfTwo, faultOfDelay, exactOfDelay}
-use Rattle.capi.specs.Packing.{packWritten}
+use Rattle.signals.specs.Tidying.{tidied}
+use Rattle.lists.specs.Questions.{tidyingFault}
+use Rattle.sheets.specs.Calls.{appendFault, appended}
+use Rattle.calls.specs.Calls.{callAnswer, callOutput, claimAnswer}
+use Rattle.calls.specs.Work.{firstFault, firstClaimFault, KeptWhen}
+use Rattle.packing.specs.Packing.{packWritten, packVerdict}
 
 -- a call with this fault (0 for none) and these words: the number, and the output at exit from the output at entry
 abbrev pub Exported : ℕ → List ℕ → List ℕ → ℕ → List ℕ → Type 0
@@ -20,3 +26,20 @@ ExportedTwo operation a b out = Exported (faultOfTwo operation a b (length out))
 
 abbrev pub ExportedDelay : (Signal → Signal) → ℕ → List ℕ → List ℕ → ℕ → List ℕ → Type 0
 ExportedDelay operation d a out = Exported (faultOfDelay operation d a (length out)) (exactOfDelay operation d a) out
+
+abbrev pub ExportedTidying : List ℕ → List ℕ → ℕ → List ℕ → Type 0
+ExportedTidying a out = Exported (tidyingFault a (length out)) (tidied a) out
+
+abbrev pub ExportedAppend : List ℕ → List ℕ → List ℕ → List ℕ → ℕ → List ℕ → Type 0
+ExportedAppend sheet name list out = Exported (appendFault sheet name list (length out)) (appended sheet name list) out
+
+-- sheet, formula, work area and output at entry; the number; output and work area at exit
+abbrev pub ExportedFormula : List ℕ → List ℕ → List ℕ → List ℕ → ℕ → List ℕ → List ℕ → Type 0
+ExportedFormula sheet formula work out r outAfter workAfter =
+    (r ≡ packWritten (callAnswer sheet formula (length work) out))
+    × (outAfter ≡ callOutput sheet formula (length work) out)
+    × KeptWhen (firstFault sheet formula (length work)) work workAfter
+
+abbrev pub ExportedClaim : List ℕ → List ℕ → List ℕ → List ℕ → ℕ → List ℕ → Type 0
+ExportedClaim sheet F G work r workAfter =
+    (r ≡ packVerdict (claimAnswer sheet F G (length work))) × KeptWhen (firstClaimFault sheet F G (length work)) work workAfter

@@ -29,7 +29,7 @@ use Rattle.calls.specs.Calls.{readingFault, workFault, neededWork, partsFault, 
 use Rattle.calls.proofs.Settles.{settles}
 use Rattle.calls.proofs.NotRefused.{work-ok, work-short}
 use Rattle.evaluation.specs.Machine.{InSlot, Plan, WorkedOut, Prepared, Coded, runFault, partsIn}
-use Rattle.evaluation.specs.Work.{firstFault, firstClaimFault}
+use Rattle.calls.specs.Work.{firstFault, firstClaimFault}
 use Rattle.evaluation.proofs.Exact.{signal-is, settled-at}
 use Rattle.evaluation.proofs.Stepping.{counted, refused-by}
 use Rattle.evaluation.proofs.SlotFacts.{short}

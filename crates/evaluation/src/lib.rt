@@ -12,7 +12,7 @@ ghost use Rattle.signals.specs.Words.{listFault};
 ghost use Rattle.grammar.specs.Tree.{Tree};
 ghost use Rattle.grammar.specs.Code.{ticksOf, operand, one, two, code};
 ghost use Rattle.evaluation.specs.Machine.{leafOf, unaryOf, binaryOf, leafKnown, Loaded, Given, partAnswer, unaryExact, binaryExact, Room, Ready, Steps, Plan, partsIn, WorkedOut, partFound, allFound, Prepared, Coded, runFault, judgeFault, InSlot, ClaimOn};
-ghost use Rattle.evaluation.specs.Work.{firstFault, firstClaimFault};
+ghost use Rattle.calls.specs.Work.{CallOfFormula, CallOfClaim};
 ghost use Rattle.signals.specs.Answers.{writtenOf, outputOf, verdictFor};
 ghost use Rattle.calls.specs.Calls.{roomFault, wordsOn, callAnswer, callOutput, claimFails, claimAnswer};
 ghost use Rattle.grammar.specs.Formula.{formulaTree};
@@ -424,7 +424,8 @@ fn run_formula(
 
 // The formula call: sheet faults; 10, 11, 8, 12, 13; 18; 5 or 6 at the first part that meets one; 7.
 pub fn evaluate(sheet: &[u8], formula: &[u8], work: &mut [u32], out: &mut [u32]) -> Written
-    ensures { λ r. ⌜ (r ≡ callAnswer (now (sheet .entry)) (now (formula .entry)) (length (now (work .entry))) (now (out .entry))) × (now (out .exit) ≡ callOutput (now (sheet .entry)) (now (formula .entry)) (length (now (work .entry))) (now (out .entry))) × ((firstFault (now (sheet .entry)) (now (formula .entry)) (length (now (work .entry))) ≡ 0 → ⊥) → now (work .exit) ≡ now (work .entry)) ⌝ }
+    ensures { λ r. ⌜ CallOfFormula (now (sheet .entry)) (now (formula .entry)) (now (work .entry)) (now (out .entry))
+        r (now (out .exit)) (now (work .exit)) ⌝ }
 {
     let fault = sheets::sheet_fault(sheet);
     if fault != 0 {
@@ -514,7 +515,7 @@ fn claim_on(
 
 // The claim of two formulas: sheet faults; F's 10, 11, 8, 12, 13; G's; 18; F's parts; G's parts; else the verdict.
 pub fn claim(sheet: &[u8], f: &[u8], g: &[u8], work: &mut [u32]) -> Verdict
-    ensures { λ r. ⌜ (r ≡ claimAnswer (now (sheet .entry)) (now (f .entry)) (now (g .entry)) (length (now (work .entry)))) × ((firstClaimFault (now (sheet .entry)) (now (f .entry)) (now (g .entry)) (length (now (work .entry))) ≡ 0 → ⊥) → now (work .exit) ≡ now (work .entry)) ⌝ }
+    ensures { λ r. ⌜ CallOfClaim (now (sheet .entry)) (now (f .entry)) (now (g .entry)) (now (work .entry)) r (now (work .exit)) ⌝ }
 {
     let fault = sheets::sheet_fault(sheet);
     if fault != 0 {

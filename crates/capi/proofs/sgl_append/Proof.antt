@@ -1,9 +1,8 @@
 -- `capi::sgl_append` packs the answer and leaves the output as the call does.
 use borrow.Author.Needs.{needs}
-use mathlib.Core.Path.{_≡_, sym, ap, subst, _∙_}
-use Rattle.signals.specs.declared.Written.{Written}
-use Rattle.capi.specs.Packing.{packWritten, SmallWritten}
-use Rattle.capi.proofs.SmallSheets.{append-small}
+use mathlib.Core.Path.{_∙_}
+use Rattle.packing.proofs.SmallAnswers.{packed-written}
+use Rattle.packing.proofs.SmallSheets.{append-small}
 use Rattle.capi.proofs.sgl_append.Statement.{statement}
 use Rattle.capi.proofs.sgl_append.Tie as tie
 
@@ -11,13 +10,15 @@ append-requires : tie.Need-append-requires
 append-requires c κs = search needs
 
 pack-written-requires : tie.Need-pack-written-requires
-pack-written-requires c κs = subst (λ (x : Written). SmallWritten x) (sym (c .before .before .append .ensures .0)) (append-small _ _ _ _)
+pack-written-requires c κs = search needs
 
 same-length : tie.Need-same-length
 same-length c = search needs
 
 returns : tie.Need-returns
-returns c = (c .pack-written .ensures ∙ ap packWritten (c .before .before .before .append .ensures .0), c .before .before .before .append .ensures .1)
+returns c =
+    let called = c .before .before .before .append .ensures in
+    (c .pack-written .ensures ∙ packed-written _ _ (called .0) (append-small _ _ _ _), called .1)
 
 pub sgl-append-spec : {M : Type 1} → statement M
 sgl-append-spec = tie.close (tie.spec append-requires pack-written-requires same-length returns)

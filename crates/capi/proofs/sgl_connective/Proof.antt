@@ -1,10 +1,6 @@
 -- `capi::sgl_connective` packs the answer and leaves the output as the call does.
 use borrow.Author.Needs.{needs}
-use mathlib.Core.Path.{_≡_, sym, ap, subst, _∙_}
 use denote.Ref.{now}
-use Rattle.signals.specs.declared.Written.{Written}
-use Rattle.capi.specs.Packing.{packWritten, SmallWritten}
-use Rattle.capi.proofs.SmallOperations.{two-small}
 use Rattle.capi.proofs.Connected.{connected}
 use Rattle.capi.proofs.sgl_connective.Statement.{statement}
 use Rattle.capi.proofs.sgl_connective.Tie as tie
@@ -16,8 +12,7 @@ connective-requires : tie.Need-connective-requires
 connective-requires c κs = search needs
 
 pack-written-requires : tie.Need-pack-written-requires
-pack-written-requires c κs =
-    subst (λ (x : Written). SmallWritten x) (sym (c .before .before .connective .ensures .0)) (two-small _ _ _ _)
+pack-written-requires c κs = search needs
 
 same-length : tie.Need-same-length
 same-length c = search needs

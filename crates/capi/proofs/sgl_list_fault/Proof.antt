@@ -1,11 +1,7 @@
 -- `capi::sgl_list_fault` packs the fault.
 use borrow.Author.Needs.{needs}
-use native.Mathlib.Omega.{arith}
-use Prim.Native.Nat.{ℕ, _<_}
-use mathlib.Core.Path.{_≡_, sym, ap, subst, _∙_}
-use denote.Ref.{now}
-use Rattle.capi.specs.Packing.{packFault}
-use Rattle.capi.proofs.SmallAnswers.{list-small}
+use mathlib.Core.Path.{_∙_}
+use Rattle.packing.proofs.SmallAnswers.{packed-fault, list-small}
 use Rattle.capi.proofs.sgl_list_fault.Statement.{statement}
 use Rattle.capi.proofs.sgl_list_fault.Tie as tie
 
@@ -13,10 +9,10 @@ list-fault-requires : tie.Need-list-fault-requires
 list-fault-requires c κs = search needs
 
 pack-fault-requires : tie.Need-pack-fault-requires
-pack-fault-requires c κs = subst (λ (n : ℕ). n < 65536) (sym (c .list-fault .ensures)) (list-small (now (c .before .before .args .list)))
+pack-fault-requires c κs = search needs
 
 returns : tie.Need-returns
-returns c = c .pack-fault .ensures ∙ ap packFault (c .before .list-fault .ensures)
+returns c = c .pack-fault .ensures ∙ packed-fault _ _ (c .before .list-fault .ensures) (list-small _)
 
 pub sgl-list-fault-spec : {M : Type 1} → statement M
 sgl-list-fault-spec = tie.close (tie.spec list-fault-requires pack-fault-requires returns)

@@ -14,13 +14,13 @@ use Rattle.grammar.specs.Formula.{formulaFault, formulaTree, accepted, longestO
 use Rattle.grammar.specs.Parts.{parts}
 use Rattle.format.specs.Reading.{sheetFault}
 use Rattle.calls.specs.OnSheet.{exactOn, namesFound}
-use Rattle.calls.specs.Calls.{neededWork, readingFault, workFault, partFault, partsFault, workingFault, wordsOn, roomFault, callFault, callAnswer, claimFault, claimAnswer}
+use Rattle.calls.specs.Calls.{neededWork, readingFault, workFault, partFault, partsFault, workingFault, wordsOn, roomFault}
+use Rattle.calls.specs.Calls.{callFault, callAnswer, claimFault, claimAnswer}
 use Rattle.calls.proofs.FirstFault.{passed}
 use Rattle.calls.proofs.PartFaults.{whole-none}
-use Rattle.capi.specs.Packing.{SmallWritten, SmallVerdict}
-use Rattle.capi.proofs.SmallAnswers.{choice, written-small, answer-small}
-use Rattle.capi.proofs.SmallAnswers.{first-small}
-use Rattle.capi.proofs.SmallSheets.{sheet-small}
+use Rattle.packing.proofs.SmallAnswers.{SmallWritten, SmallVerdict, choice, written-small, answer-small}
+use Rattle.packing.proofs.SmallAnswers.{first-small}
+use Rattle.packing.proofs.SmallSheets.{sheet-small}
 use Rattle.signals.proofs.FirstFault.{both-none}
 
 formula-small : (text : List ℕ) → formulaFault text < 65536
@@ -59,8 +59,8 @@ words-short : (sheet formula : List ℕ) → workingFault sheet formula ≡ 0 �
 unfolding workingFault wordsOn partFault
 words-short sheet formula z =
     let e = whole-none sheet (formulaTree formula) z in
-    omega
-    (arith, ltb-false 256 (length (exactOn sheet (formulaTree formula))) (passed (ltb 256 (length (exactOn sheet (formulaTree formula)))) 5 _ (omega arith) e .0))
+    let n = length (exactOn sheet (formulaTree formula)) in
+    omega (arith, ltb-false 256 n (passed (ltb 256 n) 5 _ (omega arith) e .0))
 
 pub call-small : (sheet formula : List ℕ) (work : ℕ) (old : List ℕ) → SmallWritten (callAnswer sheet formula work old)
 unfolding callAnswer callFault roomFault

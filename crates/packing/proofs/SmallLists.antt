@@ -17,8 +17,7 @@ use Rattle.signals.specs.Words.{pairFault}
 use Rattle.questions.specs.Questions.{instantFault, gapFault, valueAtOf, valueInOf, equalOf, impliesOf}
 use Rattle.tidying.specs.Calls.{tidyingFault}
 use Rattle.format.proofs.Accepting.{listed-some}
-use Rattle.capi.specs.Packing.{SmallWritten, SmallTold, SmallVerdict}
-use Rattle.capi.proofs.SmallAnswers.{choice, first-small, list-small, written-small, answer-small}
+use Rattle.packing.proofs.SmallAnswers.{SmallWritten, SmallTold, SmallVerdict, choice, first-small, list-small, written-small, answer-small}
 use Rattle.signals.specs.Answers.{firstOf, toldValue, toldOf}
 use Rattle.signals.proofs.FirstFault.{both-none}
 
@@ -31,8 +30,8 @@ unfolding toldOf
 told-small fault v h = go (eqb fault 0) v
   where
     go : (t w : Bool) → SmallTold (cond t (toldValue w) (told.Refused fault))
-    go true true = tt
-    go true false = tt
+    go true true = omega arith
+    go true false = omega arith
     go false w = h
 
 pub value-at-small : (l : List ℕ) (k : ℕ) → SmallTold (valueAtOf l k)

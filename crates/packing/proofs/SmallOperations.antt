@@ -11,10 +11,10 @@ use Rattle.signals.specs.Moment.{M}
 use Rattle.signals.specs.Signal.{Signal}
 use Rattle.signals.specs.Words.{listFault}
 use Rattle.signals.specs.Answers.{writtenOf}
-use Rattle.operations.specs.Calls.{changesAfterM, answerFault, lengthFault, pairFault, faultOfOne, exactOfOne, faultOfTwo, exactOfTwo, faultOfDelay, exactOfDelay}
+use Rattle.operations.specs.Calls.{changesAfterM, answerFault, lengthFault, pairFault}
+use Rattle.operations.specs.Calls.{faultOfOne, exactOfOne, faultOfTwo, exactOfTwo, faultOfDelay, exactOfDelay}
 use Rattle.calls.proofs.FirstFault.{passed}
-use Rattle.capi.specs.Packing.{SmallWritten}
-use Rattle.capi.proofs.SmallAnswers.{choice, first-small, list-small, written-small}
+use Rattle.packing.proofs.SmallAnswers.{SmallWritten, choice, first-small, list-small, written-small}
 use Rattle.signals.specs.Answers.{firstOf}
 use Rattle.signals.proofs.FirstFault.{both-none}
 
@@ -29,7 +29,8 @@ unfolding answerFault
 answer-short exact n z =
     omega (arith, ltb-false 256 (length exact) (passed (ltb 256 (length exact)) 5 _ (omega arith) z .0))
 
-pub one-small : (operation : Signal → Signal) (a : List ℕ) (n : ℕ) → SmallWritten (writtenOf (faultOfOne operation a n) (exactOfOne operation a))
+pub one-small : (operation : Signal → Signal) (a : List ℕ) (n : ℕ)
+    → SmallWritten (writtenOf (faultOfOne operation a n) (exactOfOne operation a))
 unfolding faultOfOne
 one-small operation a n =
     written-small _ _ (first-small (listFault a) _ (list-small a) (answer-small (exactOfOne operation a) n))

@@ -26,8 +26,7 @@ use Rattle.format.proofs.Accepting.{listed-some}
 use Rattle.format.proofs.Appending.{length-on, entries-snoc, appends}
 use Rattle.format.proofs.SheetLists.{Sound, AllSound, sheet-sound}
 use Rattle.format.proofs.FaultNumbers.{OfSheets, sheet-of}
-use Rattle.capi.specs.Packing.{SmallWritten, SmallPlace}
-use Rattle.capi.proofs.SmallAnswers.{choice, list-small, written-small}
+use Rattle.packing.proofs.SmallAnswers.{SmallWritten, SmallPlace, choice, list-small, written-small}
 use Rattle.signals.specs.Answers.{firstOf}
 use Rattle.signals.proofs.FirstFault.{both-none}
 
@@ -80,10 +79,10 @@ place-small sheet name = go (placeOf sheet name) refl
         let z : lookupFault sheet name ≡ 0 = sym (place-fault sheet name) ∙ ap faultOfPlace e in
         let l = sheet-short sheet (lookup-none sheet name z .fine) in
         let w = place-within sheet name start count e in
-        (omega arith, omega arith)
+        (omega arith, omega arith, omega arith)
     go (place.Refused f) e =
         let z : f ≡ lookupFault sheet name = sym (ap faultOfPlace e) ∙ place-fault sheet name in
-        omega (arith, lookup-small sheet name)
+        (omega (arith, lookup-small sheet name), omega arith, omega arith)
 
 entry-short : (name list : List ℕ) → wellNamed name ≡ true → listFault list ≡ 0 → length (entryBytes (entry name list)) ≤ 1034
 entry-short name list n l = omega (arith, length-entry name list (named-short name n), listed-some list l .1)
@@ -92,8 +91,9 @@ entries-short : (es : List Entry) → AllSound es → length (entriesBytes es) �
 unfolding entriesBytes
 entries-short [] h = omega arith
 entries-short (entry name list ∷ es) h =
-    omega
-    (arith, length-append (entryBytes (entry name list)) (entriesBytes es), entry-short name list (h .0 .named) (h .0 .listed), entries-short es (h .1))
+    let first = entry-short name list (h .0 .named) (h .0 .listed) in
+    let rest = entries-short es (h .1) in
+    omega (arith, length-append (entryBytes (entry name list)) (entriesBytes es))
 
 -- a sheet with one signal more
 bytes-of : (es : List Entry) (name list : List ℕ)

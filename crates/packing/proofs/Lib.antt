@@ -1,0 +1,6 @@
+-- The bounds by which every packed number fits.
+pub mod SmallAnswers
+pub mod SmallLists
+pub mod SmallOperations
+pub mod SmallSheets
+pub mod SmallCalls

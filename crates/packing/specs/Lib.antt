@@ -1,0 +1,2 @@
+-- The packing of answers as definitions.
+pub mod Packing

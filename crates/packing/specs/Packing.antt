@@ -1,0 +1,66 @@
+-- The answers of the library as the one number that an exported function returns, and that number in its 32 or 64 bits for every answer.
+use Prim.Native.Nat.{ℕ, _+_, _*_, _/_, _%_}
+use mathlib.Core.Bool.{Bool}
+use mathlib.Core.List.{[], _∷_}
+use lib.Dec.{eqb}
+use Rattle.signals.specs.Signal.{Table, num}
+use Rattle.signals.specs.Answers.{faultIn, countIn, faultOfTold, valueIn, faultOfVerdict}
+use Rattle.format.specs.Calls.{faultOfPlace, firstByte, byteCount}
+use Rattle.signals.specs.declared.Written.{Written}
+use Rattle.signals.specs.declared.Told.{Told}
+use Rattle.signals.specs.declared.Verdict.{Verdict}
+use Rattle.signals.specs.declared.Verdict.the-variants as verdict
+use Rattle.format.specs.declared.Place.{Place}
+use Rattle.format.specs.declared.Place.the-variants as place
+
+-- 65,536 × fault
+unfoldable pub packFault : ℕ → ℕ
+packFault f = 65536 * f
+
+-- 65,536 × fault + count; the count is 0 when refused
+unfoldable pub packWritten : Written → ℕ
+packWritten answer = packFault (faultIn answer) + countIn answer
+
+-- 65,536 × fault + the value, 1 for yes (up) and 0 for no (down)
+unfoldable pub packTold : Told → ℕ
+packTold answer = packFault (faultOfTold answer) + num (valueIn answer)
+
+-- what fails first: 0 for nothing, 2k for the instant k, 2k+1 for the gap k
+unfoldable pub packMoment : Verdict → ℕ
+packMoment verdict.Holds = 0
+packMoment (verdict.FailsAt k) = 2 * k
+packMoment (verdict.FailsAfter k) = 2 * k + 1
+packMoment (verdict.Refused f) = 0
+
+-- 2^40 × fault + what fails first
+unfoldable pub packVerdict : Verdict → ℕ
+packVerdict answer = 1099511627776 * faultOfVerdict answer + packMoment answer
+
+-- 2^48 × fault + 2^24 × first byte + byte count; the last two are 0 when refused
+unfoldable pub packPlace : Place → ℕ
+packPlace answer = 281474976710656 * faultOfPlace answer + 16777216 * firstByte answer + byteCount answer
+
+-- The same in 32 bits, or in 64 for a verdict and a place, whatever the answer: of each number the low bits that its place has room for.
+unfoldable pub faultBits : ℕ → ℕ
+faultBits f = packFault (f % 65536)
+
+unfoldable pub writtenBits : Written → ℕ
+writtenBits answer = faultBits (faultIn answer) + countIn answer % 65536
+
+unfoldable pub toldBits : Told → ℕ
+toldBits answer = faultBits (faultOfTold answer) + num (valueIn answer)
+
+unfoldable pub verdictBits : Verdict → ℕ
+verdictBits answer = 1099511627776 * (faultOfVerdict answer % 16777216) + packMoment answer
+
+unfoldable pub placeBits : Place → ℕ
+placeBits answer =
+    281474976710656 * (faultOfPlace answer % 65536) + 16777216 * (firstByte answer % 16777216) + byteCount answer % 16777216
+
+-- the bit of weight i of a number
+unfoldable pub bit : ℕ → ℕ → Bool
+bit n i = eqb (n / i % 2) 1
+
+-- the table of a number: bit 2·row + column; only the low four bits count
+unfoldable pub tableIn : ℕ → Table
+tableIn n = (bit n 1 ∷ bit n 2 ∷ []) ∷ (bit n 4 ∷ bit n 8 ∷ []) ∷ []

@@ -1,0 +1,70 @@
+// The answers of the library packed into one number each, and the table that a number stands for. Of each number of an answer the low
+// bits are kept that its place has room for: for the answers that a call gives, these are all.
+ghost use mathlib.Core.Path.{_≡_};
+ghost use Rattle.packing.specs.Packing.{faultBits, writtenBits, toldBits, verdictBits, placeBits, tableIn};
+use sheets::Place;
+use signals::Told;
+use signals::Verdict;
+use signals::Written;
+
+// A fault.
+pub fn pack_fault(fault: u32) -> u32
+    ensures { λ r. ⌜ r ≡ faultBits fault ⌝ }
+{
+    65536 * (fault % 65536)
+}
+
+// What a call that writes answers.
+pub fn pack_written(answer: Written) -> u32
+    ensures { λ r. ⌜ r ≡ writtenBits answer ⌝ }
+{
+    match answer {
+        Written::Count(n) => (n % 65536) as u32,
+        Written::Refused(fault) => pack_fault(fault),
+    }
+}
+
+// What a question answers.
+pub fn pack_told(answer: Told) -> u32
+    ensures { λ r. ⌜ r ≡ toldBits answer ⌝ }
+{
+    match answer {
+        Told::Yes => 1,
+        Told::No => 0,
+        Told::Refused(fault) => pack_fault(fault),
+    }
+}
+
+// What a claim answers.
+pub fn pack_verdict(answer: Verdict) -> u64
+    ensures { λ r. ⌜ r ≡ verdictBits answer ⌝ }
+{
+    match answer {
+        Verdict::Holds => 0,
+        Verdict::FailsAt(k) => 2 * (k as u64),
+        Verdict::FailsAfter(k) => 2 * (k as u64) + 1,
+        Verdict::Refused(fault) => 1099511627776 * ((fault % 16777216) as u64),
+    }
+}
+
+// What a lookup answers.
+pub fn pack_place(answer: Place) -> u64
+    ensures { λ r. ⌜ r ≡ placeBits answer ⌝ }
+{
+    match answer {
+        Place::At { start, count } => {
+            16777216 * ((start % 16777216) as u64) + (count % 16777216) as u64
+        }
+        Place::Refused(fault) => 281474976710656 * ((fault % 65536) as u64),
+    }
+}
+
+// The table of a number: bit 2·row + column.
+pub fn table_in(n: u32) -> [[bool; 2]; 2]
+    ensures { λ r. ⌜ r ≡ tableIn n ⌝ }
+{
+    [
+        [n / 1 % 2 == 1, n / 2 % 2 == 1],
+        [n / 4 % 2 == 1, n / 8 % 2 == 1],
+    ]
+}
