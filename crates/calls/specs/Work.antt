@@ -7,7 +7,7 @@ use lib.ListN.{length}
 use Rattle.signals.specs.Answers.{firstOf}
 use Rattle.signals.specs.declared.Written.{Written}
 use Rattle.signals.specs.declared.Verdict.{Verdict}
-use Rattle.sheets.specs.Reading.{sheetFault}
+use Rattle.format.specs.Reading.{sheetFault}
 use Rattle.calls.specs.Calls.{readingFault, workFault, callAnswer, callOutput, claimAnswer}
 
 -- the faults of a formula call up to 18

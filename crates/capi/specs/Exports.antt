@@ -8,8 +8,8 @@ use Rattle.signals.specs.Signal.{Signal}
 use Rattle.signals.specs.Answers.{writtenOf, outputOf}
 use Rattle.operations.specs.Calls.{faultOfOne, exactOfOne, faultOfTwo, exactOfTwo, faultOfDelay, exactOfDelay}
 use Rattle.signals.specs.Tidying.{tidied}
-use Rattle.lists.specs.Questions.{tidyingFault}
-use Rattle.sheets.specs.Calls.{appendFault, appended}
+use Rattle.questions.specs.Questions.{tidyingFault}
+use Rattle.format.specs.Calls.{appendFault, appended}
 use Rattle.calls.specs.Calls.{callAnswer, callOutput, claimAnswer}
 use Rattle.calls.specs.Work.{firstFault, firstClaimFault, KeptWhen}
 use Rattle.packing.specs.Packing.{packWritten, packVerdict}

@@ -4,10 +4,10 @@ ghost use mathlib.Core.List.{[]};
 ghost use lib.ListN.{length};
 ghost use Rattle.signals.specs.Signal.{NOT, connective, rising, falling, SR, RS, TON, TOF};
 ghost use Rattle.signals.specs.Words.{listFault};
-ghost use Rattle.lists.specs.Questions.{valueAtOf, valueInOf, equalOf, impliesOf};
-ghost use Rattle.sheets.specs.Reading.{sheetFault};
-ghost use Rattle.sheets.specs.Writing.{sheetBytes};
-ghost use Rattle.sheets.specs.Calls.{beginFault, placeOf};
+ghost use Rattle.questions.specs.Questions.{valueAtOf, valueInOf, equalOf, impliesOf};
+ghost use Rattle.format.specs.Reading.{sheetFault};
+ghost use Rattle.format.specs.Writing.{sheetBytes};
+ghost use Rattle.format.specs.Calls.{beginFault, placeOf};
 ghost use Rattle.packing.specs.Packing.{packFault, packTold, packVerdict, packPlace, tableIn};
 ghost use Rattle.capi.specs.Exports.{Exported, ExportedOne, ExportedTwo, ExportedDelay, ExportedTidying, ExportedAppend};
 ghost use Rattle.capi.specs.Exports.{ExportedFormula, ExportedClaim};
@@ -26,7 +26,7 @@ pub extern "C" fn sgl_list_fault(list: &[u32]) -> u32
 pub extern "C" fn sgl_tidy(list: &[u32], out: &mut [u32]) -> u32
     ensures { λ r. ⌜ ExportedTidying (now (list .entry)) (now (out .entry)) r (now (out .exit)) ⌝ }
 {
-    packing::pack_written(lists::tidy(list, out))
+    packing::pack_written(tidying::tidy(list, out))
 }
 
 // The value at the instant k.
@@ -34,7 +34,7 @@ pub extern "C" fn sgl_tidy(list: &[u32], out: &mut [u32]) -> u32
 pub extern "C" fn sgl_value_at(list: &[u32], k: u32) -> u32
     ensures { λ r. ⌜ r ≡ packTold (valueAtOf (now (list .entry)) k) ⌝ }
 {
-    packing::pack_told(lists::value_at(list, k))
+    packing::pack_told(asking::value_at(list, k))
 }
 
 // The value in the gap k.
@@ -42,7 +42,7 @@ pub extern "C" fn sgl_value_at(list: &[u32], k: u32) -> u32
 pub extern "C" fn sgl_value_in(list: &[u32], k: u32) -> u32
     ensures { λ r. ⌜ r ≡ packTold (valueInOf (now (list .entry)) k) ⌝ }
 {
-    packing::pack_told(lists::value_in(list, k))
+    packing::pack_told(asking::value_in(list, k))
 }
 
 // Equality.
@@ -50,7 +50,7 @@ pub extern "C" fn sgl_value_in(list: &[u32], k: u32) -> u32
 pub extern "C" fn sgl_equal(a: &[u32], b: &[u32]) -> u32
     ensures { λ r. ⌜ r ≡ packTold (equalOf (now (a .entry)) (now (b .entry))) ⌝ }
 {
-    packing::pack_told(lists::equal(a, b))
+    packing::pack_told(asking::equal(a, b))
 }
 
 // Implication a to b.
@@ -58,7 +58,7 @@ pub extern "C" fn sgl_equal(a: &[u32], b: &[u32]) -> u32
 pub extern "C" fn sgl_implies(a: &[u32], b: &[u32]) -> u64
     ensures { λ r. ⌜ r ≡ packVerdict (impliesOf (now (a .entry)) (now (b .entry))) ⌝ }
 {
-    packing::pack_verdict(lists::implies(a, b))
+    packing::pack_verdict(asking::implies(a, b))
 }
 
 // NOT.
@@ -66,7 +66,7 @@ pub extern "C" fn sgl_implies(a: &[u32], b: &[u32]) -> u64
 pub extern "C" fn sgl_not(a: &[u32], out: &mut [u32]) -> u32
     ensures { λ r. ⌜ ExportedOne NOT (now (a .entry)) (now (out .entry)) r (now (out .exit)) ⌝ }
 {
-    packing::pack_written(operations::not(a, out))
+    packing::pack_written(merging::not(a, out))
 }
 
 // A connective by its table.
@@ -74,7 +74,7 @@ pub extern "C" fn sgl_not(a: &[u32], out: &mut [u32]) -> u32
 pub extern "C" fn sgl_connective(table: u32, a: &[u32], b: &[u32], out: &mut [u32]) -> u32
     ensures { λ r. ⌜ ExportedTwo (connective (tableIn table)) (now (a .entry)) (now (b .entry)) (now (out .entry)) r (now (out .exit)) ⌝ }
 {
-    packing::pack_written(operations::connective(packing::table_in(table), a, b, out))
+    packing::pack_written(merging::connective(packing::table_in(table), a, b, out))
 }
 
 // Rising edges.
@@ -82,7 +82,7 @@ pub extern "C" fn sgl_connective(table: u32, a: &[u32], b: &[u32], out: &mut [u3
 pub extern "C" fn sgl_rising(a: &[u32], out: &mut [u32]) -> u32
     ensures { λ r. ⌜ ExportedOne rising (now (a .entry)) (now (out .entry)) r (now (out .exit)) ⌝ }
 {
-    packing::pack_written(operations::rising(a, out))
+    packing::pack_written(merging::rising(a, out))
 }
 
 // Falling edges.
@@ -90,7 +90,7 @@ pub extern "C" fn sgl_rising(a: &[u32], out: &mut [u32]) -> u32
 pub extern "C" fn sgl_falling(a: &[u32], out: &mut [u32]) -> u32
     ensures { λ r. ⌜ ExportedOne falling (now (a .entry)) (now (out .entry)) r (now (out .exit)) ⌝ }
 {
-    packing::pack_written(operations::falling(a, out))
+    packing::pack_written(merging::falling(a, out))
 }
 
 // The latch in which set wins.
@@ -98,7 +98,7 @@ pub extern "C" fn sgl_falling(a: &[u32], out: &mut [u32]) -> u32
 pub extern "C" fn sgl_sr(s: &[u32], r: &[u32], out: &mut [u32]) -> u32
     ensures { λ v. ⌜ ExportedTwo SR (now (s .entry)) (now (r .entry)) (now (out .entry)) v (now (out .exit)) ⌝ }
 {
-    packing::pack_written(operations::sr(s, r, out))
+    packing::pack_written(merging::sr(s, r, out))
 }
 
 // The latch in which reset wins.
@@ -106,7 +106,7 @@ pub extern "C" fn sgl_sr(s: &[u32], r: &[u32], out: &mut [u32]) -> u32
 pub extern "C" fn sgl_rs(s: &[u32], r: &[u32], out: &mut [u32]) -> u32
     ensures { λ v. ⌜ ExportedTwo RS (now (s .entry)) (now (r .entry)) (now (out .entry)) v (now (out .exit)) ⌝ }
 {
-    packing::pack_written(operations::rs(s, r, out))
+    packing::pack_written(merging::rs(s, r, out))
 }
 
 // TON(d,f), the on-delay.
@@ -155,7 +155,7 @@ pub extern "C" fn sgl_append(sheet: &[u8], name: &[u8], list: &[u32], out: &mut 
     ensures { λ r. ⌜ ExportedAppend (now (sheet .entry)) (now (name .entry)) (now (list .entry)) (now (out .entry))
         r (now (out .exit)) ⌝ }
 {
-    packing::pack_written(sheets::append(sheet, name, list, out))
+    packing::pack_written(appending::append(sheet, name, list, out))
 }
 
 // The list of a formula's signal on a sheet. Refused by check 18 or an earlier one it leaves the work area as it was; else that is free.

@@ -15,11 +15,11 @@ use Rattle.signals.specs.Answers.{writtenOf}
 use Rattle.signals.specs.declared.Written.{Written}
 use Rattle.signals.specs.declared.Written.the-variants.{Count, Refused}
 use Rattle.operations.specs.Calls.{pairFault, lengthFault, exactOfOne, exactOfTwo, exactOfDelay, changesAfterM}
-use Rattle.operations.specs.Slots.{begins, builtAnswer, slotAnswer, slotAfter, CallInSlot}
-use Rattle.operations.specs.declared.SlotAnswer.{SlotAnswer}
-use Rattle.operations.specs.declared.SlotAnswer.the-variants.{Stands, TooLong, TooLate}
-use Rattle.operations.specs.Building.{slotWith}
-use Rattle.operations.proofs.BuildingLaws.{slot-short}
+use Rattle.building.specs.Slots.{begins, builtAnswer, slotAnswer, slotAfter, CallInSlot}
+use Rattle.building.specs.declared.SlotAnswer.{SlotAnswer}
+use Rattle.building.specs.declared.SlotAnswer.the-variants.{Stands, TooLong, TooLate}
+use Rattle.building.specs.Building.{slotWith}
+use Rattle.building.proofs.BuildingLaws.{slot-short}
 use Rattle.grammar.specs.Tree.{Unary, Binary, invert, rise, fall, ton, tof, and, or, sr, rs}
 use Rattle.grammar.specs.Code.{ticksOf}
 use Rattle.calls.specs.Calls.{partFault}

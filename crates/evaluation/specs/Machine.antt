@@ -14,9 +14,9 @@ use Rattle.signals.specs.Moment.{M}
 use Rattle.signals.specs.Signal.{Table, tableOf, NOT, rising, falling, SR, RS, TON, TOF, connective}
 use Rattle.signals.specs.Words.{listFault}
 use Rattle.operations.specs.Calls.{exactOfOne, exactOfTwo, exactOfDelay}
-use Rattle.operations.specs.Slots.{builtAnswer}
-use Rattle.operations.specs.declared.SlotAnswer.{SlotAnswer}
-use Rattle.operations.specs.declared.SlotAnswer.the-variants.{Stands, TooLong, TooLate, NotBegun}
+use Rattle.building.specs.Slots.{builtAnswer}
+use Rattle.building.specs.declared.SlotAnswer.{SlotAnswer}
+use Rattle.building.specs.declared.SlotAnswer.the-variants.{Stands, TooLong, TooLate, NotBegun}
 use Rattle.grammar.specs.Tree.{Tree, Leaf, Unary, Binary, leaf, unary, binary, down, up, name, invert, rise, fall, ton, tof, and, or, sr, rs}
 use Rattle.grammar.specs.Code.{Part, operand, one, two, ticksOf, top, code}
 use Rattle.grammar.specs.Formula.{nameAt, partOf, codeOf, formulaTree}

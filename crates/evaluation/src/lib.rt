@@ -19,7 +19,7 @@ ghost use Rattle.grammar.specs.Formula.{formulaTree};
 ghost use Rattle.grammar.specs.Parts.{parts};
 ghost use Rattle.calls.specs.OnSheet.{exactOn};
 ghost use Rattle.calls.specs.Calls.{partsFault, workingFault};
-use operations::SlotAnswer;
+use building::SlotAnswer;
 use signals::Length;
 use signals::Verdict;
 use signals::Written;
@@ -133,13 +133,13 @@ fn apply_unary(code: u64, a: &[u32], buffer: &mut [u32]) -> SlotAnswer
 {
     let kind = code % 16;
     if kind == formulas::kind::NOT {
-        return operations::not_in(a, buffer);
+        return merging::not_in(a, buffer);
     }
     if kind == formulas::kind::RISING {
-        return operations::rising_in(a, buffer);
+        return merging::rising_in(a, buffer);
     }
     if kind == formulas::kind::FALLING {
-        return operations::falling_in(a, buffer);
+        return merging::falling_in(a, buffer);
     }
     let ticks = (code / 16 % 4294967296) as u32;
     if kind == formulas::kind::TON {
@@ -155,15 +155,15 @@ fn apply_binary(code: u64, a: &[u32], b: &[u32], buffer: &mut [u32]) -> SlotAnsw
 {
     let kind = code % 16;
     if kind == formulas::kind::AND {
-        return operations::connective_in(AND, a, b, buffer);
+        return merging::connective_in(AND, a, b, buffer);
     }
     if kind == formulas::kind::OR {
-        return operations::connective_in(OR, a, b, buffer);
+        return merging::connective_in(OR, a, b, buffer);
     }
     if kind == formulas::kind::SR {
-        return operations::sr_in(a, b, buffer);
+        return merging::sr_in(a, b, buffer);
     }
-    operations::rs_in(a, b, buffer)
+    merging::rs_in(a, b, buffer)
 }
 
 // A part's answer from what its call in the buffer gives: 5, 6, or its word count. The calls made here all begin.

@@ -12,8 +12,8 @@ use Rattle.signals.specs.Words.{listFault}
 use Rattle.signals.specs.Answers.{firstOf, faultIn, countIn, writtenOf, faultOfTold, faultOfVerdict, verdictFor}
 use Rattle.signals.specs.declared.Written.{Written}
 use Rattle.signals.specs.declared.Told.{Told}
-use Rattle.sheets.specs.Calls.{faultOfPlace, firstByte, byteCount}
-use Rattle.sheets.specs.declared.Place.{Place}
+use Rattle.format.specs.Calls.{faultOfPlace, firstByte, byteCount}
+use Rattle.format.specs.declared.Place.{Place}
 use Rattle.signals.specs.declared.Written.the-variants as written
 use Rattle.signals.specs.declared.Verdict.{Verdict}
 use Rattle.signals.proofs.AnswersSay.{answersSay}

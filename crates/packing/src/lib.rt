@@ -2,7 +2,7 @@
 // bits are kept that its place has room for: for the answers that a call gives, these are all.
 ghost use mathlib.Core.Path.{_≡_};
 ghost use Rattle.packing.specs.Packing.{faultBits, writtenBits, toldBits, verdictBits, placeBits, tableIn};
-use sheets::Place;
+use format::Place;
 use signals::Told;
 use signals::Verdict;
 use signals::Written;

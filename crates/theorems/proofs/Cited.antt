@@ -138,47 +138,47 @@ report-Decimal-DecimalRight = Rattle.report.proofs.DecimalRight.decimal-right
 pub report-OneLine-OneLine : Rattle.report.specs.OneLine.OneLine
 report-OneLine-OneLine = Rattle.report.proofs.OneLine.one-line
 
-pub sheets-LookupPlace-LookupPlace : Rattle.sheets.specs.LookupPlace.LookupPlace
-sheets-LookupPlace-LookupPlace = Rattle.sheets.proofs.LookupPlace.lookup-place
+pub sheets-LookupPlace-LookupPlace : Rattle.format.specs.LookupPlace.LookupPlace
+sheets-LookupPlace-LookupPlace = Rattle.format.proofs.LookupPlace.lookup-place
 
-pub sheets-PlaceSays-PlaceSays : Rattle.sheets.specs.PlaceSays.PlaceSays
-sheets-PlaceSays-PlaceSays = Rattle.sheets.proofs.PlaceSays.place-says
+pub sheets-PlaceSays-PlaceSays : Rattle.format.specs.PlaceSays.PlaceSays
+sheets-PlaceSays-PlaceSays = Rattle.format.proofs.PlaceSays.place-says
 
-pub sheets-Sentences-AppendFaultsExact : Rattle.sheets.specs.Sentences.AppendFaultsExact
-sheets-Sentences-AppendFaultsExact = Rattle.sheets.proofs.ExactCalls.append-faults-exact
+pub sheets-Sentences-AppendFaultsExact : Rattle.format.specs.Sentences.AppendFaultsExact
+sheets-Sentences-AppendFaultsExact = Rattle.format.proofs.ExactCalls.append-faults-exact
 
-pub sheets-Sentences-LookupFaultsExact : Rattle.sheets.specs.Sentences.LookupFaultsExact
-sheets-Sentences-LookupFaultsExact = Rattle.sheets.proofs.ExactCalls.lookup-faults-exact
+pub sheets-Sentences-LookupFaultsExact : Rattle.format.specs.Sentences.LookupFaultsExact
+sheets-Sentences-LookupFaultsExact = Rattle.format.proofs.ExactCalls.lookup-faults-exact
 
-pub sheets-Sentences-NamesExact : Rattle.sheets.specs.Sentences.NamesExact
+pub sheets-Sentences-NamesExact : Rattle.format.specs.Sentences.NamesExact
 sheets-Sentences-NamesExact = Rattle.sheets.proofs.NameRule.names-exact
 
-pub sheets-Sentences-SheetFaultsExact : Rattle.sheets.specs.Sentences.SheetFaultsExact
-sheets-Sentences-SheetFaultsExact = Rattle.sheets.proofs.ExactSheets.sheet-faults-exact
+pub sheets-Sentences-SheetFaultsExact : Rattle.format.specs.Sentences.SheetFaultsExact
+sheets-Sentences-SheetFaultsExact = Rattle.format.proofs.ExactSheets.sheet-faults-exact
 
-pub sheets-Theorems-AppendGivesNew : Rattle.sheets.specs.Theorems.AppendGivesNew
-sheets-Theorems-AppendGivesNew = Rattle.sheets.proofs.Theorems.append-gives-new
+pub sheets-Theorems-AppendGivesNew : Rattle.format.specs.Theorems.AppendGivesNew
+sheets-Theorems-AppendGivesNew = Rattle.format.proofs.Theorems.append-gives-new
 
-pub sheets-Theorems-AppendKeepsOthers : Rattle.sheets.specs.Theorems.AppendKeepsOthers
-sheets-Theorems-AppendKeepsOthers = Rattle.sheets.proofs.Theorems.append-keeps-others
+pub sheets-Theorems-AppendKeepsOthers : Rattle.format.specs.Theorems.AppendKeepsOthers
+sheets-Theorems-AppendKeepsOthers = Rattle.format.proofs.Theorems.append-keeps-others
 
-pub sheets-Theorems-AppendKeepsSheet : Rattle.sheets.specs.Theorems.AppendKeepsSheet
-sheets-Theorems-AppendKeepsSheet = Rattle.sheets.proofs.Theorems.append-keeps-sheet
+pub sheets-Theorems-AppendKeepsSheet : Rattle.format.specs.Theorems.AppendKeepsSheet
+sheets-Theorems-AppendKeepsSheet = Rattle.format.proofs.Theorems.append-keeps-sheet
 
-pub sheets-Theorems-BegunReadsBack : Rattle.sheets.specs.Theorems.BegunReadsBack
-sheets-Theorems-BegunReadsBack = Rattle.sheets.proofs.Theorems.begun-reads-back
+pub sheets-Theorems-BegunReadsBack : Rattle.format.specs.Theorems.BegunReadsBack
+sheets-Theorems-BegunReadsBack = Rattle.format.proofs.Theorems.begun-reads-back
 
-pub sheets-Theorems-LookupGivesTheList : Rattle.sheets.specs.Theorems.LookupGivesTheList
-sheets-Theorems-LookupGivesTheList = Rattle.sheets.proofs.Theorems.lookup-gives-the-list
+pub sheets-Theorems-LookupGivesTheList : Rattle.format.specs.Theorems.LookupGivesTheList
+sheets-Theorems-LookupGivesTheList = Rattle.format.proofs.Theorems.lookup-gives-the-list
 
-pub sheets-Theorems-OneWriting : Rattle.sheets.specs.Theorems.OneWriting
-sheets-Theorems-OneWriting = Rattle.sheets.proofs.Theorems.one-writing
+pub sheets-Theorems-OneWriting : Rattle.format.specs.Theorems.OneWriting
+sheets-Theorems-OneWriting = Rattle.format.proofs.Theorems.one-writing
 
-pub sheets-Theorems-ReadWritesBack : Rattle.sheets.specs.Theorems.ReadWritesBack
-sheets-Theorems-ReadWritesBack = Rattle.sheets.proofs.Theorems.read-writes-back
+pub sheets-Theorems-ReadWritesBack : Rattle.format.specs.Theorems.ReadWritesBack
+sheets-Theorems-ReadWritesBack = Rattle.format.proofs.Theorems.read-writes-back
 
-pub sheets-Theorems-WrittenReadsBack : Rattle.sheets.specs.Theorems.WrittenReadsBack
-sheets-Theorems-WrittenReadsBack = Rattle.sheets.proofs.Theorems.written-reads-back
+pub sheets-Theorems-WrittenReadsBack : Rattle.format.specs.Theorems.WrittenReadsBack
+sheets-Theorems-WrittenReadsBack = Rattle.format.proofs.Theorems.written-reads-back
 
 pub signals-AnswersSay-AnswersSay : Rattle.signals.specs.AnswersSay.AnswersSay
 signals-AnswersSay-AnswersSay = Rattle.signals.proofs.AnswersSay.answersSay

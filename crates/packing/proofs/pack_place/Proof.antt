@@ -3,7 +3,7 @@ use borrow.Author.Needs.{needs}
 use native.Mathlib.Omega.{arith}
 use Prim.Native.Nat.{ℕ, _+_, _*_, _%_}
 use mathlib.Core.Path.{_≡_, sym, ap, _∙_}
-use Rattle.sheets.specs.declared.Place.the-variants.{At, Refused}
+use Rattle.format.specs.declared.Place.the-variants.{At, Refused}
 use Rattle.packing.specs.Packing.{placeBits}
 use Rattle.packing.proofs.pack_place.Statement.{statement}
 use Rattle.packing.proofs.pack_place.Tie as tie
