@@ -57,37 +57,40 @@ has sheet (unary o t) e n m = has sheet t e n m
 has sheet (binary o t u) e n (inl m) = has sheet t (and-left (namesFound sheet t) (namesFound sheet u) e) n m
 has sheet (binary o t u) e n (inr m) = has sheet u (and-right (namesFound sheet t) (namesFound sheet u) e) n m
 
+abbrev missing : List ℕ → List ℕ → ℕ
+missing sheet formula = cond (namesFound sheet (formulaTree formula)) 0 13
+
 -- 13 and what is checked after it
 names-check : (sheet formula : List ℕ) (later : ℕ → Type 0) (rest : ℕ) → formulaFault formula ≡ 0 → (readingFault sheet formula ≡ 0 → later rest)
-    → Check 13 (Breaks13 sheet formula) later (firstOf (cond (namesFound sheet (formulaTree formula)) 0 13) rest)
+    → Check 13 (Breaks13 sheet formula) later (firstOf (missing sheet formula) rest)
 unfolding readingFault
 names-check sheet formula later rest z next = go (namesFound sheet (formulaTree formula)) refl
   where
     go : (b : Bool) → namesFound sheet (formulaTree formula) ≡ b
-        → Check 13 (Breaks13 sheet formula) later (firstOf (cond (namesFound sheet (formulaTree formula)) 0 13) rest)
+        → Check 13 (Breaks13 sheet formula) later (firstOf (missing sheet formula) rest)
     go true q =
-        let found : cond (namesFound sheet (formulaTree formula)) 0 13 ≡ 0 = ap (λ b. cond b 0 13) q in
+        let found : missing sheet formula ≡ 0 = ap (λ b. cond b 0 13) q in
         inr (
           λ h. not-both (has sheet (h .0) (ap (namesFound sheet) (sym (tree-of formula (h .0) (h .1) (h .2))) ∙ q) (h .3 .0) (h .3 .1)) (h .3 .2),
-          rw (next-is (cond (namesFound sheet (formulaTree formula)) 0 13) rest found)
-              (next (next-is (formulaFault formula) (cond (namesFound sheet (formulaTree formula)) 0 13) z ∙ found)),
+          rw (next-is (missing sheet formula) rest found)
+              (next (next-is (formulaFault formula) (missing sheet formula) z ∙ found)),
         )
     go false q =
         let w = derived formula z in
         inl (
           (w .0, w .1, w .2, lacks sheet (w .0) (ap (namesFound sheet) (sym (tree-of formula (w .0) (w .1) (w .2))) ∙ q)),
-          first-some (cond (namesFound sheet (formulaTree formula)) 0 13) rest 13 (ap (λ b. cond b 0 13) q) (omega arith),
+          first-some (missing sheet formula) rest 13 (ap (λ b. cond b 0 13) q) (omega arith),
         )
 
 pub reading-fault : (sheet formula : List ℕ) (later : ℕ → Type 0) (rest : ℕ) → (readingFault sheet formula ≡ 0 → later rest)
     → ReadingChecks sheet formula later (firstOf (readingFault sheet formula) rest)
 unfolding readingFault
 reading-fault sheet formula later rest next =
-    rw (first-assoc (formulaFault formula) (cond (namesFound sheet (formulaTree formula)) 0 13) rest)
-    (formula-checks formula (Check 13 (Breaks13 sheet formula) later) (firstOf (cond (namesFound sheet (formulaTree formula)) 0 13) rest)
+    rw (first-assoc (formulaFault formula) (missing sheet formula) rest)
+    (formula-checks formula (Check 13 (Breaks13 sheet formula) later) (firstOf (missing sheet formula) rest)
     (λ z. names-check sheet formula later rest z next))
 
 -- without a fault, the text has none
 pub text-fine : (sheet formula : List ℕ) → readingFault sheet formula ≡ 0 → formulaFault formula ≡ 0
 unfolding readingFault
-text-fine sheet formula e = both-none (formulaFault formula) (cond (namesFound sheet (formulaTree formula)) 0 13) e .0
+text-fine sheet formula e = both-none (formulaFault formula) (missing sheet formula) e .0
