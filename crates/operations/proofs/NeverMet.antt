@@ -22,7 +22,7 @@ use Rattle.signals.proofs.Normal.{last-le, start, acceptedNormal, lastDate-boun
 use Rattle.signals.proofs.Giving.{within}
 use Rattle.operations.specs.Calls.{exactOfOne, exactOfTwo, faultOfOne, faultOfTwo}
 use Rattle.operations.specs.CallFaults.{Breaks6, Words32, NeverLonger, NeverMet}
-use Rattle.operations.proofs.CallFaults.{call-faults-exact}
+use Rattle.operations.proofs.CallFaults.{one-5, one-6, two-6}
 
 -- g keeps the value that it has in gap k for as long as f does
 abbrev Follows : Signal → Signal → Type 0
@@ -112,13 +112,13 @@ last-32 a h = lastDate-bound M a (λ i l. date-le (getD a i 0) (h i l))
 
 never-5 : (operation : Signal → Signal) → NeverLonger operation → (a : List ℕ) (n : ℕ) → ¬ (faultOfOne operation a n ≡ 5)
 never-5 operation short a n e =
-    let g = call-faults-exact .one operation a n .answer .five .0 e in
+    let g = one-5 operation a n e in
     omega (arith, g .1, short a (g .0), acceptedNormal a .0 (g .0) .1)
 
 never-6-one : (operation : Signal → Signal) (a : List ℕ) (n : ℕ) → Words32 a → ¬ (faultOfOne operation a n ≡ 6)
 unfolding exactOfOne
 never-6-one operation a n h e =
-    on-time (operation (signalOf a)) (lastDate a) (last-32 a h) (call-faults-exact .one operation a n .answer .six .0 e .2)
+    on-time (operation (signalOf a)) (lastDate a) (last-32 a h) (one-6 operation a n e)
 
 never-6-two : (operation : Signal → Signal → Signal) (a b : List ℕ) (n : ℕ) → Words32 a → Words32 b → ¬ (faultOfTwo operation a b n ≡ 6)
 unfolding exactOfTwo
@@ -127,7 +127,7 @@ never-6-two operation a b n h k e =
     (operation (signalOf a) (signalOf b))
     (max (lastDate a) (lastDate b))
     (omega (arith, last-32 a h, last-32 b k))
-    (call-faults-exact .two operation a b n .answer .six .0 e .2)
+    (two-6 operation a b n e)
 
 pub never-met : NeverMet
 never-met =

@@ -16,9 +16,9 @@ use Rattle.signals.proofs.Settling.{settling}
 use Rattle.signals.specs.Giving.{WithinM, Gives}
 use Rattle.signals.proofs.Giving.{no-fault, gives}
 use Rattle.operations.specs.Calls.{exactOfOne, exactOfTwo, exactOfDelay, faultOfOne, faultOfTwo, faultOfDelay}
-use Rattle.operations.specs.CallFaults.{Breaks6, AnswerFaults}
+use Rattle.operations.specs.CallFaults.{Breaks6}
 use Rattle.operations.specs.OperationsGive.{OneGives, TwoGive, DelayGives, OperationsGive}
-use Rattle.operations.proofs.CallFaults.{call-faults-exact}
+use Rattle.operations.proofs.CallFaults.{Passed, one-passed, two-passed, delay-passed}
 
 in-time : (exact : List ℕ) → (¬ Breaks6 exact) → WithinM exact
 in-time exact none i l = go (decLe (dateOf (getD exact i 0)) M)
@@ -28,14 +28,15 @@ in-time exact none i l = go (decLe (dateOf (getD exact i 0)) M)
     go (no n) = absurd (none (i, l, omega arith))
 
 -- the exact answer is the list of a signal that settles once the operands are sound
-module _ (s : Signal) (n fault : ℕ) (Sound : Type 0) (out : List ℕ) (faults : AnswerFaults fault Sound (listOf s n) (length out))
+module _ (s : Signal) (n fault : ℕ) (Sound : Type 0) (out : List ℕ)
+    (passes : fault ≡ 0 → Sound × Passed (listOf s n) (length out))
     (settled : Sound → SettledFrom s n)
   where
     listed : (answer : Written) (after : List ℕ) → (answer ≡ writtenOf fault (listOf s n)) × (after ≡ outputOf fault (listOf s n) out)
         → faultIn answer ≡ 0 → Gives s out answer after
     listed answer after call z =
         let none = no-fault fault (listOf s n) out answer after call z in
-        let passed = faults .none .0 none in
+        let passed = passes none in
         let list = listOfSignal s n (settled (passed .0)) in
         gives
         fault
@@ -46,9 +47,9 @@ module _ (s : Signal) (n fault : ℕ) (Sound : Type 0) (out : List ℕ) (faults 
         call
         s
         none
-        (omega (arith, passed .3))
-        (acceptedNormal (listOf s n) .1 (list .normal, omega (arith, passed .1)))
-        (in-time (listOf s n) (passed .2))
+        (omega (arith, passed .1 .fits))
+        (acceptedNormal (listOf s n) .1 (list .normal, omega (arith, passed .1 .few)))
+        (in-time (listOf s n) (passed .1 .early))
         (list .denotes)
 
 one-gives : (operation : Signal → Signal) → ((f : Signal) (n : ℕ) → SettledFrom f n → SettledFrom (operation f) n) → OneGives operation
@@ -60,7 +61,7 @@ one-gives operation settles a out answer after call z =
     (faultOfOne operation a (length out))
     _
     out
-    (call-faults-exact .one operation a (length out) .answer)
+    (one-passed operation a (length out))
     (λ s. settles (signalOf a) (lastDate a) (accepted-settled a s))
     answer
     after
@@ -77,7 +78,7 @@ two-give operation settles a b out answer after call z =
     (faultOfTwo operation a b (length out))
     _
     out
-    (call-faults-exact .two operation a b (length out) .answer)
+    (two-passed operation a b (length out))
     (λ s. settles (signalOf a) (signalOf b) (lastDate a) (lastDate b) (accepted-settled a (s .0)) (accepted-settled b (s .1)))
     answer
     after
@@ -94,7 +95,7 @@ delay-gives operation settles d a out answer after call z =
     (faultOfDelay (operation d) d a (length out))
     _
     out
-    (call-faults-exact .delay (operation d) d a (length out) .answer)
+    (delay-passed (operation d) d a (length out))
     (λ s. settles d (signalOf a) (lastDate a) (accepted-settled a (s .0)))
     answer
     after

@@ -7,6 +7,7 @@ use lib.ListN.{length, getD}
 use Rattle.signals.specs.Moment.{M, gap, instant}
 use Rattle.signals.specs.Signal.{Signal, NOT, rising, falling, TON, TOF}
 use Rattle.signals.specs.Words.{dateOf, listFault, signalOf, listOf}
+use Rattle.signals.specs.Checks.{Check, NoFault, Exactly}
 use Rattle.signals.specs.Settled.{SettledFrom}
 use Rattle.signals.specs.Normal.{Accepted}
 use Rattle.operations.specs.Calls.{exactOfOne, exactOfTwo, exactOfDelay, faultOfOne, faultOfTwo, faultOfDelay}
@@ -27,34 +28,22 @@ Breaks7 exact n = n < length exact
 abbrev pub Breaks8 : ℕ → Type 0
 Breaks8 d = M < d
 
--- 5, 6, 7 of a call that is judged by `Sound` first: each with its own sentence and none of the earlier ones
-pub record AnswerFaults (fault : ℕ) (Sound : Type 0) (exact : List ℕ) (n : ℕ) : Type 0 where
-  pub none : (fault ≡ 0) ↔ (Sound × (¬ Breaks5 exact) × (¬ Breaks6 exact) × (¬ Breaks7 exact n))
-  pub five : (fault ≡ 5) ↔ (Sound × Breaks5 exact)
-  pub six : (fault ≡ 6) ↔ (Sound × (¬ Breaks5 exact) × Breaks6 exact)
-  pub seven : (fault ≡ 7) ↔ (Sound × (¬ Breaks5 exact) × (¬ Breaks6 exact) × Breaks7 exact n)
+-- 1 to 4: the fault of an operand, and what is checked after it
+abbrev pub ListCheck : List ℕ → (ℕ → Type 0) → ℕ → Type 0
+ListCheck a later = Check (listFault a) (¬ Accepted a) later
 
--- 1 to 4 are those of the operands, first operand first; then 8; then 5, 6, 7; 0 is none, and there is no other answer
-pub record FaultsOfOne (operation : Signal → Signal) (a : List ℕ) (n : ℕ) : Type 0 where
-  pub list : (f : ℕ) → 1 ≤ f → f ≤ 4 → (faultOfOne operation a n ≡ f) ↔ (listFault a ≡ f)
-  pub answer : AnswerFaults (faultOfOne operation a n) (Accepted a) (exactOfOne operation a) n
-  pub range : faultOfOne operation a n ≤ 7
+-- 5, 6, 7 of the exact answer
+abbrev pub AnswerChecks : List ℕ → ℕ → ℕ → Type 0
+AnswerChecks exact n = Check 5 (Breaks5 exact) (Check 6 (Breaks6 exact) (Check 7 (Breaks7 exact n) NoFault))
 
-pub record FaultsOfTwo (operation : Signal → Signal → Signal) (a b : List ℕ) (n : ℕ) : Type 0 where
-  pub list : (f : ℕ) → 1 ≤ f → f ≤ 4 → (faultOfTwo operation a b n ≡ f) ↔ (listFault a ≡ f) ⊎ (Accepted a × (listFault b ≡ f))
-  pub answer : AnswerFaults (faultOfTwo operation a b n) (Accepted a × Accepted b) (exactOfTwo operation a b) n
-  pub range : faultOfTwo operation a b n ≤ 7
-
-pub record FaultsOfDelay (operation : Signal → Signal) (d : ℕ) (a : List ℕ) (n : ℕ) : Type 0 where
-  pub list : (f : ℕ) → 1 ≤ f → f ≤ 4 → (faultOfDelay operation d a n ≡ f) ↔ (listFault a ≡ f)
-  pub eight : (faultOfDelay operation d a n ≡ 8) ↔ (Accepted a × Breaks8 d)
-  pub answer : AnswerFaults (faultOfDelay operation d a n) (Accepted a × (¬ Breaks8 d)) (exactOfDelay operation d a) n
-  pub range : faultOfDelay operation d a n ≤ 8
-
+-- the operands, first operand first; a delay's length; then the answer
 pub record CallFaultsExact : Type 0 where
-  pub one : (operation : Signal → Signal) (a : List ℕ) (n : ℕ) → FaultsOfOne operation a n
-  pub two : (operation : Signal → Signal → Signal) (a b : List ℕ) (n : ℕ) → FaultsOfTwo operation a b n
-  pub delay : (operation : Signal → Signal) (d : ℕ) (a : List ℕ) (n : ℕ) → FaultsOfDelay operation d a n
+  pub one : (operation : Signal → Signal) (a : List ℕ) (n : ℕ)
+      → Exactly (ListCheck a (AnswerChecks (exactOfOne operation a) n)) (faultOfOne operation a n)
+  pub two : (operation : Signal → Signal → Signal) (a b : List ℕ) (n : ℕ)
+      → Exactly (ListCheck a (ListCheck b (AnswerChecks (exactOfTwo operation a b) n))) (faultOfTwo operation a b n)
+  pub delay : (operation : Signal → Signal) (d : ℕ) (a : List ℕ) (n : ℕ)
+      → Exactly (ListCheck a (Check 8 (Breaks8 d) (AnswerChecks (exactOfDelay operation d a) n))) (faultOfDelay operation d a n)
 
 -- at some instant k after M, or in the gap k after it, the signal is not as in the gap before instant k
 abbrev pub ChangesAfterM : Signal → Type 0
