@@ -17,10 +17,10 @@ use Rattle.format.specs.Reading.{sheetFault}
 use Rattle.calls.specs.OnSheet.{signalOn, exactOn}
 use Rattle.calls.specs.Calls.{neededWork, readingFault, workFault, partsFault, workingFault, wordsOn, roomFault, callFault, claimFault}
 use Rattle.calls.specs.NormalLists.{ListFor}
-use Rattle.calls.specs.Tabled.{SheetBreaks, Breaks18, Meets5, Meets6, FineBefore, Breaks5, Breaks6, Breaks7, ReadingChecks, WorkingChecks, CallFaultIs, ClaimFaultIs}
-use Rattle.signals.specs.Checks.{Check, NoFault}
+use Rattle.calls.specs.Tabled.{Breaks18, Meets5, Meets6, FineBefore, Breaks5, Breaks6, Breaks7, ReadingChecks, WorkingChecks, CallFaultIs, ClaimFaultIs}
+use Rattle.signals.specs.Checks.{FaultCheck, Check, NoFault}
 use Rattle.calls.proofs.FirstFault.{zero-or-not}
-use Rattle.signals.proofs.Checks.{check-by}
+use Rattle.signals.proofs.Checks.{check-by, fault-check}
 use Rattle.calls.proofs.Settles.{exact-for, one-for}
 use Rattle.calls.proofs.PartFaults.{parts-fault}
 use Rattle.calls.proofs.ReadingFaults.{derived, text-fine, reading-fault}
@@ -67,16 +67,6 @@ working-fault sheet formula later rest ok t d w next = rw (tree-of formula t d w
     go (inr (a, inl b)) = inr (no5 a, inl ((t, d, w, b .0), first-some n rest 6 (b .1) (omega arith)))
     go (inr (a, inr b)) = inr (no5 a, inr (no6 (b .0), rw (next-is n rest (b .1)) (next (found ∙ b .1))))
 
--- 14 to 17
-sheet-fault : (sheet : List ℕ) (later : ℕ → Type 0) (rest : ℕ) → (sheetFault sheet ≡ 0 → later rest)
-    → Check (sheetFault sheet) (SheetBreaks sheet) later (firstOf (sheetFault sheet) rest)
-sheet-fault sheet later rest next = go (zero-or-not (sheetFault sheet))
-  where
-    go : (sheetFault sheet ≡ 0) ⊎ (¬ (sheetFault sheet ≡ 0))
-        → Check (sheetFault sheet) (SheetBreaks sheet) later (firstOf (sheetFault sheet) rest)
-    go (inl z) = inr (λ h. h z, rw (next-is (sheetFault sheet) rest z) (next z))
-    go (inr s) = inl (s, first-some (sheetFault sheet) rest (sheetFault sheet) refl (omega (arith, s)))
-
 -- 18
 work-fault : (sheet : List ℕ) (work : ℕ) (later : ℕ → Type 0) (rest : ℕ) → later rest
     → Check 18 (Breaks18 sheet work) later (firstOf (workFault sheet work) rest)
@@ -121,10 +111,10 @@ afterText sheet formula work room = firstOf (workFault sheet work) (firstOf (wor
 pub call-fault : (sheet formula : List ℕ) (work room : ℕ) → CallFaultIs sheet formula work room (callFault sheet formula work room)
 unfolding callFault
 call-fault sheet formula work room =
-    sheet-fault
-    sheet
-    (ReadingChecks sheet formula (AfterText sheet formula work room))
+    fault-check
+    (sheetFault sheet)
     (firstOf (readingFault sheet formula) (afterText sheet formula work room))
+    (ReadingChecks sheet formula (AfterText sheet formula work room))
     (λ ok.
     reading-fault sheet formula (AfterText sheet formula work room) (afterText sheet formula work room) (λ r.
     let w = derived formula (text-fine sheet formula r) in
@@ -159,10 +149,10 @@ last-parts sheet G ok t d w =
 pub claim-fault : (sheet F G : List ℕ) (work : ℕ) → ClaimFaultIs sheet F G work (claimFault sheet F G work)
 unfolding claimFault
 claim-fault sheet F G work =
-    sheet-fault
-    sheet
-    (ReadingChecks sheet F (ReadingChecks sheet G (AfterTexts sheet F G work)))
+    fault-check
+    (sheetFault sheet)
     (firstOf (readingFault sheet F) (firstOf (readingFault sheet G) (afterTexts sheet F G work)))
+    (ReadingChecks sheet F (ReadingChecks sheet G (AfterTexts sheet F G work)))
     (λ ok.
     reading-fault
     sheet

@@ -4,8 +4,8 @@ use native.Mathlib.Omega.{arith}
 use mathlib.Core.Path.{_≡_, sym, _∙_}
 use mathlib.Core.Logic.{inl, inr, _↔_}
 use mathlib.Core.List.{List}
-use Rattle.calls.specs.Tabled.{SheetBreaks, Breaks7, Breaks18, ReadingChecks, WorkingChecks, CallFaultIs, ClaimFaultIs}
-use Rattle.signals.specs.Checks.{Check, NoFault}
+use Rattle.calls.specs.Tabled.{Breaks7, Breaks18, ReadingChecks, WorkingChecks, CallFaultIs, ClaimFaultIs}
+use Rattle.signals.specs.Checks.{FaultCheck, Check, NoFault}
 use Rattle.slices.specs.Bytes.{Bytes}
 use Rattle.format.specs.Reading.{sheetFault}
 use Rattle.format.specs.Sentences.{SheetFaulty}
@@ -34,7 +34,7 @@ other-working : (sheet formula : List ℕ) (later : ℕ → Type 0) → Other la
 other-working sheet formula later h = other-check 5 _ _ (λ l m. omega arith) (other-check 6 _ later (λ l m. omega arith) h)
 
 -- a fault from 14 to 17 is the sheet's
-from-sheet : (sheet : List ℕ) (later : ℕ → Type 0) (fault n : ℕ) → Other later → Check (sheetFault sheet) (SheetBreaks sheet) later fault
+from-sheet : (sheet : List ℕ) (later : ℕ → Type 0) (fault n : ℕ) → Other later → FaultCheck (sheetFault sheet) later fault
     → 14 ≤ n → n ≤ 17 → (fault ≡ n) ↔ (sheetFault sheet ≡ n)
 from-sheet sheet later fault n o (inl a) l m = (λ e. sym (a .1) ∙ e, λ e. a .1 ∙ e)
 from-sheet sheet later fault n o (inr a) l m =

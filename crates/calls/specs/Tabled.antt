@@ -8,7 +8,7 @@ use lib.ListN.{length, getD}
 use Rattle.signals.specs.Moment.{M}
 use Rattle.signals.specs.Signal.{Signal}
 use Rattle.signals.specs.Words.{dateOf}
-use Rattle.signals.specs.Checks.{Check, NoFault}
+use Rattle.signals.specs.Checks.{Check, FaultCheck, NoFault}
 use Rattle.grammar.specs.Tree.{Tree, Leaf, leaf, unary, binary, down, up, name}
 use Rattle.grammar.specs.Grammar.{Writes}
 use Rattle.grammar.specs.Exactness.{FormulaChecks}
@@ -18,10 +18,6 @@ use Rattle.format.specs.Reading.{sheetFault, signalsOn, names}
 use Rattle.calls.specs.OnSheet.{signalOn}
 use Rattle.calls.specs.Calls.{neededWork}
 use Rattle.calls.specs.NormalLists.{ListFor}
-
--- 14 to 17, by the sheet's own fault
-abbrev pub SheetBreaks : List ℕ → Type 0
-SheetBreaks sheet = ¬ (sheetFault sheet ≡ 0)
 
 -- a name that stands in a tree
 abbrev pub LeafNames : Leaf → List ℕ → Type 0
@@ -82,14 +78,14 @@ WorkingChecks sheet formula later = Check 5 (Breaks5 sheet formula) (Check 6 (Br
 -- A formula call takes sheet, formula 10, 11, 8, 12, 13, 18, then 5 or 6 at the first part worked out that meets one, then 7.
 abbrev pub CallFaultIs : List ℕ → List ℕ → ℕ → ℕ → ℕ → Type 0
 CallFaultIs sheet formula work room =
-    Check (sheetFault sheet) (SheetBreaks sheet)
+    FaultCheck (sheetFault sheet)
     (ReadingChecks sheet formula
     (Check 18 (Breaks18 sheet work) (WorkingChecks sheet formula (Check 7 (Breaks7 sheet formula room) NoFault))))
 
 -- For claims F, then G, 18, F's parts before G's; a claim has no output and no 7.
 abbrev pub ClaimFaultIs : List ℕ → List ℕ → List ℕ → ℕ → ℕ → Type 0
 ClaimFaultIs sheet F G work =
-    Check (sheetFault sheet) (SheetBreaks sheet)
+    FaultCheck (sheetFault sheet)
     (ReadingChecks sheet F
     (ReadingChecks sheet G
     (Check 18 (Breaks18 sheet work) (WorkingChecks sheet F (WorkingChecks sheet G NoFault)))))

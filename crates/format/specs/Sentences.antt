@@ -6,6 +6,7 @@ use mathlib.Core.List.{List, [], _∷_, _++_}
 use mathlib.Core.Logic.{_⊎_, _↔_}
 use lib.ListN.{length, take}
 use Rattle.signals.specs.Words.{listFault}
+use Rattle.signals.specs.Checks.{Check, FaultCheck, NoFault, Exactly}
 use Rattle.names.specs.Sentence.{IsName}
 use Rattle.format.specs.Names.{padded, among}
 use Rattle.slices.specs.Bytes.{Bytes, Words, bytes16, bytes32, wordBytes}
@@ -57,28 +58,21 @@ abbrev pub SheetFaultsExact : Type 0
 SheetFaultsExact = (sheet : List ℕ) → Bytes sheet → (f : ℕ) → (f ≡ 0 → ⊥) → (sheetFault sheet ≡ f) ↔ SheetFaulty sheet f
 
 -- A lookup takes sheet, 16, 13.
-pub record LookupExact (sheet name : List ℕ) : Type 0 where
-  pub ofSheet : (sheetFault sheet ≡ 0 → ⊥) → lookupFault sheet name ≡ sheetFault sheet
-  pub malformed : (sheetFault sheet ≡ 0) → (lookupFault sheet name ≡ 16) ↔ (IsName name → ⊥)
-  pub missing : (sheetFault sheet ≡ 0) → (lookupFault sheet name ≡ 13) ↔ (IsName name × (among name (names (signalsOn sheet)) ≡ false))
-  pub found : (lookupFault sheet name ≡ 0) ↔ ((sheetFault sheet ≡ 0) × IsName name × (among name (names (signalsOn sheet)) ≡ true))
-
 abbrev pub LookupFaultsExact : Type 0
-LookupFaultsExact = (sheet name : List ℕ) → LookupExact sheet name
+LookupFaultsExact =
+    (sheet name : List ℕ)
+    → Exactly
+    (FaultCheck (sheetFault sheet) (Check 16 (¬ IsName name) (Check 13 (among name (names (signalsOn sheet)) ≡ false) NoFault)))
+    (lookupFault sheet name)
 
 -- Appending takes sheet, 16 malformed or repeated, list, 15 when the sheet has 32, 7.
-pub record AppendExact (sheet name list : List ℕ) (room : ℕ) : Type 0 where
-  pub ofSheet : (sheetFault sheet ≡ 0 → ⊥) → appendFault sheet name list room ≡ sheetFault sheet
-  pub name16 : sheetFault sheet ≡ 0
-      → (appendFault sheet name list room ≡ 16) ↔ ((IsName name → ⊥) ⊎ (among name (names (signalsOn sheet)) ≡ true))
-  pub ofList : sheetFault sheet ≡ 0 → NewName (names (signalsOn sheet)) name → (listFault list ≡ 0 → ⊥)
-      → appendFault sheet name list room ≡ listFault list
-  pub full : sheetFault sheet ≡ 0 → NewName (names (signalsOn sheet)) name → listFault list ≡ 0
-      → (appendFault sheet name list room ≡ 15) ↔ (32 ≤ length (signalsOn sheet))
-  pub short : sheetFault sheet ≡ 0 → NewName (names (signalsOn sheet)) name → listFault list ≡ 0 → length (signalsOn sheet) < 32
-      → (appendFault sheet name list room ≡ 7) ↔ (room < length (appended sheet name list))
-  pub fine : sheetFault sheet ≡ 0 → NewName (names (signalsOn sheet)) name → listFault list ≡ 0 → length (signalsOn sheet) < 32
-      → length (appended sheet name list) ≤ room → appendFault sheet name list room ≡ 0
+abbrev pub AppendFaultIs : List ℕ → List ℕ → List ℕ → ℕ → ℕ → Type 0
+AppendFaultIs sheet name list room =
+    FaultCheck (sheetFault sheet)
+    (Check 16 ((¬ IsName name) ⊎ (among name (names (signalsOn sheet)) ≡ true))
+    (FaultCheck (listFault list)
+    (Check 15 (32 ≤ length (signalsOn sheet)) (Check 7 (room < length (appended sheet name list)) NoFault))))
 
 abbrev pub AppendFaultsExact : Type 0
-AppendFaultsExact = (sheet name list : List ℕ) (room : ℕ) → AppendExact sheet name list room
+AppendFaultsExact =
+    (sheet name list : List ℕ) (room : ℕ) → Exactly (AppendFaultIs sheet name list room) (appendFault sheet name list room)

@@ -13,16 +13,16 @@ use Rattle.signals.specs.Moment.{M}
 use Rattle.signals.specs.Signal.{Signal}
 use Rattle.signals.specs.Words.{dateOf, listFault}
 use Rattle.signals.specs.Answers.{firstOf}
-use Rattle.signals.specs.Checks.{Check, NoFault}
+use Rattle.signals.specs.Checks.{Check, FaultCheck}
 use Rattle.signals.specs.Quantified.{Up}
 use Rattle.signals.specs.Normal.{Accepted}
 use Rattle.signals.proofs.Truth.{not-both, or-cases, or-left, or-right}
 use Rattle.signals.proofs.FirstFault.{first-assoc, first-is, next-is}
-use Rattle.signals.proofs.Checks.{Single, none-single, check-single, exactly}
+use Rattle.signals.proofs.Checks.{Single, none-single, check-single, fault-check, passed-check, exactly}
 use Rattle.signals.proofs.ListFaults.{list-fault-range}
 use Rattle.operations.specs.Calls.{changesAfterM, partFault, roomFault, answerFault, lengthFault, pairFault}
 use Rattle.operations.specs.Calls.{exactOfOne, exactOfTwo, exactOfDelay, faultOfOne, faultOfTwo, faultOfDelay}
-use Rattle.operations.specs.CallFaults.{Breaks5, Breaks6, Breaks7, Breaks8, ListCheck, AnswerChecks, CallFaultsExact}
+use Rattle.operations.specs.CallFaults.{Breaks5, Breaks6, Breaks7, Breaks8, AnswerChecks, CallFaultsExact}
 
 -- the test for 6 says what its sentence says
 pub late-up : (l : List ℕ) → Up (changesAfterM l) → Breaks6 l
@@ -61,13 +61,6 @@ answer-checks exact n = go (ltb 256 (length exact)) (changesAfterM exact) (ltb n
 answer-single : (exact : List ℕ) (n : ℕ) → Single (AnswerChecks exact n)
 answer-single exact n = check-single (check-single (check-single none-single))
 
-list-check : (a : List ℕ) (later : ℕ → Type 0) (rest : ℕ) → later rest → ListCheck a later (firstOf (listFault a) rest)
-list-check a later rest h = go (ℕ-discrete (listFault a) 0)
-  where
-    go : Dec (listFault a ≡ 0) → ListCheck a later (firstOf (listFault a) rest)
-    go (yes z) = inr ((λ o. o z), rw (next-is (listFault a) rest z) h)
-    go (no o) = inl (o, first-is (listFault a) rest o)
-
 length-check : (d : ℕ) (later : ℕ → Type 0) (rest : ℕ) → later rest → Check 8 (Breaks8 d) later (firstOf (lengthFault d) rest)
 unfolding lengthFault firstOf
 length-check d later rest h = go (ltb M d) refl
@@ -76,28 +69,29 @@ length-check d later rest h = go (ltb M d) refl
     go true e = inl (ltb-true M d e, rw e)
     go false e = inr ((λ b. omega (arith, ltb-false M d e)), rw e h)
 
-of-one : (operation : Signal → Signal) (a : List ℕ) (n : ℕ) → ListCheck a (AnswerChecks (exactOfOne operation a) n) (faultOfOne operation a n)
+of-one : (operation : Signal → Signal) (a : List ℕ) (n : ℕ) → FaultCheck (listFault a) (AnswerChecks (exactOfOne operation a) n) (faultOfOne operation a n)
 unfolding faultOfOne
 of-one operation a n =
-    list-check a (AnswerChecks (exactOfOne operation a) n) (answerFault (exactOfOne operation a) n) (answer-checks (exactOfOne operation a) n)
+    fault-check (listFault a) (answerFault (exactOfOne operation a) n) (AnswerChecks (exactOfOne operation a) n)
+    (λ z. answer-checks (exactOfOne operation a) n)
 
 of-two : (operation : Signal → Signal → Signal) (a b : List ℕ) (n : ℕ)
-    → ListCheck a (ListCheck b (AnswerChecks (exactOfTwo operation a b) n)) (faultOfTwo operation a b n)
+    → FaultCheck (listFault a) (FaultCheck (listFault b) (AnswerChecks (exactOfTwo operation a b) n)) (faultOfTwo operation a b n)
 unfolding faultOfTwo pairFault
 of-two operation a b n =
     rw (first-assoc (listFault a) (listFault b) (answerFault (exactOfTwo operation a b) n))
-    (list-check a (ListCheck b answer) (firstOf (listFault b) (answerFault (exactOfTwo operation a b) n))
-    (list-check b answer (answerFault (exactOfTwo operation a b) n) (answer-checks (exactOfTwo operation a b) n)))
+    (fault-check (listFault a) (firstOf (listFault b) (answerFault (exactOfTwo operation a b) n)) (FaultCheck (listFault b) answer)
+    (λ z. fault-check (listFault b) (answerFault (exactOfTwo operation a b) n) answer (λ y. answer-checks (exactOfTwo operation a b) n)))
   where
     answer : ℕ → Type 0
     answer = AnswerChecks (exactOfTwo operation a b) n
 
 of-delay : (operation : Signal → Signal) (d : ℕ) (a : List ℕ) (n : ℕ)
-    → ListCheck a (Check 8 (Breaks8 d) (AnswerChecks (exactOfDelay operation d a) n)) (faultOfDelay operation d a n)
+    → FaultCheck (listFault a) (Check 8 (Breaks8 d) (AnswerChecks (exactOfDelay operation d a) n)) (faultOfDelay operation d a n)
 unfolding faultOfDelay
 of-delay operation d a n =
-    list-check a (Check 8 (Breaks8 d) answer) (firstOf (lengthFault d) (answerFault (exactOfDelay operation d a) n))
-    (length-check d answer (answerFault (exactOfDelay operation d a) n) (answer-checks (exactOfDelay operation d a) n))
+    fault-check (listFault a) (firstOf (lengthFault d) (answerFault (exactOfDelay operation d a) n)) (Check 8 (Breaks8 d) answer)
+    (λ z. length-check d answer (answerFault (exactOfDelay operation d a) n) (answer-checks (exactOfDelay operation d a) n))
   where
     answer : ℕ → Type 0
     answer = AnswerChecks (exactOfDelay operation d a) n
@@ -116,17 +110,14 @@ pub record Passed (exact : List ℕ) (n : ℕ) : Type 0 where
   pub early : ¬ Breaks6 exact
   pub fits : ¬ Breaks7 exact n
 
-list-passed : (a : List ℕ) (later : ℕ → Type 0) (fault : ℕ) → (fault ≡ 0) ⊎ (5 ≤ fault) → ListCheck a later fault → Accepted a × later fault
-list-passed a later fault w (inl (o, e)) = go w
+-- a fault that is none of 1 to 4 is not an operand's
+list-passed : (a : List ℕ) (later : ℕ → Type 0) (fault : ℕ) → (fault ≡ 0) ⊎ (5 ≤ fault) → FaultCheck (listFault a) later fault
+    → Accepted a × later fault
+list-passed a later fault w h = passed-check (listFault a) fault later (other w) h
   where
-    go : (fault ≡ 0) ⊎ (5 ≤ fault) → Accepted a × later fault
-    go (inl z) = absurd (o (omega arith))
-    go (inr l) = absurd (omega (arith, list-fault-range a))
-list-passed a later fault w (inr (o, h)) = go (ℕ-discrete (listFault a) 0)
-  where
-    go : Dec (listFault a ≡ 0) → Accepted a × later fault
-    go (yes z) = (z, h)
-    go (no p) = absurd (o p)
+    other : (fault ≡ 0) ⊎ (5 ≤ fault) → ¬ (listFault a ≡ 0) → ¬ (fault ≡ listFault a)
+    other (inl z) o e = o (omega arith)
+    other (inr l) o e = omega (arith, list-fault-range a)
 
 answer-passed : (exact : List ℕ) (n : ℕ) → AnswerChecks exact n 0 → Passed exact n
 answer-passed exact n (inl a) = absurd (omega (arith, a .1))
@@ -155,7 +146,7 @@ one-passed operation a n e =
 pub two-passed : (operation : Signal → Signal → Signal) (a b : List ℕ) (n : ℕ) → faultOfTwo operation a b n ≡ 0
     → (Accepted a × Accepted b) × Passed (exactOfTwo operation a b) n
 two-passed operation a b n e =
-    let h = list-passed a (ListCheck b (AnswerChecks (exactOfTwo operation a b) n)) 0 (inl refl) (call-faults-exact .two operation a b n 0 .0 e) in
+    let h = list-passed a (FaultCheck (listFault b) (AnswerChecks (exactOfTwo operation a b) n)) 0 (inl refl) (call-faults-exact .two operation a b n 0 .0 e) in
     let k = list-passed b (AnswerChecks (exactOfTwo operation a b) n) 0 (inl refl) (h .1) in
     ((h .0, k .0), answer-passed (exactOfTwo operation a b) n (k .1))
 
@@ -180,5 +171,5 @@ one-6 operation a n e =
 pub two-6 : (operation : Signal → Signal → Signal) (a b : List ℕ) (n : ℕ) → faultOfTwo operation a b n ≡ 6
     → Breaks6 (exactOfTwo operation a b)
 two-6 operation a b n e =
-    let h = list-passed a (ListCheck b (AnswerChecks (exactOfTwo operation a b) n)) 6 (inr (omega arith)) (call-faults-exact .two operation a b n 6 .0 e) in
+    let h = list-passed a (FaultCheck (listFault b) (AnswerChecks (exactOfTwo operation a b) n)) 6 (inr (omega arith)) (call-faults-exact .two operation a b n 6 .0 e) in
     answer-6 (exactOfTwo operation a b) n (list-passed b (AnswerChecks (exactOfTwo operation a b) n) 6 (inr (omega arith)) (h .1) .1)

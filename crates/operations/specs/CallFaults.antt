@@ -7,7 +7,7 @@ use lib.ListN.{length, getD}
 use Rattle.signals.specs.Moment.{M, gap, instant}
 use Rattle.signals.specs.Signal.{Signal, NOT, rising, falling, TON, TOF}
 use Rattle.signals.specs.Words.{dateOf, listFault, signalOf, listOf}
-use Rattle.signals.specs.Checks.{Check, NoFault, Exactly}
+use Rattle.signals.specs.Checks.{Check, FaultCheck, NoFault, Exactly}
 use Rattle.signals.specs.Settled.{SettledFrom}
 use Rattle.signals.specs.Normal.{Accepted}
 use Rattle.operations.specs.Calls.{exactOfOne, exactOfTwo, exactOfDelay, faultOfOne, faultOfTwo, faultOfDelay}
@@ -28,22 +28,18 @@ Breaks7 exact n = n < length exact
 abbrev pub Breaks8 : ℕ → Type 0
 Breaks8 d = M < d
 
--- 1 to 4: the fault of an operand, and what is checked after it
-abbrev pub ListCheck : List ℕ → (ℕ → Type 0) → ℕ → Type 0
-ListCheck a later = Check (listFault a) (¬ Accepted a) later
-
 -- 5, 6, 7 of the exact answer
 abbrev pub AnswerChecks : List ℕ → ℕ → ℕ → Type 0
 AnswerChecks exact n = Check 5 (Breaks5 exact) (Check 6 (Breaks6 exact) (Check 7 (Breaks7 exact n) NoFault))
 
--- the operands, first operand first; a delay's length; then the answer
+-- 1 to 4 of the operands, first operand first; a delay's length; then the answer
 pub record CallFaultsExact : Type 0 where
   pub one : (operation : Signal → Signal) (a : List ℕ) (n : ℕ)
-      → Exactly (ListCheck a (AnswerChecks (exactOfOne operation a) n)) (faultOfOne operation a n)
+      → Exactly (FaultCheck (listFault a) (AnswerChecks (exactOfOne operation a) n)) (faultOfOne operation a n)
   pub two : (operation : Signal → Signal → Signal) (a b : List ℕ) (n : ℕ)
-      → Exactly (ListCheck a (ListCheck b (AnswerChecks (exactOfTwo operation a b) n))) (faultOfTwo operation a b n)
+      → Exactly (FaultCheck (listFault a) (FaultCheck (listFault b) (AnswerChecks (exactOfTwo operation a b) n))) (faultOfTwo operation a b n)
   pub delay : (operation : Signal → Signal) (d : ℕ) (a : List ℕ) (n : ℕ)
-      → Exactly (ListCheck a (Check 8 (Breaks8 d) (AnswerChecks (exactOfDelay operation d a) n))) (faultOfDelay operation d a n)
+      → Exactly (FaultCheck (listFault a) (Check 8 (Breaks8 d) (AnswerChecks (exactOfDelay operation d a) n))) (faultOfDelay operation d a n)
 
 -- at some instant k after M, or in the gap k after it, the signal is not as in the gap before instant k
 abbrev pub ChangesAfterM : Signal → Type 0

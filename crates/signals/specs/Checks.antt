@@ -7,6 +7,10 @@ use mathlib.Core.Logic.{_⊎_, _↔_}
 abbrev pub Check : ℕ → Type 0 → (ℕ → Type 0) → ℕ → Type 0
 Check number Broken later fault = (Broken × (fault ≡ number)) ⊎ ((¬ Broken) × later fault)
 
+-- what is judged before the rest of a call has a fault of its own
+abbrev pub FaultCheck : ℕ → (ℕ → Type 0) → ℕ → Type 0
+FaultCheck own later = Check own (¬ (own ≡ 0)) later
+
 -- after the last check: none, which is 0
 abbrev pub NoFault : ℕ → Type 0
 NoFault fault = fault ≡ 0
