@@ -14,8 +14,8 @@ use Rattle.signals.specs.AnswersSay.{GivenVerdict}
 use Rattle.signals.specs.declared.Written.the-variants as written
 use Rattle.signals.specs.declared.Verdict.{Verdict}
 use Rattle.signals.specs.declared.Verdict.the-variants as verdict
-use Rattle.signals.proofs.AnswersSay.{answersSay}
-use Rattle.signals.proofs.ListFaults.{listFaultsExact}
+use Rattle.signals.proofs.AnswersSay.{answers-say}
+use Rattle.signals.proofs.ListFaults.{list-faults-exact}
 use Rattle.capi.specs.Packing.{SmallWritten, SmallVerdict}
 use Rattle.signals.specs.Answers.{firstOf}
 
@@ -28,7 +28,7 @@ unfolding firstOf
 first-small f g a b = choice (eqb f 0) g f b a
 
 pub list-small : (l : List ℕ) → listFault l < 65536
-list-small l = omega (arith, listFaultsExact .range l)
+list-small l = omega (arith, list-faults-exact .range l)
 
 pub written-small : (fault : ℕ) (words : List ℕ) → fault < 65536 → (fault ≡ 0 → length words < 65536) → SmallWritten (writtenOf fault words)
 unfolding writtenOf
@@ -47,5 +47,5 @@ given-small (verdict.Refused f) h l = l
 
 pub answer-small : (fault : ℕ) (first : Option ℕ) → fault < 65536 → SmallVerdict (verdictFor fault first)
 answer-small fault first h =
-    given-small (verdictFor fault first) (answersSay .verdict .given fault first)
-    (subst (λ (f : ℕ). f < 65536) (sym (answersSay .verdict .fault fault first)) h)
+    given-small (verdictFor fault first) (answers-say .verdict .given fault first)
+    (subst (λ (f : ℕ). f < 65536) (sym (answers-say .verdict .fault fault first)) h)

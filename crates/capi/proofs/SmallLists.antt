@@ -11,7 +11,7 @@ use Rattle.signals.specs.Words.{listFault, tidyFault}
 use Rattle.signals.specs.Answers.{writtenOf}
 use Rattle.signals.specs.Tidying.{tidied}
 use Rattle.signals.specs.declared.Told.the-variants as told
-use Rattle.signals.proofs.TidyFaults.{tidyFaultsExact}
+use Rattle.signals.proofs.TidyFaults.{tidy-faults-exact}
 use Rattle.signals.proofs.Tidying.{tidying}
 use Rattle.signals.specs.Words.{pairFault}
 use Rattle.questions.specs.Questions.{instantFault, gapFault, valueAtOf, valueInOf, equalOf, impliesOf}
@@ -60,5 +60,5 @@ tidy-small l n =
     written-small _ _
     (choice (eqb (tidyFault l) 0) (cond (ltb n (length (tidied l))) 7 0) (tidyFault l)
     (choice (ltb n (length (tidied l))) 7 0 (omega arith) (omega arith))
-    (omega (arith, tidyFaultsExact .range l)))
+    (omega (arith, tidy-faults-exact .range l)))
     (λ z. omega (arith, listed-some (tidied l) (tidying .accepted l (both-none (tidyFault l) _ z .0)) .1))

@@ -15,7 +15,7 @@ use Rattle.signals.specs.Words.{listOf, wordsOf, listFault, signalOf, lastDate,
 use Rattle.signals.proofs.WordFacts.{date-le}
 use Rattle.operations.specs.Calls.{changesAfterM}
 use Rattle.calls.specs.Calls.{partFault}
-use Rattle.signals.proofs.Normal.{readBack, acceptedNormal}
+use Rattle.signals.proofs.Normal.{read-back, accepted-normal}
 use Rattle.sheets.specs.Bytes.{Bytes, wordsIn}
 use Rattle.sheets.specs.Names.{wellNamed, among}
 use Rattle.sheets.specs.Reading.{sheetFault, signalsOn, names, listNamed, environmentOn}
@@ -62,7 +62,7 @@ module _ (sheet n : List ℕ) (ok : sheetFault sheet ≡ 0) (bytes : Bytes sheet
 
   pub name-list : exactOn sheet (leaf (name n)) ≡ listNamed n (signalsOn sheet)
   unfolding exactOn settlingDate environmentOn
-  name-list = readBack (listNamed n (signalsOn sheet)) (acceptedNormal (listNamed n (signalsOn sheet)) .0 (the-part .listed) .0) .same
+  name-list = read-back (listNamed n (signalsOn sheet)) (accepted-normal (listNamed n (signalsOn sheet)) .0 (the-part .listed) .0) .same
 
   pub part-words : (part : List ℕ) → part ≡ lookupOf sheet n → wordsIn (length part / 4) part ≡ exactOn sheet (leaf (name n))
   unfolding decoded

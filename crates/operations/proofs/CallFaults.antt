@@ -15,7 +15,7 @@ use Rattle.signals.specs.Words.{dateOf, listFault}
 use Rattle.signals.specs.Quantified.{Up, Down}
 use Rattle.signals.specs.Normal.{Accepted}
 use Rattle.signals.proofs.Truth.{up-or-down, not-both, or-cases, or-left, or-right}
-use Rattle.signals.proofs.ListFaults.{listFaultsExact}
+use Rattle.signals.proofs.ListFaults.{list-faults-exact}
 use Rattle.operations.specs.Calls.{changesAfterM, answerFault, lengthFault, pairFault, exactOfOne, exactOfTwo, exactOfDelay, faultOfOne, faultOfTwo, faultOfDelay}
 use Rattle.operations.specs.CallFaults.{Breaks5, Breaks6, Breaks7, Breaks8, AnswerFaults, FaultsOfOne, FaultsOfTwo, FaultsOfDelay, CallFaultsExact}
 use Rattle.operations.proofs.JudgedCalls.{pair-none}
@@ -178,7 +178,7 @@ answer-le exact n = go (answer-range exact n)
     go (inr r) = r .1
 
 list-le : (a : List ℕ) → listFault a ≤ 4
-list-le a = listFaultsExact .range a
+list-le a = list-faults-exact .range a
 
 list-first : (a : List ℕ) → First (listFault a) (Accepted a)
 list-first a = record { says = λ e. e; means = λ e. e; other = inl (list-le a) }

@@ -87,8 +87,8 @@ back-four (h ∷ ws) a b (suc i) c d s =
     (λ e. d (of-low h ws i e))
     (λ j l. fine-of h ws j (s (suc j) (omega arith)))
 
-pub listFaultsExact : ListFaultsExact
-listFaultsExact =
+pub list-faults-exact : ListFaultsExact
+list-faults-exact =
     record {
       none = λ l. (λ e. rw e at (gets l), back-none l);
       one = λ l. (λ e. rw e at (gets l), back-one l);

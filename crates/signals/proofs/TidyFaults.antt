@@ -117,8 +117,8 @@ back-three l a b zero c = absurd (omega (arith, c .0))
 back-three [] a b (suc i) c = absurd (a (inl refl))
 back-three (h ∷ ws) a b (suc i) c = past-head h ws (datesFault 0 ws) a b ∙ gives-3 0 ws i (low-of h ws i c)
 
-pub tidyFaultsExact : TidyFaultsExact
-tidyFaultsExact =
+pub tidy-faults-exact : TidyFaultsExact
+tidy-faults-exact =
     record {
       none = λ l. (λ e. rw e at (gets l), back-none l);
       one = λ l. (λ e. rw e at (gets l), back-one l);
