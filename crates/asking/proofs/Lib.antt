@@ -1,6 +1,3 @@
 -- The lemmas that the proofs of functions share.
 pub mod Searching
 pub mod Telling
-pub mod Stretches
-pub mod Watching
-pub mod Verdicts

@@ -16,7 +16,7 @@ use Rattle.lists.specs.Reading.{NEVER, nextDate, stepPast, countBy, datedBy}
 use Rattle.lists.specs.declared.Step.{Step}
 use Rattle.lists.proofs.ReadingFacts.{not-next, none-next}
 use Rattle.lists.proofs.Counting.{next-in, next-left, passed-next, count-start, count-passed, none-left, pass-count}
-use Rattle.asking.specs.Finding.{Sought}
+use Rattle.asking.specs.Seeking.{Sought}
 
 -- p words are passed, all dated before k (at 0 when k is 0)
 pub record Seeking (l : List ℕ) (k p : ℕ) : Type 0 where

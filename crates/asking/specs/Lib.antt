@@ -1,2 +1,2 @@
--- What the search and the scan find.
-pub mod Finding
+-- What the search finds.
+pub mod Seeking

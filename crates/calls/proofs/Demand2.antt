@@ -15,7 +15,7 @@ use Rattle.signals.specs.Words.{dateOf, signalOf}
 use Rattle.signals.specs.Settled.{Same}
 use Rattle.signals.specs.Answers.{faultIn, outputOf}
 use Rattle.signals.specs.Implication.{faultOfVerdict}
-use Rattle.signals.proofs.Normal.{acceptedNormal}
+use Rattle.signals.proofs.Normal.{accepted-normal}
 use Rattle.signals.proofs.Implication.{verdict-judged}
 use Rattle.signals.proofs.Settling.{settled-later}
 use Rattle.signals.proofs.Truth.{not-both}
@@ -58,7 +58,7 @@ part-accepted s l h e =
     record {
       listed = h;
       only = λ m k. one-for k h;
-      accepted = acceptedNormal l .1 (h .normal, ltb-false 256 (length l) (a .0));
+      accepted = accepted-normal l .1 (h .normal, ltb-false 256 (length l) (a .0));
       withinM = λ i m. within i m (b .0);
     }
   where

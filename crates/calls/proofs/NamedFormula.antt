@@ -11,7 +11,7 @@ use borrow.Author.Tests.{leb-true, le-ltb}
 use Rattle.signals.specs.Signal.{constant}
 use Rattle.signals.specs.Words.{dateOf, listFault, wordsOf, listOf}
 use Rattle.signals.proofs.Truth.{and-left, down-of, not-both}
-use Rattle.signals.proofs.Normal.{acceptedNormal, readBack}
+use Rattle.signals.proofs.Normal.{accepted-normal, read-back}
 use Rattle.operations.specs.Calls.{changesAfterM}
 use Rattle.grammar.specs.Tree.{Tree, Leaf, leaf, unary, binary, down, up, name}
 use Rattle.grammar.specs.Code.{code}
@@ -82,11 +82,11 @@ name-fault (b ∷ bs) e f =
 name-exact : (sheet n : List ℕ) → listFault (listNamed n (signalsOn sheet)) ≡ 0
     → exactOn sheet (leaf (name n)) ≡ listNamed n (signalsOn sheet)
 unfolding exactOn settlingDate environmentOn
-name-exact sheet n a = readBack (listNamed n (signalsOn sheet)) (acceptedNormal (listNamed n (signalsOn sheet)) .0 a .0) .same
+name-exact sheet n a = read-back (listNamed n (signalsOn sheet)) (accepted-normal (listNamed n (signalsOn sheet)) .0 a .0) .same
 
 accepted-fine : (l : List ℕ) → listFault l ≡ 0 → changesAfterM l ≡ false → partFault l ≡ 0
 unfolding partFault
-accepted-fine l a e = rw (le-ltb 256 (length l) (acceptedNormal l .0 a .1), e) refl
+accepted-fine l a e = rw (le-ltb 256 (length l) (accepted-normal l .0 a .1), e) refl
 
 name-parts : (sheet n : List ℕ) → partFault (exactOn sheet (leaf (name n))) ≡ 0 → partsFault sheet (parts (leaf (name n))) ≡ 0
 unfolding partsFault parts

@@ -10,7 +10,7 @@ use borrow.Author.Tests.{ltb-false, le-ltb, lt-ltb, eqb-true, eq-eqb, ne-eqb}
 use Rattle.signals.specs.Signal.{Signal, refuted}
 use Rattle.signals.specs.Answers.{faultIn, writtenOf, verdictFor}
 use Rattle.signals.specs.Implication.{faultOfVerdict}
-use Rattle.signals.proofs.AnswersSay.{answersSay}
+use Rattle.signals.proofs.AnswersSay.{answers-say}
 use Rattle.signals.specs.Moment.{gap, isGap, tick}
 use Rattle.signals.specs.declared.Written.the-variants as written
 use Rattle.signals.specs.declared.Verdict.the-variants as verdict
@@ -170,12 +170,12 @@ claim-refused sheet F G work n e l = rw (ne-eqb (claimFault sheet F G work) 0 (�
 -- a verdict is no refusal
 pub claim-no-fault : (sheet : List ℕ) (f g : Tree) → faultOfVerdict (claimVerdict sheet f g) ≡ 0
 unfolding verdictFor
-claim-no-fault sheet f g = answersSay .verdict .fault 0 (claimFails sheet f g)
+claim-no-fault sheet f g = answers-say .verdict .fault 0 (claimFails sheet f g)
 
 -- the fault that a claim's answer shows
 pub claim-fault-shown : (sheet F G : List ℕ) (work : ℕ) → faultOfVerdict (claimAnswer sheet F G work) ≡ claimFault sheet F G work
 unfolding claimAnswer
-claim-fault-shown sheet F G work = answersSay .verdict .fault (claimFault sheet F G work) (claimFails sheet (formulaTree F) (formulaTree G))
+claim-fault-shown sheet F G work = answers-say .verdict .fault (claimFault sheet F G work) (claimFails sheet (formulaTree F) (formulaTree G))
 
 pub answered-claim : (sheet F G : List ℕ) → Answered sheet F → Answered sheet G → (work : ℕ)
     → claimFault sheet F G work ≡ workFault sheet work

@@ -8,7 +8,7 @@ use Rattle.signals.specs.Signal.{Signal}
 use Rattle.signals.specs.Words.{signalOf, lastDate}
 use Rattle.signals.specs.Settled.{SettledFrom}
 use Rattle.signals.proofs.Settling.{settling, settled-later}
-use Rattle.signals.proofs.Normal.{accepted-settled, listOfSignal, unique}
+use Rattle.signals.proofs.Normal.{accepted-settled, unique, list-of-signal}
 use Rattle.grammar.specs.Tree.{Tree, leaf, unary, binary, down, up, name, invert, rise, fall, ton, tof, and, or, sr, rs}
 use Rattle.format.specs.Names.{same}
 use Rattle.format.specs.Reading.{sheetFault, Entry, nameOf, listOn, signalsOn, listNamed, environmentOn}
@@ -50,7 +50,7 @@ settles sheet ok (binary rs t u) = settled-later _ _ _ (settling .rs _ _ _ _ (se
 pub exact-for : (sheet : List ℕ) → sheetFault sheet ≡ 0 → (t : Tree) → ListFor (signalOn sheet t) (exactOn sheet t)
 unfolding exactOn
 exact-for sheet ok t =
-    let l = listOfSignal (signalOn sheet t) (settlingDate sheet t) (settles sheet ok t) in
+    let l = list-of-signal (signalOn sheet t) (settlingDate sheet t) (settles sheet ok t) in
     record { normal = l .normal; denotes = l .denotes }
 
 pub one-for : {s : Signal} {l m : List ℕ} → ListFor s l → ListFor s m → l ≡ m

@@ -50,7 +50,7 @@ pub extern "C" fn sgl_value_in(list: &[u32], k: u32) -> u32
 pub extern "C" fn sgl_equal(a: &[u32], b: &[u32]) -> u32
     ensures { λ r. ⌜ r ≡ packTold (equalOf (now (a .entry)) (now (b .entry))) ⌝ }
 {
-    packing::pack_told(asking::equal(a, b))
+    packing::pack_told(comparing::equal(a, b))
 }
 
 // Implication a to b.
@@ -58,7 +58,7 @@ pub extern "C" fn sgl_equal(a: &[u32], b: &[u32]) -> u32
 pub extern "C" fn sgl_implies(a: &[u32], b: &[u32]) -> u64
     ensures { λ r. ⌜ r ≡ packVerdict (impliesOf (now (a .entry)) (now (b .entry))) ⌝ }
 {
-    packing::pack_verdict(asking::implies(a, b))
+    packing::pack_verdict(comparing::implies(a, b))
 }
 
 // NOT.

@@ -11,7 +11,7 @@ use Rattle.signals.specs.Signal.{Signal, NOT, rising, falling, SR, RS, TON, TOF
 use Rattle.signals.specs.Words.{signalOf, lastDate, listOf, listFault}
 use Rattle.signals.specs.Settled.{SettledFrom, Same}
 use Rattle.signals.proofs.Settling.{settling, settled-later}
-use Rattle.signals.proofs.Normal.{accepted-settled, acceptedNormal}
+use Rattle.signals.proofs.Normal.{accepted-settled, accepted-normal}
 use Rattle.operations.specs.Calls.{exactOfOne, exactOfTwo, exactOfDelay, changesAfterM}
 use Rattle.grammar.specs.Tree.{Tree, Unary, Binary, unary, binary, invert, rise, fall, ton, tof, and, or, sr, rs, applyUnary, applyBinary}
 use Rattle.signals.proofs.AnyDate.{one-list}
@@ -90,7 +90,7 @@ module _ (sheet : List ℕ) (ok : sheetFault sheet ≡ 0) where
   -- a part without fault 5 has an accepted list
   pub accepted-part : (t : Tree) → partFault (exactOn sheet t) ≡ 0 → listFault (exactOn sheet t) ≡ 0
   unfolding partFault
-  accepted-part t h = acceptedNormal (exactOn sheet t) .1 (exact-for sheet ok t .normal, size (ltb 256 (length (exactOn sheet t))) refl h)
+  accepted-part t h = accepted-normal (exactOn sheet t) .1 (exact-for sheet ok t .normal, size (ltb 256 (length (exactOn sheet t))) refl h)
     where
       size : (b : Bool) → ltb 256 (length (exactOn sheet t)) ≡ b → _≡_ {A = ℕ} (cond b 5 (cond (changesAfterM (exactOn sheet t)) 6 0)) 0 → length (exactOn sheet t) ≤ 256
       size true e z = absurd (omega arith)

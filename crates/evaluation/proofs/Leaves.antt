@@ -15,7 +15,6 @@ use Rattle.signals.specs.Words.{listOf, wordsOf, listFault, signalOf, lastDate,
 use Rattle.signals.proofs.WordFacts.{date-le}
 use Rattle.operations.specs.Calls.{changesAfterM}
 use Rattle.calls.specs.Calls.{partFault}
-use Rattle.signals.proofs.Normal.{readBack, acceptedNormal}
 use Rattle.slices.specs.Bytes.{Bytes, wordsIn}
 use Rattle.names.specs.Names.{wellNamed}
 use Rattle.grammar.specs.Tree.{Leaf, leaf, down, up, name}
@@ -28,6 +27,7 @@ use Rattle.format.specs.declared.Place.the-variants.{At, Refused}
 use Rattle.format.proofs.Digits.{bytes-drop, wordsIn-below}
 use Rattle.format.specs.Theorems.{decoded, PartIsList}
 use Rattle.format.proofs.Theorems.{lookup-gives-the-list}
+use Rattle.signals.proofs.Normal.{read-back, accepted-normal}
 use Rattle.calls.specs.OnSheet.{exactOn, settlingDate, signalOn}
 use Rattle.evaluation.specs.Machine.{leafOf, leafKnown, Loaded}
 use Rattle.evaluation.proofs.SlotFacts.{short}
@@ -63,7 +63,7 @@ module _ (sheet n : List ℕ) (ok : sheetFault sheet ≡ 0) (bytes : Bytes sheet
 
   pub name-list : exactOn sheet (leaf (name n)) ≡ listNamed n (signalsOn sheet)
   unfolding exactOn settlingDate environmentOn
-  name-list = readBack (listNamed n (signalsOn sheet)) (acceptedNormal (listNamed n (signalsOn sheet)) .0 (the-part .listed) .0) .same
+  name-list = read-back (listNamed n (signalsOn sheet)) (accepted-normal (listNamed n (signalsOn sheet)) .0 (the-part .listed) .0) .same
 
   pub part-words : (part : List ℕ) → part ≡ lookupOf sheet n → wordsIn (length part / 4) part ≡ exactOn sheet (leaf (name n))
   unfolding decoded

@@ -6,8 +6,8 @@ use mathlib.Core.List.{List, [], _∷_, _++_, append-assoc}
 use lib.ListN.{length, take, drop, getD, set, length-append, length-take, take-append-drop}
 use lib.Seq.{paste, take-append-le, drop-append-le, take-at, drop-at, length-take-le, getD-set-same, getD-set-other, take-length, take-take}
 use Rattle.signals.specs.Words.{listFault}
-use Rattle.signals.proofs.Normal.{acceptedNormal}
 use Rattle.grammar.specs.Tree.{Tree}
+use Rattle.signals.proofs.Normal.{accepted-normal}
 use Rattle.calls.specs.OnSheet.{exactOn}
 use Rattle.evaluation.specs.Machine.{InSlot, Stacked}
 
@@ -37,7 +37,7 @@ here d s at n hd hs =
 
 -- an accepted list is short
 pub short : (l : List ℕ) → listFault l ≡ 0 → length l ≤ 256
-short l h = acceptedNormal l .0 h .1
+short l h = accepted-normal l .0 h .1
 
 -- a list put into a slot
 pub put-slot : (work words : List ℕ) (slot : ℕ) (l : List ℕ) → 256 * slot ≤ length work → take (length l) words ≡ l → length l ≤ length words → listFault l ≡ 0

@@ -461,7 +461,7 @@ fn compare(
         Written::Count(count) => {
             let w = &work[..];
             let end = 256 + count;
-            asking::implies(&w[..f_count], &w[256..end])
+            comparing::implies(&w[..f_count], &w[256..end])
         }
         Written::Refused(fault) => Verdict::Refused(fault),
     }

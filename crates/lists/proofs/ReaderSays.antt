@@ -13,7 +13,7 @@ use Rattle.signals.specs.ListFaults.{dateBefore}
 use Rattle.signals.specs.Passing.{heldValue, passedDate}
 use Rattle.signals.proofs.WordFacts.{date-bounds}
 use Rattle.signals.proofs.Operand.{At, at-take, at-end, at-pass, next-later}
-use Rattle.signals.proofs.Normal.{acceptedNormal, accepted-start}
+use Rattle.signals.proofs.Normal.{accepted-normal, accepted-start}
 use Rattle.signals.specs.Giving.{WithinM}
 use Rattle.lists.specs.Reading.{NEVER, nextDate, countBy, datedBy}
 use Rattle.lists.specs.ReaderSays.{PastDate, Says, ReaderSays}
@@ -45,8 +45,8 @@ module _ (l : List ℕ) (z : Accepted l) where
   first-date = go l z
     where
       go : (l : List ℕ) → Accepted l → dateOf (getD l 0 0) ≡ 0
-      go [] a = absurd (acceptedNormal [] .0 a .0)
-      go (h ∷ ws) a = omega (arith, date-bounds h, acceptedNormal (h ∷ ws) .0 a .0 .0)
+      go [] a = absurd (accepted-normal [] .0 a .0)
+      go (h ∷ ws) a = omega (arith, date-bounds h, accepted-normal (h ∷ ws) .0 a .0 .0)
 
   -- no word passed is dated after the last one passed
   passed-le : (p i : ℕ) → i < p → p ≤ length l → dateOf (getD l i 0) ≤ dateBefore l p

@@ -1,8 +1,8 @@
 // Compares document 01's examples that the calls on lists can reach: a line a vector, its name and 'ok', or what came instead.
-use asking::equal;
-use asking::implies;
 use asking::value_at;
 use asking::value_in;
+use comparing::equal;
+use comparing::implies;
 use lists::list_fault;
 use signals::Date;
 use signals::Length;

@@ -15,7 +15,7 @@ use Rattle.signals.specs.Words.{dateOf, signalOf, lastDate, lastFrom, listOf, l
 use Rattle.signals.specs.Normal.{Normal, Accepted, Rising}
 use Rattle.signals.specs.Passing.{heldValue, isNext, atDate, afterDate, passedDate}
 use Rattle.signals.proofs.Operand.{At, Passed, at-pass, at-end, next-later, value-held}
-use Rattle.signals.proofs.Normal.{accepted-start, acceptedNormal, last-le, lastDate-bound}
+use Rattle.signals.proofs.Normal.{accepted-start, accepted-normal, last-le, lastDate-bound}
 use Rattle.signals.proofs.WordFacts.{date-bounds, date-le}
 use Rattle.signals.proofs.Operand.{words-rise}
 use Rattle.lists.specs.Reading.{nextDate, NEVER, stepPast}
@@ -41,7 +41,7 @@ dates-rising k (w ∷ ws) r (suc i) h = dates-rising (dateOf w) ws (r .1) i (ome
 
 pub accepted-dates : (l : List ℕ) → Accepted l → Dates l (lastDate l)
 unfolding lastDate
-accepted-dates l a = go l (acceptedNormal l .0 a .0)
+accepted-dates l a = go l (accepted-normal l .0 a .0)
   where
     go : (l : List ℕ) → Normal l → Dates l (lastDate l)
     go [] n i h = absurd n
@@ -234,7 +234,7 @@ pub record Operands (a b : List ℕ) : Type 0 where
   pub second-small : lastDate b ≤ M
 
 pub short : (l : List ℕ) → Accepted l → length l ≤ 256
-short l h = acceptedNormal l .0 h .1
+short l h = accepted-normal l .0 h .1
 
 module _ (o : Operation) (table : Table) (a b old : List ℕ) (k : ℕ) (slot : List ℕ) (made : Made) (bit : Bool) (i j : ℕ)
     (x : Operands a b) (m : Merging o table a b (max (lastDate a) (lastDate b)) old k slot made bit i j) (more : i + j < length a + length b) where

@@ -18,7 +18,7 @@ use Rattle.signals.proofs.Agreement.{rising-up, falling-up}
 use Rattle.signals.proofs.WordFacts.{date-le}
 use Rattle.signals.proofs.Scan.{Held, scan-to, scan-settled}
 use Rattle.signals.proofs.Operand.{Ahead, pass-word, words-rise, value-none}
-use Rattle.signals.proofs.Normal.{last-le, start, acceptedNormal, lastDate-bound}
+use Rattle.signals.proofs.Normal.{last-le, start, accepted-normal, lastDate-bound}
 use Rattle.signals.proofs.Giving.{within}
 use Rattle.operations.specs.Calls.{exactOfOne, exactOfTwo, faultOfOne, faultOfTwo}
 use Rattle.operations.specs.CallFaults.{Breaks6, Words32, NeverLonger, NeverMet}
@@ -68,9 +68,9 @@ follows-length f g fol m k v (w ∷ ws) a le =
 
 never-longer : (operation : Signal → Signal) → ((f : Signal) → Follows f (operation f)) → NeverLonger operation
 unfolding exactOfOne listOf lastDate
-never-longer operation fol [] h = absurd (acceptedNormal [] .0 h .0)
+never-longer operation fol [] h = absurd (accepted-normal [] .0 h .0)
 never-longer operation fol (w ∷ ws) h =
-    let n = acceptedNormal (w ∷ ws) .0 h .0 in
+    let n = accepted-normal (w ∷ ws) .0 h .0 in
     let e : lastFrom 0 ws - 0 ≡ lastFrom 0 ws = omega arith in
     let f : Signal = signalOf (w ∷ ws) in
     let s = rw e at (follows-length f (operation f) (fol f) (lastFrom 0 ws) 0 (headValue w) ws (start w ws (words-rise 0 (headValue w) ws (n .1))) (omega arith)) in
@@ -113,7 +113,7 @@ last-32 a h = lastDate-bound M a (λ i l. date-le (getD a i 0) (h i l))
 never-5 : (operation : Signal → Signal) → NeverLonger operation → (a : List ℕ) (n : ℕ) → ¬ (faultOfOne operation a n ≡ 5)
 never-5 operation short a n e =
     let g = one-5 operation a n e in
-    omega (arith, g .1, short a (g .0), acceptedNormal a .0 (g .0) .1)
+    omega (arith, g .1, short a (g .0), accepted-normal a .0 (g .0) .1)
 
 never-6-one : (operation : Signal → Signal) (a : List ℕ) (n : ℕ) → Words32 a → ¬ (faultOfOne operation a n ≡ 6)
 unfolding exactOfOne

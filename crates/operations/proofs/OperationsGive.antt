@@ -11,7 +11,7 @@ use Rattle.signals.specs.Words.{dateOf, signalOf, lastDate, listOf}
 use Rattle.signals.specs.Settled.{SettledFrom}
 use Rattle.signals.specs.Answers.{faultIn, writtenOf, outputOf}
 use Rattle.signals.specs.declared.Written.{Written}
-use Rattle.signals.proofs.Normal.{acceptedNormal, listOfSignal, accepted-settled}
+use Rattle.signals.proofs.Normal.{accepted-normal, list-of-signal, accepted-settled}
 use Rattle.signals.proofs.Settling.{settling}
 use Rattle.signals.specs.Giving.{WithinM, Gives}
 use Rattle.signals.proofs.Giving.{no-fault, gives}
@@ -37,7 +37,7 @@ module _ (s : Signal) (n fault : ℕ) (Sound : Type 0) (out : List ℕ)
     listed answer after call z =
         let none = no-fault fault (listOf s n) out answer after call z in
         let passed = passes none in
-        let list = listOfSignal s n (settled (passed .0)) in
+        let list = list-of-signal s n (settled (passed .0)) in
         gives
         fault
         (listOf s n)
@@ -48,7 +48,7 @@ module _ (s : Signal) (n fault : ℕ) (Sound : Type 0) (out : List ℕ)
         s
         none
         (omega (arith, passed .1 .fits))
-        (acceptedNormal (listOf s n) .1 (list .normal, omega (arith, passed .1 .few)))
+        (accepted-normal (listOf s n) .1 (list .normal, omega (arith, passed .1 .few)))
         (in-time (listOf s n) (passed .1 .early))
         (list .denotes)
 

@@ -16,8 +16,8 @@ use Rattle.format.specs.Calls.{faultOfPlace, firstByte, byteCount}
 use Rattle.format.specs.declared.Place.{Place}
 use Rattle.signals.specs.declared.Written.the-variants as written
 use Rattle.signals.specs.declared.Verdict.{Verdict}
-use Rattle.signals.proofs.AnswersSay.{answersSay}
-use Rattle.signals.proofs.ListFaults.{listFaultsExact}
+use Rattle.signals.proofs.AnswersSay.{answers-say}
+use Rattle.signals.proofs.ListFaults.{list-faults-exact}
 use Rattle.packing.specs.Packing.{packFault, packWritten, packTold, packVerdict, packPlace}
 use Rattle.packing.specs.Packing.{faultBits, writtenBits, toldBits, verdictBits, placeBits}
 
@@ -64,7 +64,7 @@ unfolding firstOf
 first-small f g a b = choice (eqb f 0) g f b a
 
 pub list-small : (l : List ℕ) → listFault l < 65536
-list-small l = omega (arith, listFaultsExact .range l)
+list-small l = omega (arith, list-faults-exact .range l)
 
 pub written-small : (fault : ℕ) (words : List ℕ) → fault < 65536 → (fault ≡ 0 → length words < 65536)
     → SmallWritten (writtenOf fault words)
@@ -76,4 +76,4 @@ written-small fault words f w = go (eqb fault 0) refl
     go false e = (f, omega arith)
 
 pub answer-small : (fault : ℕ) (first : Option ℕ) → fault < 65536 → SmallVerdict (verdictFor fault first)
-answer-small fault first h = subst (λ (f : ℕ). f < 65536) (sym (answersSay .verdict .fault fault first)) h
+answer-small fault first h = subst (λ (f : ℕ). f < 65536) (sym (answers-say .verdict .fault fault first)) h

@@ -15,7 +15,7 @@ use Rattle.signals.specs.Quantified.{Up, Down}
 use Rattle.signals.specs.declared.Told.{Told}
 use Rattle.signals.specs.declared.Told.the-variants.{Yes, No}
 use Rattle.signals.proofs.Truth.{up-or-down, not-both, every-up, every-of}
-use Rattle.signals.proofs.Normal.{uniqueAccepted}
+use Rattle.signals.proofs.Normal.{unique-accepted}
 use Rattle.questions.specs.Questions.{laterLast, agreeing, equalOf}
 use Rattle.questions.specs.Equality.{Compared, Equality}
 use Rattle.questions.proofs.LaterLast.{settled-a, settled-b, not-every}
@@ -91,5 +91,5 @@ equality a b za zb =
       yes = (yes-same a b za zb, same-yes a b za zb);
       no = (no-other a b za zb, λ n. other-no a b za zb n one);
       either = one;
-      words = (λ h. uniqueAccepted a b za zb (yes-same a b za zb h), λ e. same-yes a b za zb (λ t. ap (λ l. signalOf l t) e));
+      words = (λ h. unique-accepted a b za zb (yes-same a b za zb h), λ e. same-yes a b za zb (λ t. ap (λ l. signalOf l t) e));
     }

@@ -1,1 +1,1 @@
-// What the questions about lists answer, as definitions and theorems: no code. Crate asking has the calls.
+// What the questions about lists answer, as definitions and theorems: no code. Crates asking and comparing have the calls.

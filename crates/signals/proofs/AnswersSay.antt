@@ -64,8 +64,8 @@ sum-every (sum.On date) h = rw (le-ltb M (date .0) h)
 sum-every (sum.PastM total) h = rw (lt-ltb M total h)
 sum-every (sum.Refused f) h = rw (is-fault f h)
 
-pub sumSays : SumSays
-sumSays =
+pub sum-says : SumSays
+sum-says =
     record {
       fault = sum-fault;
       value = sum-value;
@@ -97,8 +97,8 @@ module _ (words : List ℕ) where
   written-every (written.Count n) h e = ap written.Count e
   written-every (written.Refused f) h e = rw (is-fault f h)
 
-pub writtenSays : WrittenSays
-writtenSays =
+pub written-says : WrittenSays
+written-says =
     record {
       fault = λ f words. written-fault words f;
       value = written-value;
@@ -133,8 +133,8 @@ told-every told.Yes h = refl
 told-every told.No h = refl
 told-every (told.Refused f) h = rw (is-fault f h)
 
-pub toldSays : ToldSays
-toldSays = record { fault = told-fault; value = told-value; refused = told-refused; given = told-given; every = told-every }
+pub told-says : ToldSays
+told-says = record { fault = told-fault; value = told-value; refused = told-refused; given = told-given; every = told-every }
 
 -- a claim's
 fails-cases : (P : ℕ → Verdict → Type 0) → ((k : ℕ) → P (gap k) (verdict.FailsAfter k))
@@ -165,9 +165,9 @@ verdict-every (verdict.FailsAt k) h = failsIn-instant k h
 verdict-every (verdict.FailsAfter k) h = failsIn-gap k
 verdict-every (verdict.Refused f) h = rw (is-fault f h)
 
-pub verdictSays : VerdictSays
+pub verdict-says : VerdictSays
 unfolding verdictFor
-verdictSays =
+verdict-says =
     record {
       fault = λ f first. by-fault (λ g x. faultOfVerdict x ≡ g) f (judgedBy first) verdict.Refused (verdict-none first) (λ g l. refl);
       value = verdict-value;
@@ -176,5 +176,5 @@ verdictSays =
       every = verdict-every;
     }
 
-pub answersSay : AnswersSay
-answersSay = record { sum = sumSays; written = writtenSays; told = toldSays; verdict = verdictSays }
+pub answers-say : AnswersSay
+answers-say = record { sum = sum-says; written = written-says; told = told-says; verdict = verdict-says }

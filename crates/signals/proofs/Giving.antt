@@ -14,8 +14,8 @@ use Rattle.signals.specs.Giving.{WithinM, Gives}
 use Rattle.signals.specs.declared.Written.{Written}
 use Rattle.signals.proofs.WordFacts.{date-bounds, num-le}
 use Rattle.signals.proofs.Scan.{scan-dates}
-use Rattle.signals.proofs.Normal.{uniqueAccepted}
-use Rattle.signals.proofs.AnswersSay.{writtenSays}
+use Rattle.signals.proofs.Normal.{unique-accepted}
+use Rattle.signals.proofs.AnswersSay.{written-says}
 
 -- the list of a signal up to a date up to M has no word dated after M
 pub within : (s : Signal) (n : ℕ) → n ≤ M → WithinM (listOf s n)
@@ -28,7 +28,7 @@ module _ (fault : ℕ) (words out : List ℕ) (answer : Written) (after : List �
     (call : (answer ≡ writtenOf fault words) × (after ≡ outputOf fault words out))
   where
     pub no-fault : faultIn answer ≡ 0 → fault ≡ 0
-    no-fault z = sym (writtenSays .fault fault words) ∙ ap faultIn (sym (call .0)) ∙ z
+    no-fault z = sym (written-says .fault fault words) ∙ ap faultIn (sym (call .0)) ∙ z
 
     pub gives : (signal : Signal) → fault ≡ 0 → length words ≤ length out → Accepted words → WithinM words → Same (signalOf words) signal
         → Gives signal out answer after
@@ -42,5 +42,5 @@ module _ (fault : ℕ) (words out : List ℕ) (answer : Written) (after : List �
           accepted = accepted;
           dated = dated;
           denotes = denotes;
-          only = λ l a same. uniqueAccepted l words a accepted (λ t. same t ∙ sym (denotes t));
+          only = λ l a same. unique-accepted l words a accepted (λ t. same t ∙ sym (denotes t));
         }

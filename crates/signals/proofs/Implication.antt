@@ -171,5 +171,5 @@ pub verdict-judged : (f g : Signal) (n : ℕ) → SettledFrom f n → SettledFro
 verdict-judged f g n sf sg =
     judge f g n (outcome f g n sf sg) (λ m l. outcome f g m (settled-later f n m sf l) (settled-later g n m sg l))
 
-pub earliestFails : Earliest
-earliestFails = record { judged = verdict-judged; atInstant = failsIn-instant; inGap = failsIn-gap }
+pub earliest-fails : Earliest
+earliest-fails = record { judged = verdict-judged; atInstant = failsIn-instant; inGap = failsIn-gap }

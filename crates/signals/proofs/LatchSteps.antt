@@ -257,8 +257,8 @@ pub latch-in : (setWins : Bool) (s r : Signal) (k : ℕ) → latch setWins s r (
 latch-in true s r k = rw (carried-SR s r k) (shows s r k)
 latch-in false s r k = sym (carried-RS s r k)
 
-pub latchSteps : LatchSteps
-latchSteps =
+pub latch-steps : LatchSteps
+latch-steps =
     record {
       atInstant = latch-at;
       inGap = latch-in;

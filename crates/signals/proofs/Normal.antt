@@ -66,8 +66,8 @@ read-words f m k v (w ∷ ws) a h le =
     scan-to f m k (dateOf w) v (valueAt w) (valueAfter w) (step .0) d ∙
     rw (entry-word v w (s .changes), read-words f m (dateOf w) (valueAfter w) ws (step .1) (s .rest) le)
 
-pub datesRise : DatesRise
-datesRise h ws n = words-rise 0 (headValue h) ws (n .1)
+pub dates-rise : DatesRise
+dates-rise h ws n = words-rise 0 (headValue h) ws (n .1)
 
 pub start : (h : ℕ) (ws : List ℕ) → Rising 0 ws → Ahead (signalOf (h ∷ ws)) 0 (headValue h) ws
 unfolding signalOf
@@ -76,34 +76,34 @@ start h ws r = record { says = λ t g. refl; rises = r }
 pub read-list : (h : ℕ) (ws : List ℕ) (m : ℕ) → Normal (h ∷ ws) → lastFrom 0 ws ≤ m → listOf (signalOf (h ∷ ws)) m ≡ h ∷ ws
 unfolding listOf
 read-list h ws m n le =
-    let a = start h ws (datesRise h ws n) in
+    let a = start h ws (dates-rise h ws n) in
     let first : signalOf (h ∷ ws) 0 ≡ headValue h = a .says 0 (omega arith) ∙ value-held (headValue h) 0 ws 0 (a .rises) (omega arith) in
     let e : m ≡ m - 0 = omega arith in
     rw (first, num-headValue h (n .0)) (ap (λ l. h ∷ l) (rw e (read-words (signalOf (h ∷ ws)) m 0 (headValue h) ws a (n .1) le)))
 
-pub readBack : ReadBack
+pub read-back : ReadBack
 unfolding lastDate
-readBack [] n = absurd n
-readBack (h ∷ ws) n =
+read-back [] n = absurd n
+read-back (h ∷ ws) n =
     record {
-      settled = ahead-settled (signalOf (h ∷ ws)) 0 (headValue h) ws (start h ws (datesRise h ws n));
+      settled = ahead-settled (signalOf (h ∷ ws)) 0 (headValue h) ws (start h ws (dates-rise h ws n));
       same = read-list h ws (lastFrom 0 ws) n (omega arith);
     }
 
 pub unique : Unique
 unfolding lastDate
 unique l m nl nm same =
-    let a = readBack l nl in
-    let b = readBack m nm in
+    let a = read-back l nl in
+    let b = read-back m nm in
     let n : ℕ = max (lastDate l) (lastDate m) in
     sym (a .same) ∙ sym (listOf-more (signalOf l) (lastDate l) n (a .settled) (omega arith)) ∙
     listOf-ext (signalOf l) (signalOf m) n same ∙
     listOf-more (signalOf m) (lastDate m) n (b .settled) (omega arith) ∙ b .same
 
-pub acceptedNormal : AcceptedNormal
+pub accepted-normal : AcceptedNormal
 unfolding listFault
-acceptedNormal [] = (λ e. absurd (omega arith), λ p. absurd (p .0))
-acceptedNormal (h ∷ ws) = go (ltb 256 (length (h ∷ ws))) (ltb 1 h) refl refl
+accepted-normal [] = (λ e. absurd (omega arith), λ p. absurd (p .0))
+accepted-normal (h ∷ ws) = go (ltb 256 (length (h ∷ ws))) (ltb 1 h) refl refl
   where
     go : (t u : Bool) → ltb 256 (length (h ∷ ws)) ≡ t → ltb 1 h ≡ u
         → (cond (ltb 256 (length (h ∷ ws))) 1 (cond (ltb 1 h) 2 (wordsFault 0 (headValue h) ws)) ≡ 0) ↔
@@ -118,8 +118,8 @@ acceptedNormal (h ∷ ws) = go (ltb 256 (length (h ∷ ws))) (ltb 1 h) refl refl
     go false false p q =
         (λ e. ((ltb-false 1 h q, rw (p, q) at e), ltb-false 256 (length (h ∷ ws)) p), λ n. rw (p, q) (n .0 .1))
 
-pub uniqueAccepted : UniqueAccepted
-uniqueAccepted l m a b = unique l m (acceptedNormal l .0 a .0) (acceptedNormal m .0 b .0)
+pub unique-accepted : UniqueAccepted
+unique-accepted l m a b = unique l m (accepted-normal l .0 a .0) (accepted-normal m .0 b .0)
 
 -- the scan writes no faulty word
 pub changes-word : (v a b : Bool) (d : ℕ) → changesNothing v (word d a b) ≡ Bool·beq a v && Bool·beq b v
@@ -200,9 +200,9 @@ scan-denotes s (suc n) k t h le =
     (λ q. ap s q)
     (λ l. rw next at (scan-denotes s n (suc k) t (rw e h) (omega arith)))
 
-pub listOfSignal : ListOfSignal
+pub list-of-signal : ListOfSignal
 unfolding listOf signalOf
-listOfSignal s n h =
+list-of-signal s n h =
     let e : 0 + n ≡ n = omega arith in
     record {
       normal = (num-le (s 0), rw (headValue-num (s 0)) (scan-sound s n 0 0 (omega arith)));
@@ -212,13 +212,13 @@ listOfSignal s n h =
 
 -- an accepted list as an operand: its start, its settling and the bound on its last date
 pub accepted-start : (l : List ℕ) → Accepted l → At (signalOf l) l 1 0
-accepted-start [] a = absurd (acceptedNormal [] .0 a .0)
+accepted-start [] a = absurd (accepted-normal [] .0 a .0)
 accepted-start (h ∷ ws) a =
-    let n = acceptedNormal (h ∷ ws) .0 a .0 in
-    at-start h ws (n .0) (datesRise h ws n)
+    let n = accepted-normal (h ∷ ws) .0 a .0 in
+    at-start h ws (n .0) (dates-rise h ws n)
 
 pub accepted-settled : (l : List ℕ) → Accepted l → SettledFrom (signalOf l) (lastDate l)
-accepted-settled l a = readBack l (acceptedNormal l .0 a .0) .settled
+accepted-settled l a = read-back l (accepted-normal l .0 a .0) .settled
 
 pub last-bound : (k b : ℕ) (ws : List ℕ) → k ≤ b → ((i : ℕ) → i < length ws → dateOf (getD ws i 0) ≤ b) → lastFrom k ws ≤ b
 unfolding lastFrom

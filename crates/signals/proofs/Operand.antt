@@ -91,11 +91,11 @@ rising-next : (t : Bool) (k v : ℕ) (r : Type 0) → leb v k ≡ t → (a : ℕ
 rising-next true k v r e a h go = absurd (omega arith)
 rising-next false k v r e a h go = (omega (arith, leb-false), go h)
 
-pub dates-rise : (k : ℕ) (ws : List ℕ) → datesFault k ws ≡ 0 → Rising k ws
+pub no-fault-rise : (k : ℕ) (ws : List ℕ) → datesFault k ws ≡ 0 → Rising k ws
 unfolding datesFault
-dates-rise k [] h = tt
-dates-rise k (w ∷ ws) h =
-    rising-next (leb (dateOf w) k) k (dateOf w) (Rising (dateOf w) ws) refl (datesFault (dateOf w) ws) h (dates-rise (dateOf w) ws)
+no-fault-rise k [] h = tt
+no-fault-rise k (w ∷ ws) h =
+    rising-next (leb (dateOf w) k) k (dateOf w) (Rising (dateOf w) ws) refl (datesFault (dateOf w) ws) h (no-fault-rise (dateOf w) ws)
 
 skip-4 : (c : Bool) (x : ℕ) → cond c 4 x ≡ 0 → x ≡ 0
 skip-4 true x h = absurd (omega arith)

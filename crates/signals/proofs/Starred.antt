@@ -15,7 +15,7 @@ use Rattle.signals.specs.Quantified.{Up}
 use Rattle.signals.specs.Settled.{SettledFrom, Same}
 use Rattle.signals.specs.Starred.{Gives, Starred, f-list, e-list, l-list, f, e, l, one}
 use Rattle.signals.proofs.Scan.{listOf-ext}
-use Rattle.signals.proofs.Normal.{read-list, acceptedNormal, accepted-settled, listOfSignal}
+use Rattle.signals.proofs.Normal.{read-list, accepted-normal, accepted-settled, list-of-signal}
 use Rattle.signals.proofs.Settling.{settling}
 
 -- a signal that settles at n, whose list up to n is an accepted one
@@ -24,12 +24,12 @@ unfolding lastDate
 gives s n h ws settled listed accepted = record { accepted = accepted; denotes = denotes; listed = at-every }
   where
     denotes : Same (signalOf (h ∷ ws)) s
-    denotes t = ap (λ (m : List ℕ). signalOf m t) (sym listed) ∙ listOfSignal s n settled .denotes t
+    denotes t = ap (λ (m : List ℕ). signalOf m t) (sym listed) ∙ list-of-signal s n settled .denotes t
 
     at-every : (m : ℕ) → lastFrom 0 ws ≤ m → listOf s m ≡ h ∷ ws
     at-every m late =
         listOf-ext s (signalOf (h ∷ ws)) m (λ t. sym (denotes t))
-        ∙ read-list h ws m (acceptedNormal (h ∷ ws) .0 accepted .0) late
+        ∙ read-list h ws m (accepted-normal (h ∷ ws) .0 accepted .0) late
 
 -- the three signals, read as the document does
 f-reads : (t : ℕ) → Up (f t) ↔ (9 ≤ t) × (t < 17)

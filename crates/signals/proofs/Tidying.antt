@@ -14,8 +14,8 @@ use Rattle.signals.specs.Settled.{SettledFrom, Same, entry}
 use Rattle.signals.specs.Normal.{Normal, Rising}
 use Rattle.signals.specs.Tidying.{tidied, Tidying}
 use Rattle.signals.proofs.Scan.{scan-to, scan-settled}
-use Rattle.signals.proofs.Operand.{Ahead, At, at-start, pass-word, dates-rise, value-none}
-use Rattle.signals.proofs.Normal.{last-le, ahead-settled, start, readBack, unique, acceptedNormal, listOfSignal}
+use Rattle.signals.proofs.Operand.{Ahead, At, at-start, pass-word, no-fault-rise, value-none}
+use Rattle.signals.proofs.Normal.{last-le, ahead-settled, start, read-back, unique, accepted-normal, list-of-signal}
 
 -- what tidying accepts
 pub record Tidy (h : ℕ) (ws : List ℕ) : Type 0 where
@@ -30,7 +30,7 @@ tidy h ws z = go (ltb 256 (length (h ∷ ws))) (ltb 1 h) refl refl z
     go : (t u : Bool) → ltb 256 (length (h ∷ ws)) ≡ t → ltb 1 h ≡ u → cond t 1 (cond u 2 (datesFault 0 ws)) ≡ 0 → Tidy h ws
     go true u p q e = absurd (omega arith)
     go false true p q e = absurd (omega arith)
-    go false false p q e = record { first = ltb-false 1 h q; rises = dates-rise 0 ws e; short = ltb-false 256 (length (h ∷ ws)) p }
+    go false false p q e = record { first = ltb-false 1 h q; rises = no-fault-rise 0 ws e; short = ltb-false 256 (length (h ∷ ws)) p }
 
 not-empty : tidyFault [] ≡ 0 → ⊥
 unfolding tidyFault
@@ -81,11 +81,11 @@ tidied-shorter (h ∷ ws) z =
 
 tidied-normal : (l : List ℕ) → tidyFault l ≡ 0 → Normal (tidied l)
 unfolding tidied
-tidied-normal l z = listOfSignal (signalOf l) (lastDate l) (tidy-settled l z) .normal
+tidied-normal l z = list-of-signal (signalOf l) (lastDate l) (tidy-settled l z) .normal
 
 tidied-denotes : (l : List ℕ) → tidyFault l ≡ 0 → Same (signalOf (tidied l)) (signalOf l)
 unfolding tidied
-tidied-denotes l z = listOfSignal (signalOf l) (lastDate l) (tidy-settled l z) .denotes
+tidied-denotes l z = list-of-signal (signalOf l) (lastDate l) (tidy-settled l z) .denotes
 
 short : (l : List ℕ) → tidyFault l ≡ 0 → length l ≤ 256
 short [] z = absurd (not-empty z)
@@ -96,11 +96,11 @@ unfolding tidied
 tidying =
     record {
       normal = tidied-normal;
-      accepted = λ l z. acceptedNormal (tidied l) .1 (tidied-normal l z, omega (arith, tidied-shorter l z, short l z));
+      accepted = λ l z. accepted-normal (tidied l) .1 (tidied-normal l z, omega (arith, tidied-shorter l z, short l z));
       denotes = tidied-denotes;
       one =
           λ l m y z s. unique (tidied l) (tidied m) (tidied-normal l y) (tidied-normal m z)
           (λ t. tidied-denotes l y t ∙ s t ∙ sym (tidied-denotes m z t));
-      keeps = λ l a. readBack l (acceptedNormal l .0 a .0) .same;
+      keeps = λ l a. read-back l (accepted-normal l .0 a .0) .same;
       shorter = tidied-shorter;
     }

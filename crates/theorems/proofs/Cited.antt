@@ -181,49 +181,49 @@ pub sheets-Theorems-WrittenReadsBack : Rattle.format.specs.Theorems.WrittenRead
 sheets-Theorems-WrittenReadsBack = Rattle.format.proofs.Theorems.written-reads-back
 
 pub signals-AnswersSay-AnswersSay : Rattle.signals.specs.AnswersSay.AnswersSay
-signals-AnswersSay-AnswersSay = Rattle.signals.proofs.AnswersSay.answersSay
+signals-AnswersSay-AnswersSay = Rattle.signals.proofs.AnswersSay.answers-say
 
 pub signals-AnswersSay-SumSays : Rattle.signals.specs.AnswersSay.SumSays
-signals-AnswersSay-SumSays = Rattle.signals.proofs.AnswersSay.sumSays
+signals-AnswersSay-SumSays = Rattle.signals.proofs.AnswersSay.sum-says
 
 pub signals-AnswersSay-ToldSays : Rattle.signals.specs.AnswersSay.ToldSays
-signals-AnswersSay-ToldSays = Rattle.signals.proofs.AnswersSay.toldSays
+signals-AnswersSay-ToldSays = Rattle.signals.proofs.AnswersSay.told-says
 
 pub signals-AnswersSay-VerdictSays : Rattle.signals.specs.AnswersSay.VerdictSays
-signals-AnswersSay-VerdictSays = Rattle.signals.proofs.AnswersSay.verdictSays
+signals-AnswersSay-VerdictSays = Rattle.signals.proofs.AnswersSay.verdict-says
 
 pub signals-AnswersSay-WrittenSays : Rattle.signals.specs.AnswersSay.WrittenSays
-signals-AnswersSay-WrittenSays = Rattle.signals.proofs.AnswersSay.writtenSays
+signals-AnswersSay-WrittenSays = Rattle.signals.proofs.AnswersSay.written-says
 
 pub signals-Earliest-Earliest : Rattle.signals.specs.Earliest.Earliest
-signals-Earliest-Earliest = Rattle.signals.proofs.Implication.earliestFails
+signals-Earliest-Earliest = Rattle.signals.proofs.Implication.earliest-fails
 
 pub signals-LatchSteps-LatchSteps : Rattle.signals.specs.LatchSteps.LatchSteps
-signals-LatchSteps-LatchSteps = Rattle.signals.proofs.LatchSteps.latchSteps
+signals-LatchSteps-LatchSteps = Rattle.signals.proofs.LatchSteps.latch-steps
 
 pub signals-ListFaults-ListFaultsExact : Rattle.signals.specs.ListFaults.ListFaultsExact
-signals-ListFaults-ListFaultsExact = Rattle.signals.proofs.ListFaults.listFaultsExact
+signals-ListFaults-ListFaultsExact = Rattle.signals.proofs.ListFaults.list-faults-exact
 
 pub signals-ListFaults-TidyFaultsExact : Rattle.signals.specs.ListFaults.TidyFaultsExact
-signals-ListFaults-TidyFaultsExact = Rattle.signals.proofs.TidyFaults.tidyFaultsExact
+signals-ListFaults-TidyFaultsExact = Rattle.signals.proofs.TidyFaults.tidy-faults-exact
 
 pub signals-Normal-AcceptedNormal : Rattle.signals.specs.Normal.AcceptedNormal
-signals-Normal-AcceptedNormal = Rattle.signals.proofs.Normal.acceptedNormal
+signals-Normal-AcceptedNormal = Rattle.signals.proofs.Normal.accepted-normal
 
 pub signals-Normal-DatesRise : Rattle.signals.specs.Normal.DatesRise
-signals-Normal-DatesRise = Rattle.signals.proofs.Normal.datesRise
+signals-Normal-DatesRise = Rattle.signals.proofs.Normal.dates-rise
 
 pub signals-Normal-ListOfSignal : Rattle.signals.specs.Normal.ListOfSignal
-signals-Normal-ListOfSignal = Rattle.signals.proofs.Normal.listOfSignal
+signals-Normal-ListOfSignal = Rattle.signals.proofs.Normal.list-of-signal
 
 pub signals-Normal-ReadBack : Rattle.signals.specs.Normal.ReadBack
-signals-Normal-ReadBack = Rattle.signals.proofs.Normal.readBack
+signals-Normal-ReadBack = Rattle.signals.proofs.Normal.read-back
 
 pub signals-Normal-Unique : Rattle.signals.specs.Normal.Unique
 signals-Normal-Unique = Rattle.signals.proofs.Normal.unique
 
 pub signals-Normal-UniqueAccepted : Rattle.signals.specs.Normal.UniqueAccepted
-signals-Normal-UniqueAccepted = Rattle.signals.proofs.Normal.uniqueAccepted
+signals-Normal-UniqueAccepted = Rattle.signals.proofs.Normal.unique-accepted
 
 pub signals-Quantified-Agreement : Rattle.signals.specs.Quantified.Agreement
 signals-Quantified-Agreement = Rattle.signals.proofs.Agreement.agreement

@@ -19,7 +19,7 @@ use Rattle.signals.specs.declared.Written.{Written}
 use Rattle.signals.specs.declared.Written.the-variants.{Count, Refused}
 use Rattle.signals.proofs.Scan.{scan-to, scan-settled, listOf-scan}
 use Rattle.signals.proofs.Operand.{At, Passed, at-pass, at-end, next-later, words-left, value-held}
-use Rattle.signals.proofs.Normal.{last-le, changes-word, acceptedNormal}
+use Rattle.signals.proofs.Normal.{last-le, changes-word, accepted-normal}
 use Rattle.signals.proofs.Tidying.{tidy-start, tidying}
 use Rattle.lists.specs.Reading.{nextDate, stepPast}
 use Rattle.tidying.specs.Calls.{tidyingFault, CallOfTidying}
@@ -173,7 +173,7 @@ module _ (l old out : List ℕ) (count passed : ℕ) (k : Keeping l old out coun
 pub keep-few : (l old out : List ℕ) (count passed : ℕ) → tidyFault l ≡ 0 → Keeping l old out count passed → count ≤ 256
 keep-few l old out count passed z k =
     let whole = simp length-append at (ap length (k .left)) in
-    omega (arith, whole, k .count-is, acceptedNormal (tidied l) .0 (tidying .accepted l z) .1)
+    omega (arith, whole, k .count-is, accepted-normal (tidied l) .0 (tidying .accepted l z) .1)
 
 -- the end: all words of the signal are laid over the output
 module _ (l old out : List ℕ) (count passed : ℕ) (k : Keeping l old out count passed) (h : length l ≤ passed) where

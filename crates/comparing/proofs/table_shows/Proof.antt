@@ -1,10 +1,10 @@
--- `asking::table_shows` reads the cell of the two values.
+-- `comparing::table_shows` reads the cell of the two values.
 use native.Mathlib.Omega.{arith}
 use Rattle.signals.proofs.WordFacts.{num-le}
-use Rattle.asking.proofs.Stretches.{cell-up, cell-down}
+use Rattle.comparing.proofs.Stretches.{cell-up, cell-down}
 use borrow.Author.Needs.{needs}
-use Rattle.asking.proofs.table_shows.Statement.{statement}
-use Rattle.asking.proofs.table_shows.Tie as tie
+use Rattle.comparing.proofs.table_shows.Statement.{statement}
+use Rattle.comparing.proofs.table_shows.Tie as tie
 
 index-requires : tie.Need-index-requires
 index-requires c κs = search needs

@@ -1,4 +1,4 @@
--- `asking::first_moment` meets its contract: no moment from the asked one up to the gap reached shows the value wanted.
+-- `comparing::first_moment` meets its contract: no moment from the asked one up to the gap reached shows the value wanted.
 use borrow.Author.Needs.{needs}
 use Prim.Native.Nat.{ℕ, _+_, _-_, _*_, _≤_, _<_}
 use native.Mathlib.Omega.{arith}
@@ -7,10 +7,10 @@ use mathlib.Core.Logic.{⊎-elim}
 use lib.ListN.{length}
 use Rattle.signals.specs.Moment.{gap}
 use Rattle.signals.proofs.WordFacts.{date-le}
-use Rattle.asking.proofs.Watching.{Watching, Turn, Dated, Outcome, P, event, short, watch-start, turn-later, turn-more, turn-on}
-use Rattle.asking.proofs.Watching.{before-outcome, at-outcome, outcome-in, outcome-none, end-none, end-in, shows-of}
-use Rattle.asking.proofs.first_moment.Statement.{statement}
-use Rattle.asking.proofs.first_moment.Tie as tie
+use Rattle.comparing.proofs.Watching.{Watching, Turn, Dated, Outcome, P, event, short, watch-start, turn-later, turn-more, turn-on}
+use Rattle.comparing.proofs.Watching.{before-outcome, at-outcome, outcome-in, outcome-none, end-none, end-in, shows-of}
+use Rattle.comparing.proofs.first_moment.Statement.{statement}
+use Rattle.comparing.proofs.first_moment.Tie as tie
 
 abbrev Inv-loop : tie.InvT-loop
 Inv-loop table want a b from i₀ j₀ here₀ i j here = Watching table want a b from i j here

@@ -1,9 +1,9 @@
--- `asking::verdict_in` tells the moment found.
+-- `comparing::verdict_in` tells the moment found.
 use native.Mathlib.Omega.{arith}
-use Rattle.asking.proofs.Verdicts.{told-gap, told-instant, near-tick}
+use Rattle.comparing.proofs.Verdicts.{told-gap, told-instant, near-tick}
 use borrow.Author.Needs.{needs}
-use Rattle.asking.proofs.verdict_in.Statement.{statement}
-use Rattle.asking.proofs.verdict_in.Tie as tie
+use Rattle.comparing.proofs.verdict_in.Statement.{statement}
+use Rattle.comparing.proofs.verdict_in.Tie as tie
 
 enum-known-failing : tie.Need-enum-known-failing
 enum-known-failing c = search needs

@@ -1,8 +1,8 @@
--- `asking::equal` meets its contract: no where a first moment has two values, yes where there is none.
-use Rattle.asking.proofs.Verdicts.{both-accepted, equal-refused, equal-no, equal-yes}
+-- `comparing::equal` meets its contract: no where a first moment has two values, yes where there is none.
+use Rattle.comparing.proofs.Verdicts.{both-accepted, equal-refused, equal-no, equal-yes}
 use borrow.Author.Needs.{needs}
-use Rattle.asking.proofs.equal.Statement.{statement}
-use Rattle.asking.proofs.equal.Tie as tie
+use Rattle.comparing.proofs.equal.Statement.{statement}
+use Rattle.comparing.proofs.equal.Tie as tie
 
 pair-fault-requires : tie.Need-pair-fault-requires
 pair-fault-requires c κs = search needs

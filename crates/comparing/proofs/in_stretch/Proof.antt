@@ -1,8 +1,8 @@
--- `asking::in_stretch` meets its contract.
-use Rattle.asking.proofs.Stretches.{stretch-in, stretch-past, stretch-none}
+-- `comparing::in_stretch` meets its contract.
+use Rattle.comparing.proofs.Stretches.{stretch-in, stretch-past, stretch-none}
 use borrow.Author.Needs.{needs}
-use Rattle.asking.proofs.in_stretch.Statement.{statement}
-use Rattle.asking.proofs.in_stretch.Tie as tie
+use Rattle.comparing.proofs.in_stretch.Statement.{statement}
+use Rattle.comparing.proofs.in_stretch.Tie as tie
 
 later-requires : tie.Need-later-requires
 later-requires c κs = search needs

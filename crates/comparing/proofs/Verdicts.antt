@@ -23,9 +23,9 @@ use Rattle.signals.proofs.Implication.{refuted-up, refuted-of, verdict-judged}
 use Rattle.lists.specs.Reading.{NEVER}
 use Rattle.questions.specs.Questions.{laterLast, agreeing, equalOf, impliesOf}
 use Rattle.questions.proofs.LaterLast.{settled-a, settled-b, not-every}
-use Rattle.asking.specs.Finding.{shows, shown, FirstFrom, Near, verdictIn}
-use Rattle.asking.specs.declared.Found.{Found}
-use Rattle.asking.specs.declared.Found.the-variants.{In, Nowhere}
+use Rattle.comparing.specs.Finding.{shows, shown, FirstFrom, Near, verdictIn}
+use Rattle.comparing.specs.declared.Found.{Found}
+use Rattle.comparing.specs.declared.Found.the-variants.{In, Nowhere}
 use Rattle.signals.specs.Answers.{verdictFor, toldOf}
 use Rattle.signals.proofs.FirstFault.{both-none}
 

@@ -1,25 +1,17 @@
--- What the contracts of the search and of the scan say: the words dated up to a date and the values there; the first moment from a moment
--- on at which a table's value of two signals is the one wanted.
+-- The first moment from a moment on at which a table's value of two signals is the one wanted: what the scan's contract says.
 use Prim.Native.Nat.{ℕ, _≤_, _<_, max}
 use mathlib.Core.Path.{_≡_}
-use mathlib.Core.List.{List}
 use mathlib.Core.Bool.{Bool, true, false, cond, Bool·beq, _&&_}
 use lib.Dec.{ltb}
-use Rattle.signals.specs.Moment.{gap, instant}
+use Rattle.signals.specs.Moment.{gap}
 use Rattle.signals.specs.Signal.{Signal, Table, cell}
-use Rattle.signals.specs.Words.{signalOf}
 use Rattle.signals.specs.Quantified.{Up, Down}
 use Rattle.signals.specs.Implication.{failsIn}
 use Rattle.signals.specs.declared.Verdict.{Verdict}
 use Rattle.signals.specs.declared.Verdict.the-variants.{Holds}
-use Rattle.lists.specs.Reading.{NEVER, datedBy}
-use Rattle.lists.specs.declared.Step.{Step}
-use Rattle.asking.specs.declared.Found.{Found}
-use Rattle.asking.specs.declared.Found.the-variants.{In, Nowhere}
-
--- the words of l dated at or before k, counted, and its signal's values at instant k and in gap k
-abbrev pub Sought : List ℕ → ℕ → Step → Type 0
-Sought l k step = (step .passed ≡ datedBy k l) × (step .at ≡ signalOf l (instant k)) × (step .after ≡ signalOf l (gap k))
+use Rattle.lists.specs.Reading.{NEVER}
+use Rattle.comparing.specs.declared.Found.{Found}
+use Rattle.comparing.specs.declared.Found.the-variants.{In, Nowhere}
 
 -- the table's value of two values is v; the moments at which its value of two signals is
 unfoldable pub shows : Table → Bool → Bool → Bool → Bool

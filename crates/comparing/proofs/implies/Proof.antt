@@ -1,8 +1,8 @@
--- `asking::implies` meets its contract: the verdict tells the first moment that refutes.
-use Rattle.asking.proofs.Verdicts.{both-accepted, near, implies-refused, implies-told}
+-- `comparing::implies` meets its contract: the verdict tells the first moment that refutes.
+use Rattle.comparing.proofs.Verdicts.{both-accepted, near, implies-refused, implies-told}
 use borrow.Author.Needs.{needs}
-use Rattle.asking.proofs.implies.Statement.{statement}
-use Rattle.asking.proofs.implies.Tie as tie
+use Rattle.comparing.proofs.implies.Statement.{statement}
+use Rattle.comparing.proofs.implies.Tie as tie
 
 pair-fault-requires : tie.Need-pair-fault-requires
 pair-fault-requires c κs = search needs

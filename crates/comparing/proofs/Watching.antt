@@ -15,17 +15,17 @@ use Rattle.signals.specs.Words.{dateOf, listFault, signalOf}
 use Rattle.signals.specs.Passing.{heldValue, isNext, atDate, passedDate}
 use Rattle.signals.specs.Quantified.{Up, Down}
 use Rattle.signals.proofs.Operand.{At, Passed, at-pass, at-end, next-later}
-use Rattle.signals.proofs.Normal.{accepted-start, acceptedNormal}
+use Rattle.signals.proofs.Normal.{accepted-start, accepted-normal}
 use Rattle.lists.specs.Reading.{NEVER, nextDate, stepPast}
-use Rattle.asking.specs.Finding.{shows, shown, inStretch, Clear, FirstFrom}
+use Rattle.comparing.specs.Finding.{shows, shown, inStretch, Clear, FirstFrom}
 use Rattle.lists.specs.declared.Step.{Step}
-use Rattle.asking.specs.declared.Found.{Found}
-use Rattle.asking.specs.declared.Found.the-variants.{In, Nowhere}
+use Rattle.comparing.specs.declared.Found.{Found}
+use Rattle.comparing.specs.declared.Found.the-variants.{In, Nowhere}
 use Rattle.lists.proofs.ReadingFacts.{is-next}
 use Rattle.lists.proofs.Counting.{next-in, next-none}
 
 pub short : (l : List ℕ) → listFault l ≡ 0 → length l ≤ 256
-short l z = acceptedNormal l .0 z .1
+short l z = accepted-normal l .0 z .1
 
 -- every word's date is at most M
 abbrev pub Dated : List ℕ → Type 0

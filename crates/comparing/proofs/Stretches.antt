@@ -9,9 +9,9 @@ use lib.ListN.{getD}
 use borrow.Author.Tests.{eq-eqb, ne-eqb, lt-ltb, le-ltb, ltb-true, ltb-false}
 use Rattle.signals.specs.Signal.{Signal, Table, num, cell}
 use Rattle.signals.specs.Quantified.{Up, Down}
-use Rattle.asking.specs.Finding.{shows, inStretch, Clear, FirstFrom}
-use Rattle.asking.specs.declared.Found.{Found}
-use Rattle.asking.specs.declared.Found.the-variants.{In, Nowhere}
+use Rattle.comparing.specs.Finding.{shows, inStretch, Clear, FirstFrom}
+use Rattle.comparing.specs.declared.Found.{Found}
+use Rattle.comparing.specs.declared.Found.the-variants.{In, Nowhere}
 
 wanted : (v : Bool) → v ≡ Bool·beq true v
 wanted true = refl

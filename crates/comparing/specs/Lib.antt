@@ -1,0 +1,2 @@
+-- What the scan over moments finds.
+pub mod Finding
