@@ -16,8 +16,8 @@ use sheets::MARK;
 use sheets::MOST_SIGNALS;
 use sheets::VERSION;
 use sheets::VERSION_AT;
-use sheets::WORDS_AT;
 use sheets::WORD_COUNT_AT;
+use sheets::WORDS_AT;
 use signals::Written;
 
 // Writes a 16-bit number, low byte first.
