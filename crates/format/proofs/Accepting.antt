@@ -15,7 +15,8 @@ use Rattle.format.proofs.Placing.{four}
 use Rattle.slices.specs.Bytes.{low32, bytes32, wordsIn, wordBytes, Words}
 use Rattle.format.specs.Reading.{laterWordsFault, sheetWordsFault}
 
-later-listed : (last : ℕ) (before : Bool) (n : ℕ) (b : List ℕ) → laterWordsFault last before n b ≡ 0 → wordsFault last before (wordsIn n b) ≡ 0
+later-listed : (last : ℕ) (before : Bool) (n : ℕ) (b : List ℕ) → laterWordsFault last before n b ≡ 0
+    → wordsFault last before (wordsIn n b) ≡ 0
 unfolding laterWordsFault wordsFault wordsIn
 later-listed last before zero b h = refl
 later-listed last before (suc n) b h =
@@ -44,8 +45,14 @@ later-accepted last before [] rest k h = refl
 later-accepted last before (w ∷ ws) rest k h =
     let e = past (leb (dateOf w) last) 2 _ h in
     let g = past (changesNothing before w) 3 _ (e .1) in
-    rw
-    (append-assoc (bytes32 w) (wordBytes ws) rest, le-ltb _ 4 (four-more w (wordBytes ws ++ rest)), low32-written w (wordBytes ws ++ rest) (k 0), four-past w (wordBytes ws ++ rest), e .0, g .0)
+    rw (
+      append-assoc (bytes32 w) (wordBytes ws) rest,
+      le-ltb _ 4 (four-more w (wordBytes ws ++ rest)),
+      low32-written w (wordBytes ws ++ rest) (k 0),
+      four-past w (wordBytes ws ++ rest),
+      e .0,
+      g .0,
+    )
     (later-accepted (dateOf w) (valueAfter w) ws rest (λ i. k (suc i)) (g .1))
 
 pub words-accepted : (ws rest : List ℕ) → Words ws → listFault ws ≡ 0 → sheetWordsFault (length ws) (wordBytes ws ++ rest) ≡ 0
@@ -55,8 +62,14 @@ words-accepted (w ∷ ws) rest k h =
     let e = past (ltb 256 (suc (length ws))) 0 _ h in
     let g = past (ltb 1 w) 1 _ (e .1) in
     let m : suc (length ws) - 1 ≡ length ws = omega arith in
-    rw
-    (append-assoc (bytes32 w) (wordBytes ws) rest, le-ltb _ 4 (four-more w (wordBytes ws ++ rest)), low32-written w (wordBytes ws ++ rest) (k 0), four-past w (wordBytes ws ++ rest), g .0, m)
+    rw (
+      append-assoc (bytes32 w) (wordBytes ws) rest,
+      le-ltb _ 4 (four-more w (wordBytes ws ++ rest)),
+      low32-written w (wordBytes ws ++ rest) (k 0),
+      four-past w (wordBytes ws ++ rest),
+      g .0,
+      m,
+    )
     (later-accepted 0 (headValue w) ws rest (λ i. k (suc i)) (g .1))
 
 pub listed-some : (ws : List ℕ) → listFault ws ≡ 0 → (length ws ≡ 0 → ⊥) × (length ws ≤ 256)

@@ -37,7 +37,8 @@ length-on sheet = length-signals (countOn sheet) (drop 7 sheet)
 pub entries-snoc : (es : List Entry) (e : Entry) → entriesBytes (es ++ e ∷ []) ≡ entriesBytes es ++ entryBytes e
 unfolding entriesBytes
 entries-snoc [] e = append-nil (entryBytes e)
-entries-snoc (x ∷ es) e = ap (λ (l : List ℕ). entryBytes x ++ l) (entries-snoc es e) ∙ sym (append-assoc (entryBytes x) (entriesBytes es) (entryBytes e))
+entries-snoc (x ∷ es) e =
+    ap (λ (l : List ℕ). entryBytes x ++ l) (entries-snoc es e) ∙ sym (append-assoc (entryBytes x) (entriesBytes es) (entryBytes e))
 
 length-snoc : (es : List Entry) (e : Entry) → length (es ++ e ∷ []) ≡ length es + 1
 length-snoc es e = length-append es (e ∷ [])
@@ -112,10 +113,20 @@ module _ (sheet name list : List ℕ) (room : ℕ) where
       unfolding appendFault firstOf
       append-full p = rw (eq-eqb _ _ (f .fine), f .named, f .new, eq-eqb _ _ m, length-on sheet, ← ne, le-leb _ _ p)
 
-      pub append-sized : n < 32 → Bytes sheet → appendFault sheet name list room ≡ cond (ltb room (length sheet + (10 + 4 * length list))) 7 0
+      pub append-sized : n < 32 → Bytes sheet → appendFault sheet name list room ≡ cond
+          (ltb room (length sheet + (10 + 4 * length list))) 7 0
       unfolding appendFault firstOf
       append-sized q b =
-          rw (eq-eqb _ _ (f .fine), f .named, f .new, eq-eqb _ _ m, length-on sheet, ← ne, lt-leb _ _ q, length-appended sheet b (f .fine) name list (named-short name (f .named)))
+          rw (
+            eq-eqb _ _ (f .fine),
+            f .named,
+            f .new,
+            eq-eqb _ _ m,
+            length-on sheet,
+            ← ne,
+            lt-leb _ _ q,
+            length-appended sheet b (f .fine) name list (named-short name (f .named)),
+          )
           refl
 
 -- an appending that has no fault
@@ -171,7 +182,8 @@ module _ (sheet name list out o₁ o₂ o₃ o₄ : List ℕ) (n : ℕ) (b : Byt
       let m = a .room-enough in
       let l₁ : length (take 5 sheet) ≡ 5 = length-take-le 5 sheet (omega arith) in
       let l₂ : length (take 5 sheet ++ bytes16 (n + 1)) ≡ 7 = simp (length-append, l₁, two) in
-      let l₃ : length ((take 5 sheet ++ bytes16 (n + 1)) ++ drop 7 sheet) ≡ length sheet = simp (length-append, l₁, two, length-drop) (omega arith) in
+      let l₃ : length ((take 5 sheet ++ bytes16 (n + 1)) ++ drop 7 sheet) ≡ length sheet = simp (length-append, l₁, two, length-drop)
+      (omega arith) in
       let l₄ = length-entry name list (named-short name (a .named)) in
       let h₂ = then-put out o₁ o₂ 0 5 (take 5 sheet) (bytes16 (n + 1)) e f (omega arith) (omega (arith, two (n + 1))) in
       let h₃ =
@@ -180,7 +192,8 @@ module _ (sheet name list out o₁ o₂ o₃ o₄ : List ℕ) (n : ℕ) (b : Byt
       then-put out o₃ o₄ 0 (length sheet) ((take 5 sheet ++ bytes16 (n + 1)) ++ drop 7 sheet) (entryBytes (entry name list)) h₃ h
       (omega arith) (omega arith)
 
-  pub append-put : (Count (length sheet + (10 + 4 * length list)) ≡ writtenOf (appendFault sheet name list (length out)) (appended sheet name list))
+  pub append-put : (Count (length sheet + (10 + 4 * length list)) ≡ writtenOf (appendFault sheet name list (length out))
+      (appended sheet name list))
       × (o₄ ≡ outputOf (appendFault sheet name list (length out)) (appended sheet name list) out)
   unfolding writtenOf outputOf
   append-put =

@@ -97,7 +97,8 @@ words-read (w ∷ ws) rest k =
     rw (append-assoc (bytes32 w) (wordBytes ws) rest, low32-written w (wordBytes ws ++ rest) (k 0), four-past w (wordBytes ws ++ rest))
     (ap (λ (l : List ℕ). w ∷ l) (words-read ws rest (λ i. k (suc i))))
 
-pub words-written : (n : ℕ) (bytes : List ℕ) → Bytes bytes → 4 * n ≤ length bytes → wordBytes (wordsIn n bytes) ++ drop (4 * n) bytes ≡ bytes
+pub words-written : (n : ℕ) (bytes : List ℕ) → Bytes bytes → 4 * n ≤ length bytes
+    → wordBytes (wordsIn n bytes) ++ drop (4 * n) bytes ≡ bytes
 unfolding wordsIn wordBytes
 words-written zero bytes b h = refl
 words-written (suc n) bytes b h =

@@ -12,12 +12,14 @@ use Rattle.names.proofs.Truth.{true-false}
 use Rattle.format.proofs.Steps.{same-equal, same-refl}
 use Rattle.format.proofs.Digits.{low16-written, low16-below, written16, bytes-drop}
 use Rattle.format.proofs.Filling.{two}
-use Rattle.format.proofs.Judging.{sound, front-short, front-mark, front-cut, front-version, front-no-count, front-many, front-fine, sheet-front, sheet-past}
+use Rattle.format.proofs.Judging.{sound, front-short, front-mark, front-cut, front-version, front-no-count, front-many, front-fine}
+use Rattle.format.proofs.Judging.{sheet-front, sheet-past}
 use Rattle.format.proofs.OneSignal.{name-back, tail-back, signal-back, signal-written, signal-fits}
 use Rattle.format.proofs.Exactly.{signal-given, signal-found}
 use Rattle.format.specs.Names.{same}
 use Rattle.slices.specs.Bytes.{low16, bytes16, wordsIn, Bytes}
-use Rattle.format.specs.Reading.{mark, nameAt, wordCount, signalSize, signalFault, signalsFault, frontFault, sheetFault, countOn, Entry, entry, nameOf}
+use Rattle.format.specs.Reading.{mark, nameAt, wordCount, signalSize, signalFault, signalsFault, frontFault, sheetFault, countOn}
+use Rattle.format.specs.Reading.{Entry, entry, nameOf}
 use Rattle.format.specs.Writing.{entryBytes, Fits}
 use Rattle.format.specs.Sentences.{SignalFaulty, SignalsFaulty, SheetFaulty, SheetFaultsExact}
 use Rattle.format.specs.Sentences.SignalFaulty.{nameCut, nameMalformed, nameRepeated, countCut, countOutside, wordCut, wordBroken}
@@ -85,7 +87,8 @@ module _ (rest : List ℕ) where
   right-many : 2 ≤ length rest → 32 < low16 rest → sheetFault (mark ++ (bytes16 1 ++ rest)) ≡ 15
   unfolding bytes16 same low16
   right-many l m =
-      let f = front-many (mark ++ (bytes16 1 ++ rest)) (omega arith) true refl refl (omega arith) 1 refl refl (omega arith) (low16 rest) refl m in
+      let f = front-many (mark ++ (bytes16 1 ++ rest)) (omega arith) true refl refl (omega arith) 1 refl refl (omega arith)
+      (low16 rest) refl m in
       sym (sheet-front (mark ++ (bytes16 1 ++ rest)) (λ e. omega (arith, e, f))) ∙ f
 
   right-on : 2 ≤ length rest → low16 rest ≤ 32 → sheetFault (mark ++ (bytes16 1 ++ rest)) ≡ signalsFault [] (low16 rest) (drop 2 rest)

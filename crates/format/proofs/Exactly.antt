@@ -67,8 +67,17 @@ module _ (name : List ℕ) (n : ℕ) (rest : List ℕ) (m : IsName name) (h : n 
       → signalFault earlier (padded name ++ (bytes16 n ++ rest)) ≡ sheetWordsFault n rest
   unfolding signalFault
   counted earlier a z q =
-      rw
-      (le-ltb (length (padded name ++ (bytes16 n ++ rest))) 8 (omega (arith, longer)), field-fits name (bytes16 n ++ rest) m, name-is name (bytes16 n ++ rest) m, a, le-ltb (length (padded name ++ (bytes16 n ++ rest))) 10 (omega (arith, longer)), count-is, ne-eqb n 0 z, le-ltb 256 n q, after-count)
+      rw (
+        le-ltb (length (padded name ++ (bytes16 n ++ rest))) 8 (omega (arith, longer)),
+        field-fits name (bytes16 n ++ rest) m,
+        name-is name (bytes16 n ++ rest) m,
+        a,
+        le-ltb (length (padded name ++ (bytes16 n ++ rest))) 10 (omega (arith, longer)),
+        count-is,
+        ne-eqb n 0 z,
+        le-ltb 256 n q,
+        after-count,
+      )
 
 outside : (k : ℕ) → (k ≡ 0) ⊎ (256 < k) → eqb k 0 || ltb 256 k ≡ true
 outside k (inl e) = rw (eq-eqb k 0 e)
@@ -89,7 +98,8 @@ module _ (earlier : List (List ℕ)) where
       → fieldFits (take 8 rest) ≡ false
   malformed rest l n =
       is-false (fieldFits (take 8 rest))
-      (λ e. n (unpadded (take 8 rest)) (names-exact (unpadded (take 8 rest)) .0 (fits-named (take 8 rest) e)) (sym (fits-padded (take 8 rest) (length-take-le 8 rest l) e)))
+      (λ e. n (unpadded (take 8 rest)) (names-exact (unpadded (take 8 rest)) .0 (fits-named (take 8 rest) e))
+      (sym (fits-padded (take 8 rest) (length-take-le 8 rest l) e)))
 
   pub signal-given : {rest : List ℕ} {f : ℕ} → SignalFaulty earlier rest f → signalFault earlier rest ≡ f
   unfolding signalFault
@@ -98,12 +108,25 @@ module _ (earlier : List (List ℕ)) where
   signal-given (nameRepeated name r n a) =
       rw (le-ltb (length (padded name ++ r)) 8 (omega (arith, long name r n)), field-fits name r n, name-is name r n, a)
   signal-given (countCut name r n l) =
-      rw
-      (le-ltb (length (padded name ++ r)) 8 (omega (arith, long name r (n .named))), field-fits name r (n .named), name-is name r (n .named), n .new, lt-ltb (length (padded name ++ r)) 10 (omega (arith, long name r (n .named))))
+      rw (
+        le-ltb (length (padded name ++ r)) 8 (omega (arith, long name r (n .named))),
+        field-fits name r (n .named),
+        name-is name r (n .named),
+        n .new,
+        lt-ltb (length (padded name ++ r)) 10 (omega (arith, long name r (n .named))),
+      )
   signal-given (countOutside name k r n h o) =
-      rw
-      (le-ltb (length (padded name ++ (bytes16 k ++ r))) 8 (omega (arith, longer name k r (n .named) h)), field-fits name (bytes16 k ++ r) (n .named), name-is name (bytes16 k ++ r) (n .named), n .new, le-ltb (length (padded name ++ (bytes16 k ++ r))) 10 (omega (arith, longer name k r (n .named) h)), count-is name k r (n .named) h, outside k o)
-  signal-given (wordCut name k ws r n m b s l c) = counted name k (wordBytes ws ++ r) (n .named) (omega arith) earlier (n .new) (λ e. omega (arith, e)) m ∙ cut-given k ws r b s l c
+      rw (
+        le-ltb (length (padded name ++ (bytes16 k ++ r))) 8 (omega (arith, longer name k r (n .named) h)),
+        field-fits name (bytes16 k ++ r) (n .named),
+        name-is name (bytes16 k ++ r) (n .named),
+        n .new,
+        le-ltb (length (padded name ++ (bytes16 k ++ r))) 10 (omega (arith, longer name k r (n .named) h)),
+        count-is name k r (n .named) h,
+        outside k o,
+      )
+  signal-given (wordCut name k ws r n m b s l c) =
+      counted name k (wordBytes ws ++ r) (n .named) (omega arith) earlier (n .new) (λ e. omega (arith, e)) m ∙ cut-given k ws r b s l c
   signal-given (wordBroken name k ws w r n m b s l c q) =
       counted name k (wordBytes ws ++ (bytes32 w ++ r)) (n .named) (omega arith) earlier (n .new) (λ e. omega (arith, e)) m
       ∙ broken-given k ws w r m b s l c q
@@ -141,12 +164,14 @@ module _ (earlier : List (List ℕ)) (rest : List ℕ) (b : Bytes rest) where
   at-words f l e a m q (inl c) =
       rw (c .0)
       (subst (λ (x : List ℕ). SignalFaulty earlier x 15) (words-kept l e m (wordBytes (c .1 .ws) ++ c .1 .left) (c .1 .all))
-      (wordCut (nameAt rest) (wordCount rest) (c .1 .ws) (c .1 .left) (record { named = is-name l e; new = a }) q (c .1 .words) (c .1 .sound) (c .1 .fewer) (c .1 .short)))
+      (wordCut (nameAt rest) (wordCount rest) (c .1 .ws) (c .1 .left) (record { named = is-name l e; new = a }) q (c .1 .words)
+      (c .1 .sound) (c .1 .fewer) (c .1 .short)))
   at-words f l e a m q (inr c) =
       rw (c .0)
       (subst (λ (x : List ℕ). SignalFaulty earlier x 17)
       (words-kept l e m (wordBytes (c .1 .ws) ++ (bytes32 (c .1 .w) ++ c .1 .left)) (c .1 .all))
-      (wordBroken (nameAt rest) (wordCount rest) (c .1 .ws) (c .1 .w) (c .1 .left) (record { named = is-name l e; new = a }) q (c .1 .words) (c .1 .sound) (c .1 .fewer) (c .1 .fits) (c .1 .refused)))
+      (wordBroken (nameAt rest) (wordCount rest) (c .1 .ws) (c .1 .w) (c .1 .left) (record { named = is-name l e; new = a }) q (c .1 .words)
+      (c .1 .sound) (c .1 .fewer) (c .1 .fits) (c .1 .refused)))
 
   pub signal-found : (f : ℕ) → (f ≡ 0 → ⊥) → signalFault earlier rest ≡ f → SignalFaulty earlier rest f
   unfolding signalFault
@@ -175,7 +200,8 @@ module _ (earlier : List (List ℕ)) (rest : List ℕ) (b : Bytes rest) where
       go false true false false true p₁ p₂ p₃ p₄ p₅ k =
           subst (λ (g : ℕ). SignalFaulty earlier rest g) k
           (subst (λ (x : List ℕ). SignalFaulty earlier x 17) (both-kept (ltb-false (length rest) 8 p₁) p₂ (ltb-false (length rest) 10 p₄))
-          (countOutside (nameAt rest) (wordCount rest) (drop 10 rest) (record { named = is-name (ltb-false (length rest) 8 p₁) p₂; new = p₃ })
+          (countOutside (nameAt rest) (wordCount rest) (drop 10 rest)
+          (record { named = is-name (ltb-false (length rest) 8 p₁) p₂; new = p₃ })
           (count-below (ltb-false (length rest) 8 p₁) p₂ (ltb-false (length rest) 10 p₄)) (is-outside (wordCount rest) p₅)))
       go false true false false false p₁ p₂ p₃ p₄ p₅ k =
           let i = is-inside (wordCount rest) p₅ in

@@ -84,7 +84,8 @@ pub fits-padded : (f : List ℕ) → length f ≡ 8 → fieldFits f ≡ true →
 unfolding fieldFits padded
 fits-padded f e h =
     let z = zeros-are (drop (length (unpadded f)) f) (and-right (wellNamed (unpadded f)) _ h) in
-    let k : length (drop (length (unpadded f)) f) ≡ 8 - length (unpadded f) = length-drop (length (unpadded f)) f ∙ ap (λ (m : ℕ). m - length (unpadded f)) e in
+    let k : length (drop (length (unpadded f)) f) ≡ 8 - length (unpadded f) = length-drop (length (unpadded f)) f
+    ∙ ap (λ (m : ℕ). m - length (unpadded f)) e in
     ap (λ (m : ℕ). unpadded f ++ replicate m 0) (sym k)
     ∙ ap (λ (l : List ℕ). unpadded f ++ l) (sym z)
     ∙ ap (λ (l : List ℕ). l ++ drop (length (unpadded f)) f) (sym (take-unpadded f))

@@ -62,7 +62,8 @@ signal-put out o₁ o₂ o₃ at name list n r e f g =
     let q = two (length list) in
     let s : length (padded name ++ bytes16 (length list)) ≡ 10 = simp (length-append, length-padded name n, two) in
     let h = then-put out o₁ o₂ at (at + 8) (padded name) (bytes16 (length list)) e f (omega arith) (omega arith) in
-    then-put out o₂ o₃ at (at + 10) (padded name ++ bytes16 (length list)) (wordBytes list) h g (omega arith) (omega (arith, length-words list))
+    then-put out o₂ o₃ at (at + 10) (padded name ++ bytes16 (length list)) (wordBytes list) h g (omega arith)
+    (omega (arith, length-words list))
     ∙ ap (λ (l : List ℕ). placed out at l) (append-assoc (padded name) (bytes16 (length list)) (wordBytes list))
 
 -- the empty sheet
@@ -71,11 +72,13 @@ pub begin-short : (out : List ℕ) → length out < 7
 unfolding beginFault writtenOf outputOf sheetBytes entriesBytes bytes16
 begin-short out h = (sym (rw (lt-ltb (length out) 7 h)), sym (rw (lt-ltb (length out) 7 h)))
 
-pub begin-put : (out o₁ o₂ o₃ : List ℕ) → 7 ≤ length out → o₁ ≡ placed out 0 mark → o₂ ≡ placed o₁ 3 (bytes16 1) → o₃ ≡ placed o₂ 5 (bytes16 0)
+pub begin-put : (out o₁ o₂ o₃ : List ℕ) → 7 ≤ length out → o₁ ≡ placed out 0 mark → o₂ ≡ placed o₁ 3 (bytes16 1)
+    → o₃ ≡ placed o₂ 5 (bytes16 0)
     → (Count 7 ≡ writtenOf (beginFault (length out)) (sheetBytes [])) × (o₃ ≡ outputOf (beginFault (length out)) (sheetBytes []) out)
 unfolding beginFault writtenOf outputOf sheetBytes entriesBytes bytes16
 begin-put out o₁ o₂ o₃ h e f g = (
   sym (rw (le-ltb (length out) 7 h)),
-  then-put out o₂ o₃ 0 5 (mark ++ bytes16 1) (bytes16 0) (then-put out o₁ o₂ 0 3 mark (bytes16 1) e f refl (omega arith)) g refl (omega arith)
+  then-put out o₂ o₃ 0 5 (mark ++ bytes16 1) (bytes16 0) (then-put out o₁ o₂ 0 3 mark (bytes16 1) e f refl (omega arith)) g refl
+      (omega arith)
       ∙ sym (rw (le-ltb (length out) 7 h)),
 )

@@ -15,7 +15,8 @@ use Rattle.names.proofs.Truth.{or-left, or-right, not-false-true}
 use Rattle.format.proofs.Walking.{short, long, sub-step}
 use Rattle.format.specs.Names.{same, among, fieldFits, unpadded}
 use Rattle.slices.specs.Bytes.{low16, low32}
-use Rattle.format.specs.Reading.{mark, nameAt, wordCount, signalSize, laterWordsFault, sheetWordsFault, signalFault, signalsFault, frontFault, sheetFault, countOn, signalsFrom, names}
+use Rattle.format.specs.Reading.{mark, nameAt, wordCount, signalSize, laterWordsFault, sheetWordsFault, signalFault, signalsFault}
+use Rattle.format.specs.Reading.{frontFault, sheetFault, countOn, signalsFrom, names}
 use Rattle.format.specs.Calls.{placeFrom}
 use Rattle.format.specs.Walk.{Whole, sizeOf}
 use Rattle.format.specs.declared.Place.{Place}

@@ -13,8 +13,10 @@ use Rattle.format.proofs.PlaceSays.{place-says}
 use Rattle.names.specs.Names.{wellNamed}
 use Rattle.format.specs.Names.{same, among}
 use Rattle.slices.specs.Bytes.{low16}
-use Rattle.format.specs.Reading.{nameAt, wordCount, signalSize, signalFault, signalsFault, frontFault, sheetFault, countOn, signalsOn, signalsFrom, names}
-use Rattle.format.specs.Calls.{faultOfPlace, firstByte, byteCount, placeFor, placeFrom, placeOn, placeOf, lookupFault, lookupOf, partAt}
+use Rattle.format.specs.Reading.{nameAt, wordCount, signalSize, signalFault, signalsFault, frontFault, sheetFault, countOn, signalsOn}
+use Rattle.format.specs.Reading.{signalsFrom, names}
+use Rattle.format.specs.Calls.{faultOfPlace, firstByte, byteCount, placeFor, placeFrom, placeOn, placeOf, lookupFault, lookupOf}
+use Rattle.format.specs.Calls.{partAt}
 use Rattle.format.specs.Walk.{Whole}
 use Rattle.format.specs.declared.Place.{Place}
 use Rattle.format.specs.declared.Place.the-variants.{At, Refused}
@@ -51,7 +53,8 @@ place-refused name at (suc n) rest h =
     go : (t : Bool)
         → (foundIn (placeFrom name (at + signalSize rest) n (drop (signalSize rest) rest)) ≡ false
         → placeFrom name (at + signalSize rest) n (drop (signalSize rest) rest) ≡ Refused 13)
-        → foundIn (cond t (At (at + 10) (4 * wordCount rest)) (placeFrom name (at + signalSize rest) n (drop (signalSize rest) rest))) ≡ false
+        → foundIn (cond t (At (at + 10) (4 * wordCount rest)) (placeFrom name (at + signalSize rest) n
+        (drop (signalSize rest) rest))) ≡ false
         → cond t (At (at + 10) (4 * wordCount rest)) (placeFrom name (at + signalSize rest) n (drop (signalSize rest) rest)) ≡ Refused 13
     go true again k = true-false k
     go false again k = again k
@@ -93,7 +96,8 @@ within-from name at (suc n) rest start count w e =
     go : (t : Bool)
         → (placeFrom name (at + signalSize rest) n (drop (signalSize rest) rest) ≡ At start count
         → (at + signalSize rest ≤ start) × (start + count ≤ at + signalSize rest + length (drop (signalSize rest) rest)))
-        → cond t (At (at + 10) (4 * wordCount rest)) (placeFrom name (at + signalSize rest) n (drop (signalSize rest) rest)) ≡ At start count
+        → cond t (At (at + 10) (4 * wordCount rest))
+        (placeFrom name (at + signalSize rest) n (drop (signalSize rest) rest)) ≡ At start count
         → (at ≤ start) × (start + count ≤ at + length rest)
     go true again k =
         let a : at + 10 ≡ start = cc in

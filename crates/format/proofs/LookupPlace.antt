@@ -86,15 +86,21 @@ stands name at (suc n) rest f =
           after-it = s .after-it;
           signals = ap (λ (es : List Entry). entry (nameAt rest) words ∷ es) (s .signals);
           first =
-              omega
-              (arith, s .first, length-append (entryBytes (entry (nameAt rest) words)) (entriesBytes (s .before-it)), length-entry (nameAt rest) words (name-short rest), length-wordsIn (wordCount rest) (drop 10 rest));
+              omega (
+                arith,
+                s .first,
+                length-append (entryBytes (entry (nameAt rest) words)) (entriesBytes (s .before-it)),
+                length-entry (nameAt rest) words (name-short rest),
+                length-wordsIn (wordCount rest) (drop 10 rest),
+              );
           count = s .count;
         }
 
 pub lookup-place : LookupPlace
 unfolding placeOf signalsOn
 lookup-place sheet name z =
-    let s = stands name 7 (countOn sheet) (drop 7 sheet) (found-known name 7 (countOn sheet) (drop 7 sheet) ∙ held-from sheet name (lookup-none sheet name z .held)) in
+    let s = stands name 7 (countOn sheet) (drop 7 sheet)
+    (found-known name 7 (countOn sheet) (drop 7 sheet) ∙ held-from sheet name (lookup-none sheet name z .held)) in
     record {
       before = s .before-it;
       list = s .list;

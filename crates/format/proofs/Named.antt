@@ -169,7 +169,8 @@ bytes-entries : (earlier : List (List ℕ)) (es : List Entry) → AllFit earlier
 unfolding entriesBytes
 bytes-entries earlier [] a = bytes-none
 bytes-entries earlier (entry name list ∷ es) a =
-    bytes-append (entryBytes (entry name list)) (entriesBytes es) (bytes-entry name list (a .0 .named)) (bytes-entries (earlier ++ name ∷ []) es (a .1))
+    bytes-append (entryBytes (entry name list)) (entriesBytes es) (bytes-entry name list (a .0 .named))
+    (bytes-entries (earlier ++ name ∷ []) es (a .1))
 
 pub bytes-sheet : (es : List Entry) → Holdable es → Bytes (sheetBytes es)
 unfolding sheetBytes

@@ -64,8 +64,18 @@ module _ (earlier : List (List ℕ)) (name list tail : List ℕ) (f : Fits earli
       let s = length-entry name list short in
       let t = length-append (entryBytes (entry name list)) tail in
       let m = listed-some list (f .listed) in
-      rw
-      (le-ltb (length (entryBytes (entry name list) ++ tail)) 8 (omega arith), field-back, padded-fits name (f .named), name-back, f .new, le-ltb (length (entryBytes (entry name list) ++ tail)) 10 (omega arith), count-back, ne-eqb (length list) 0 (m .0), le-ltb 256 (length list) (m .1), after-count)
+      rw (
+        le-ltb (length (entryBytes (entry name list) ++ tail)) 8 (omega arith),
+        field-back,
+        padded-fits name (f .named),
+        name-back,
+        f .new,
+        le-ltb (length (entryBytes (entry name list) ++ tail)) 10 (omega arith),
+        count-back,
+        ne-eqb (length list) 0 (m .0),
+        le-ltb 256 (length list) (m .1),
+        after-count,
+      )
       (words-accepted list tail (f .words) (f .listed))
 
 -- an accepted signal is what is written of what it holds
@@ -96,7 +106,8 @@ module _ (earlier : List (List ℕ)) (rest : List ℕ) (b : Bytes rest) (s : Sou
   signal-written =
       append-assoc (padded (nameAt rest)) _ (drop (signalSize rest) rest)
       ∙ ap (λ (l : List ℕ). padded (nameAt rest) ++ l)
-      (append-assoc (bytes16 (length (wordsIn (wordCount rest) (drop 10 rest)))) (wordBytes (wordsIn (wordCount rest) (drop 10 rest))) (drop (signalSize rest) rest)
+      (append-assoc (bytes16 (length (wordsIn (wordCount rest) (drop 10 rest)))) (wordBytes (wordsIn (wordCount rest) (drop 10 rest)))
+      (drop (signalSize rest) rest)
       ∙ ap (λ (l : List ℕ). bytes16 (length (wordsIn (wordCount rest) (drop 10 rest))) ++ l) words-kept
       ∙ count-kept)
       ∙ name-kept

@@ -22,7 +22,8 @@ put-four out at a b d e h = simp (add-one, add-two, add-three) (sets-eq (a ∷ b
 pub words-append : (xs ys : List ℕ) → wordBytes (xs ++ ys) ≡ wordBytes xs ++ wordBytes ys
 unfolding wordBytes
 words-append [] ys = refl
-words-append (x ∷ xs) ys = ap (λ (l : List ℕ). bytes32 x ++ l) (words-append xs ys) ∙ sym (append-assoc (bytes32 x) (wordBytes xs) (wordBytes ys))
+words-append (x ∷ xs) ys =
+    ap (λ (l : List ℕ). bytes32 x ++ l) (words-append xs ys) ∙ sym (append-assoc (bytes32 x) (wordBytes xs) (wordBytes ys))
 
 pub length-words : (xs : List ℕ) → length (wordBytes xs) ≡ 4 * length xs
 unfolding wordBytes bytes32

@@ -16,7 +16,8 @@ use Rattle.format.proofs.Digits.{low16-written, written16, bytes-drop}
 use Rattle.format.proofs.OneSignal.{name-back, words-back, tail-back, signal-back, signal-written, signal-fits}
 use Rattle.format.specs.Names.{same}
 use Rattle.slices.specs.Bytes.{low16, bytes16, wordsIn, Bytes}
-use Rattle.format.specs.Reading.{mark, nameAt, wordCount, signalSize, signalFault, signalsFault, frontFault, sheetFault, countOn, signalsFrom, signalsOn, names, Entry, entry}
+use Rattle.format.specs.Reading.{mark, nameAt, wordCount, signalSize, signalFault, signalsFault, frontFault, sheetFault, countOn}
+use Rattle.format.specs.Reading.{signalsFrom, signalsOn, names, Entry, entry}
 use Rattle.format.specs.Writing.{entryBytes, entriesBytes, sheetBytes, AllFit, Holdable}
 use Rattle.signals.specs.Answers.{firstOf}
 use Rattle.signals.proofs.FirstFault.{both-none}
@@ -27,8 +28,12 @@ pub signals-back : (earlier : List (List ℕ)) (es : List Entry) (tail : List �
 unfolding signalsFrom entriesBytes
 signals-back earlier [] tail f = refl
 signals-back earlier (entry name list ∷ es) tail f =
-    rw
-    (append-assoc (entryBytes (entry name list)) (entriesBytes es) tail, name-back earlier name list (entriesBytes es ++ tail) (f .0), words-back earlier name list (entriesBytes es ++ tail) (f .0), tail-back earlier name list (entriesBytes es ++ tail) (f .0))
+    rw (
+      append-assoc (entryBytes (entry name list)) (entriesBytes es) tail,
+      name-back earlier name list (entriesBytes es ++ tail) (f .0),
+      words-back earlier name list (entriesBytes es ++ tail) (f .0),
+      tail-back earlier name list (entriesBytes es ++ tail) (f .0),
+    )
     (ap (λ (l : List Entry). entry name list ∷ l) (signals-back (earlier ++ name ∷ []) es tail (f .1)))
 
 pub signals-passed : (earlier : List (List ℕ)) (es : List Entry) (n : ℕ) (tail : List ℕ) → AllFit earlier es
@@ -37,8 +42,13 @@ unfolding signalsFault entriesBytes names firstOf
 signals-passed earlier [] n tail f = rw (zero-add, append-nil)
 signals-passed earlier (entry name list ∷ es) n tail f =
     let k : suc (length es) + n ≡ suc (length es + n) = omega arith in
-    rw
-    (k, append-assoc (entryBytes (entry name list)) (entriesBytes es) tail, signal-back earlier name list (entriesBytes es ++ tail) (f .0), name-back earlier name list (entriesBytes es ++ tail) (f .0), tail-back earlier name list (entriesBytes es ++ tail) (f .0))
+    rw (
+      k,
+      append-assoc (entryBytes (entry name list)) (entriesBytes es) tail,
+      signal-back earlier name list (entriesBytes es ++ tail) (f .0),
+      name-back earlier name list (entriesBytes es ++ tail) (f .0),
+      tail-back earlier name list (entriesBytes es ++ tail) (f .0),
+    )
     (signals-passed (earlier ++ name ∷ []) es n tail (f .1)
     ∙ ap (λ (l : List (List ℕ)). signalsFault l n tail) (append-assoc earlier (name ∷ []) (names es)))
 
@@ -55,7 +65,8 @@ signals-written earlier (suc n) rest b h =
     let e = both-none (signalFault earlier rest) _ h in
     let s = sound earlier rest (e .0) in
     let r = signals-written (earlier ++ nameAt rest ∷ []) n (drop (signalSize rest) rest) (bytes-drop rest (signalSize rest) b) (e .1) in (
-      ap (λ (l : List ℕ). entryBytes (entry (nameAt rest) (wordsIn (wordCount rest) (drop 10 rest))) ++ l) (r .0) ∙ signal-written earlier rest b s,
+      ap (λ (l : List ℕ). entryBytes (entry (nameAt rest) (wordsIn (wordCount rest) (drop 10 rest))) ++ l) (r .0)
+          ∙ signal-written earlier rest b s,
       (signal-fits earlier rest b s, r .1),
     )
 

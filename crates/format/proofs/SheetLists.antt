@@ -34,7 +34,11 @@ entry-sound : (earlier : List (List ℕ)) (rest : List ℕ) → signalFault earl
 unfolding nameAt
 entry-sound earlier rest e =
     let s = sound earlier rest e in
-    record { named = fits-named (take 8 rest) (s .field); listed = words-listed (wordCount rest) (drop 10 rest) (s .some) (s .most) (s .words) }
+    record {
+      named = fits-named (take 8 rest) (s .field);
+      listed = words-listed (wordCount rest) (drop 10 rest) (s .some) (s .most)
+          (s .words);
+    }
 
 entries-sound : (earlier : List (List ℕ)) (n : ℕ) (rest : List ℕ) → signalsFault earlier n rest ≡ 0 → AllSound (signalsFrom n rest)
 unfolding signalsFault signalsFrom firstOf

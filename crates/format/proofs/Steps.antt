@@ -17,7 +17,8 @@ module _ (a b : List ℕ) (i : ℕ) where
   unfolding same
   same-differ p q h = rw (drop-step a i p, drop-step b i q, ne-eqb _ _ h)
 
-  pub same-agree : i < length a → i < length b → getD a i 0 ≡ getD b i 0 → same (drop i a) (drop i b) ≡ same (drop (i + 1) a) (drop (i + 1) b)
+  pub same-agree : i < length a → i < length b → getD a i 0 ≡ getD b i 0
+      → same (drop i a) (drop i b) ≡ same (drop (i + 1) a) (drop (i + 1) b)
   unfolding same
   same-agree p q h = rw (drop-step a i p, drop-step b i q, eq-eqb _ _ h)
 

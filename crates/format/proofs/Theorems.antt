@@ -23,7 +23,8 @@ use Rattle.slices.specs.Bytes.{Bytes, Words, wordBytes}
 use Rattle.format.specs.Reading.{sheetFault, countOn, signalsOn, names, listNamed, environmentOn, Entry, entry}
 use Rattle.format.specs.Writing.{sheetBytes, Fits, AllFit, Holdable}
 use Rattle.format.specs.Calls.{placeOf, partAt, lookupFault, lookupOf, appendFault, appended}
-use Rattle.format.specs.Theorems.{decoded, WrittenReadsBack, ReadWritesBack, LookupGivesTheList, AppendKeepsSheet, AppendGivesNew, AppendKeepsOthers, appendAll, AllAppend, BegunReadsBack, OneWriting}
+use Rattle.format.specs.Theorems.{decoded, WrittenReadsBack, ReadWritesBack, LookupGivesTheList, AppendKeepsSheet, AppendGivesNew}
+use Rattle.format.specs.Theorems.{AppendKeepsOthers, appendAll, AllAppend, BegunReadsBack, OneWriting}
 use Rattle.signals.specs.Answers.{firstOf}
 
 pub written-reads-back : WrittenReadsBack
@@ -126,12 +127,14 @@ append-gives-new sheet name list room b k z =
 
 pub append-keeps-others : AppendKeepsOthers
 unfolding environmentOn
-append-keeps-others sheet name list other room b k z n = record { fault = f; part = p (eqb (lookupFault sheet other) 0) refl; signal = ap signalOf l }
+append-keeps-others sheet name list other room b k z n =
+    record { fault = f; part = p (eqb (lookupFault sheet other) 0) refl; signal = ap signalOf l }
   where
     f : lookupFault (appended sheet name list) other ≡ lookupFault sheet other
     f =
         lookup-after sheet name list room b k z other
-        ∙ rw (is-false (same name other) (λ e. n (same-equal name other e))) (ap (λ (t : Bool). cond (wellNamed other) (cond t 0 13) 16) (or-none (among other (names (signalsOn sheet)))))
+        ∙ rw (is-false (same name other) (λ e. n (same-equal name other e)))
+        (ap (λ (t : Bool). cond (wellNamed other) (cond t 0 13) 16) (or-none (among other (names (signalsOn sheet)))))
         ∙ sym (lookup-before sheet name list room b k z other)
 
     l : listNamed other (signalsOn (appended sheet name list)) ≡ listNamed other (signalsOn sheet)
@@ -168,14 +171,22 @@ module _ (es : List Entry) (name list : List ℕ) (fs : List Entry) (h : Holdabl
   no-fault : (room : ℕ) → length (appended (sheetBytes es) name list) ≤ room → appendFault (sheetBytes es) name list room ≡ 0
   unfolding appendFault firstOf
   no-fault room r =
-      rw
-      (sheet-read es part-holds .0, part-fits .1 .named, on-part, part-fits .1 .new, part-fits .1 .listed, lt-leb 32 (length es) (omega (arith, total)), le-ltb room _ r)
+      rw (
+        sheet-read es part-holds .0,
+        part-fits .1 .named,
+        on-part,
+        part-fits .1 .new,
+        part-fits .1 .listed,
+        lt-leb 32 (length es) (omega (arith, total)),
+        le-ltb room _ r,
+      )
 
   regrouped : (es ++ entry name list ∷ []) ++ fs ≡ es ++ entry name list ∷ fs
   regrouped = append-assoc es (entry name list ∷ []) fs
 
 -- appending signal after signal to a written sheet
-all-append : (es fs : List Entry) → Holdable (es ++ fs) → AllAppend (sheetBytes es) fs × (appendAll (sheetBytes es) fs ≡ sheetBytes (es ++ fs))
+all-append : (es fs : List Entry) → Holdable (es ++ fs) → AllAppend (sheetBytes es) fs
+    × (appendAll (sheetBytes es) fs ≡ sheetBytes (es ++ fs))
 unfolding appendAll
 all-append es [] h = (tt, ap sheetBytes (sym (append-nil es)))
 all-append es (entry name list ∷ fs) h =

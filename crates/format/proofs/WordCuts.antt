@@ -25,8 +25,15 @@ later-cut last before (w ∷ ws) n rest k h c =
     let e = past (leb (dateOf w) last) 2 _ h in
     let g = past (changesNothing before w) 3 _ (e .1) in
     let z : suc (length ws) + suc n ≡ suc (length ws + suc n) = omega arith in
-    rw
-    (z, append-assoc (bytes32 w) (wordBytes ws) rest, le-ltb _ 4 (four-more w (wordBytes ws ++ rest)), low32-written w (wordBytes ws ++ rest) (k 0), four-past w (wordBytes ws ++ rest), e .0, g .0)
+    rw (
+      z,
+      append-assoc (bytes32 w) (wordBytes ws) rest,
+      le-ltb _ 4 (four-more w (wordBytes ws ++ rest)),
+      low32-written w (wordBytes ws ++ rest) (k 0),
+      four-past w (wordBytes ws ++ rest),
+      e .0,
+      g .0,
+    )
     (later-cut (dateOf w) (valueAfter w) ws n rest (λ i. k (suc i)) (g .1) c)
 
 -- a word that breaks a rule
@@ -51,8 +58,15 @@ later-broken last before (v ∷ ws) n w rest k b h m =
     let e = past (leb (dateOf v) last) 2 _ h in
     let g = past (changesNothing before v) 3 _ (e .1) in
     let z : suc (length ws) + suc n ≡ suc (length ws + suc n) = omega arith in
-    rw
-    (z, append-assoc (bytes32 v) (wordBytes ws) (bytes32 w ++ rest), le-ltb _ 4 (four-more v (wordBytes ws ++ (bytes32 w ++ rest))), low32-written v (wordBytes ws ++ (bytes32 w ++ rest)) (k 0), four-past v (wordBytes ws ++ (bytes32 w ++ rest)), e .0, g .0)
+    rw (
+      z,
+      append-assoc (bytes32 v) (wordBytes ws) (bytes32 w ++ rest),
+      le-ltb _ 4 (four-more v (wordBytes ws ++ (bytes32 w ++ rest))),
+      low32-written v (wordBytes ws ++ (bytes32 w ++ rest)) (k 0),
+      four-past v (wordBytes ws ++ (bytes32 w ++ rest)),
+      e .0,
+      g .0,
+    )
     (later-broken (dateOf v) (valueAfter v) ws n w rest (λ i. k (suc i)) b (g .1) (λ q. m (rw (e .0, g .0) q)))
 
 -- a list of some words, sound so far
@@ -68,8 +82,14 @@ cut-given n [] rest k s l c = rw (lt-ltb (length rest) 4 c)
 cut-given n (w ∷ ws) rest k s l c =
     let e = sound-some w ws s in
     let z : n - 1 ≡ length ws + suc (n - (length ws + 2)) = omega arith in
-    rw
-    (append-assoc (bytes32 w) (wordBytes ws) rest, le-ltb _ 4 (four-more w (wordBytes ws ++ rest)), low32-written w (wordBytes ws ++ rest) (k 0), four-past w (wordBytes ws ++ rest), e .0, z)
+    rw (
+      append-assoc (bytes32 w) (wordBytes ws) rest,
+      le-ltb _ 4 (four-more w (wordBytes ws ++ rest)),
+      low32-written w (wordBytes ws ++ rest) (k 0),
+      four-past w (wordBytes ws ++ rest),
+      e .0,
+      z,
+    )
     (later-cut 0 (headValue w) ws (n - (length ws + 2)) rest (λ i. k (suc i)) (e .1) c)
 
 -- a list of one word more that is refused
@@ -93,8 +113,14 @@ broken-given n [] w rest m k s l b f = rw (le-ltb _ 4 (four-more w rest), low32-
 broken-given n (h ∷ ws) w rest m k s l b f =
     let e = sound-some h ws s in
     let z : n - 1 ≡ length ws + suc (n - (length ws + 2)) = omega arith in
-    rw
-    (append-assoc (bytes32 h) (wordBytes ws) (bytes32 w ++ rest), le-ltb _ 4 (four-more h (wordBytes ws ++ (bytes32 w ++ rest))), low32-written h (wordBytes ws ++ (bytes32 w ++ rest)) (k 0), four-past h (wordBytes ws ++ (bytes32 w ++ rest)), e .0, z)
+    rw (
+      append-assoc (bytes32 h) (wordBytes ws) (bytes32 w ++ rest),
+      le-ltb _ 4 (four-more h (wordBytes ws ++ (bytes32 w ++ rest))),
+      low32-written h (wordBytes ws ++ (bytes32 w ++ rest)) (k 0),
+      four-past h (wordBytes ws ++ (bytes32 w ++ rest)),
+      e .0,
+      z,
+    )
     (later-broken 0 (headValue h) ws (n - (length ws + 2)) w rest (λ i. k (suc i)) b (e .1)
     (refused-later h ws w (e .0) (rw length-append (omega arith)) f))
 
@@ -131,7 +157,8 @@ front-word : (bytes : List ℕ) → Bytes bytes → 4 ≤ length bytes → (ws r
     → bytes ≡ wordBytes (low32 bytes ∷ ws) ++ rest
 unfolding wordBytes
 front-word bytes b l ws rest e =
-    sym (written32 bytes b l) ∙ ap (λ (x : List ℕ). bytes32 (low32 bytes) ++ x) e ∙ sym (append-assoc (bytes32 (low32 bytes)) (wordBytes ws) rest)
+    sym (written32 bytes b l) ∙ ap (λ (x : List ℕ). bytes32 (low32 bytes) ++ x) e
+    ∙ sym (append-assoc (bytes32 (low32 bytes)) (wordBytes ws) rest)
 
 -- the word at the front is sound: what is found after it is found from it on
 module _ (last : ℕ) (before : Bool) (n : ℕ) (bytes : List ℕ) (b : Bytes bytes) (l : 4 ≤ length bytes)
@@ -141,7 +168,8 @@ module _ (last : ℕ) (before : Bool) (n : ℕ) (bytes : List ℕ) (b : Bytes by
   sound-front ws =
       sym (rw (or-left (leb (dateOf (low32 bytes)) last) _ e, or-right (leb (dateOf (low32 bytes)) last) _ e))
 
-  lift-cut : Cut (wordsFault (dateOf (low32 bytes)) (valueAfter (low32 bytes))) n (drop 4 bytes) → Cut (wordsFault last before) (suc n) bytes
+  lift-cut : Cut (wordsFault (dateOf (low32 bytes)) (valueAfter (low32 bytes))) n (drop 4 bytes)
+      → Cut (wordsFault last before) (suc n) bytes
   lift-cut c =
       record {
         ws = low32 bytes ∷ c .ws;
@@ -218,10 +246,14 @@ later-found last before (suc n) bytes f b h z =
         → ((f ≡ 15) × Cut (wordsFault (dateOf (low32 bytes)) (valueAfter (low32 bytes))) n (drop 4 bytes))
         ⊎ ((f ≡ 17) × Broken (wordsFault (dateOf (low32 bytes)) (valueAfter (low32 bytes))) n (drop 4 bytes)))
         → ((f ≡ 15) × Cut (wordsFault last before) (suc n) bytes) ⊎ ((f ≡ 17) × Broken (wordsFault last before) (suc n) bytes)
-    go true t p q k again = inl (sym k, cut-here (wordsFault last before) (suc n) bytes (no-words last before) (omega arith) (ltb-true (length bytes) 4 p))
+    go true t p q k again =
+        inl (sym k, cut-here (wordsFault last before) (suc n) bytes (no-words last before) (omega arith) (ltb-true (length bytes) 4 p))
     go false true p q k again =
-        inr
-        (sym k, broken-here (wordsFault last before) (suc n) bytes b (no-words last before) (omega arith) (ltb-false (length bytes) 4 p) (either-breaks last before (low32 bytes) q))
+        inr (
+          sym k,
+          broken-here (wordsFault last before) (suc n) bytes b (no-words last before) (omega arith) (ltb-false (length bytes) 4 p)
+              (either-breaks last before (low32 bytes) q),
+        )
     go false false p q k again =
         ⊎-elim
         (λ r. inl (r .0, lift-cut last before n bytes b (ltb-false (length bytes) 4 p) q (r .1)))
@@ -249,7 +281,8 @@ pub record BrokenAt (n : ℕ) (bytes : List ℕ) : Type 0 where
   pub fewer : length ws < n
   pub all : bytes ≡ wordBytes ws ++ (bytes32 w ++ left)
 
-module _ (n : ℕ) (bytes : List ℕ) (b : Bytes bytes) (m : n ≤ 256) (z : n ≡ 0 → ⊥) (l : 4 ≤ length bytes) (e : ltb 1 (low32 bytes) ≡ false) where
+module _ (n : ℕ) (bytes : List ℕ) (b : Bytes bytes) (m : n ≤ 256) (z : n ≡ 0 → ⊥) (l : 4 ≤ length bytes)
+    (e : ltb 1 (low32 bytes) ≡ false) where
   head-listed : (ws : List ℕ) → suc (length ws) ≤ 256 → wordsFault 0 (headValue (low32 bytes)) ws ≡ listFault (low32 bytes ∷ ws)
   unfolding listFault
   head-listed ws h = sym (rw (le-ltb 256 (suc (length ws)) h, e))
@@ -294,8 +327,19 @@ words-found n bytes f b m z h k = go (ltb (length bytes) 4) (ltb 1 (low32 bytes)
         → cond s 15 (cond t 17 (laterWordsFault 0 (headValue (low32 bytes)) (n - 1) (drop 4 bytes))) ≡ f
         → ((f ≡ 15) × CutAt n bytes) ⊎ ((f ≡ 17) × BrokenAt n bytes)
     go true t p q r =
-        inl
-        (sym r, record { ws = []; left = bytes; words = words-none; sound = inl refl; fewer = omega arith; short = ltb-true (length bytes) 4 p; all = refl })
+        inl (
+          sym r,
+          record {
+            ws = [];
+            left = bytes;
+            words = words-none;
+            sound = inl refl;
+            fewer = omega arith;
+            short = ltb-true (length bytes) 4
+                p;
+            all = refl;
+          },
+        )
     go false true p q r =
         inr (
           sym r,

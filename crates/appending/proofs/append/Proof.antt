@@ -45,7 +45,8 @@ append-fault-requires c κs = search needs
 returns : tie.Need-returns
 returns c =
     let called = c .before in
-    append-refused (now (called .before .before .before .before .before .args .sheet)) (now (called .before .before .before .before .before .args .name))
+    append-refused (now (called .before .before .before .before .before .args .sheet))
+    (now (called .before .before .before .before .before .args .name))
     (now (called .before .before .before .before .before .args .list)) (now (called .before .before .before .before .before .args .out))
     (called .append-fault .result) (called .append-fault .ensures) (c .if1 .taken)
 
@@ -62,7 +63,8 @@ add-put16 : tie.Need-add-put16
 add-put16 c = search needs
 
 put16-requires : tie.Need-put16-requires
-put16-requires c κs = let k = fits (c .before .before .before .before .before .before .before) in omega (arith, c .before .before .before .put .kept .0)
+put16-requires c κs =
+    let k = fits (c .before .before .before .before .before .before .before) in omega (arith, c .before .before .before .put .kept .0)
 
 sub-put : tie.Need-sub-put
 sub-put c = fits (c .before .before .before .before .before .before .before .before .before .before .before) .front
@@ -76,10 +78,24 @@ part-put-end c = search needs
 put-requires-2 : tie.Need-put-requires-2
 put-requires-2 c κs = search needs
 
+-- before the signal is put: past the judging, the front put, the count put, the rest put
+abbrev judged : tie.After-put-signal-arg → tie.Else1
+judged c = c .before .before .before .before .before .before .before .before .before .before .before .before .before .before .before .before
+
+abbrev fronted : tie.After-put-signal-arg → tie.After-put
+fronted c = c .before .before .before .before .before .before .before .before .before .before .before .before
+
+abbrev counted : tie.After-put-signal-arg → tie.After-put16
+counted c = c .before .before .before .before .before .before .before .before
+
+abbrev copied : tie.After-put-signal-arg → tie.After-put2
+copied c = c .before .before .before
+
 put-signal-requires : tie.Need-put-signal-requires
-put-signal-requires c κs =
-    let k = fits (c .before .before .before .before .before .before .before .before .before .before .before .before .before .before .before .before) in
-    (omega (arith, c .before .before .before .before .before .before .before .before .before .before .before .before .put .kept .0, c .before .before .before .before .before .before .before .before .put16 .kept .0, c .before .before .before .put2 .kept .0), k .short)
+put-signal-requires c κs = (
+  omega (arith, fits (judged c) .all, fronted c .put .kept .0, counted c .put16 .kept .0, copied c .put2 .kept .0),
+  fits (judged c) .short,
+)
 
 mul-t24 : tie.Need-mul-t24
 mul-t24 c = search needs
@@ -88,23 +104,26 @@ add-t25 : tie.Need-add-t25
 add-t25 c = search needs
 
 add-t26 : tie.Need-add-t26
-add-t26 c = let k = fits (c .before .before .before .before .before .before .before .before .before .before .before .before .before .before .before .before .before .before .before) in omega (arith, k .all)
+add-t26 c = omega (arith, fits (judged (c .before .before .before)) .all)
 
 same-length : tie.Need-same-length
 same-length c = search needs
 
 returns-2 : tie.Need-returns-2
 returns-2 c =
-    let d = c .before .before .before .before .before .before .before .before .before .before .before .before .before .before .before .before .before .before .before in
+    let before = c .before .before .before in
+    let d = judged before in
     let k = fits d in
-    let count = c .before .before .before .before .before .before .before .before .before .before .before .before .before .before .before .before .before .before .read16 in
-    let first = c .before .before .before .before .before .before .before .before .before .before .before .before .before .before .before .put in
-    let second = c .before .before .before .before .before .before .before .before .before .before .before .put16 in
-    let third = c .before .before .before .before .before .before .put2 in
+    let count = fronted before .before .before .before .read16 in
+    let first = fronted before .put in
+    let second = counted before .put16 in
+    let third = copied before .put2 in
     let last = c .before .before .put-signal in
+    let rest = ap length (part-rest (S d) 7) ∙ length-drop 7 (S d) in
     let first-is = first .ensures ∙ put-fits _ _ _ (omega (arith, length-take-le 5 (S d) (omega arith))) in
-    let third-is = third .ensures ∙ put-fits _ _ _ (omega (arith, first .kept .0, second .kept .0, ap length (part-rest (S d) 7), length-drop 7 (S d))) in
-    append-put (S d) (N d) (L d) (O d) (first .last .0) (second .last .0) (third .last .0) (last .last .0) (count .result) (bytes d) (none d)
+    let third-is = third .ensures ∙ put-fits _ _ _ (omega (arith, first .kept .0, second .kept .0, rest)) in
+    append-put (S d) (N d) (L d) (O d) (first .last .0) (second .last .0) (third .last .0) (last .last .0) (count .result)
+    (bytes d) (none d)
     (count-is (S d) (count .result) (count .ensures .0)) first-is (second .ensures) third-is (last .ensures)
 
 pub append-spec : {M : Type 1} → statement M

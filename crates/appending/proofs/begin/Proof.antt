@@ -28,12 +28,14 @@ same-length c = search needs
 
 returns-2 : tie.Need-returns-2
 returns-2 c =
-    let args = c .before .before .before .before .before .before .before .before .before .before .before .before .before .before .before .args in
-    let if1 = c .before .before .before .before .before .before .before .before .before .before .before .before .before .if1 in
-    let put = c .before .before .before .before .before .before .before .before .before .before .put in
+    let marked = c .before .before .before .before .before .before .before .before .before .before in
+    let if1 = marked .before .before .before .if1 in
+    let args = marked .before .before .before .before .before .args in
+    let put = marked .put in
     let put16 = c .before .before .before .before .before .before .put16 in
     let put162 = c .before .before .put162 in
-    begin-put (now (args .out)) (put .last .0) (put16 .last .0) (put162 .last .0) (if1 .left) (put .ensures ∙ put-fits _ _ _ (omega arith)) (put16 .ensures) (put162 .ensures)
+    begin-put (now (args .out)) (put .last .0) (put16 .last .0) (put162 .last .0) (if1 .left) (put .ensures ∙ put-fits _ _ _ (omega arith))
+    (put16 .ensures) (put162 .ensures)
 
 pub begin-spec : {M : Type 1} → statement M
 begin-spec =

@@ -47,7 +47,9 @@ same-length c = search needs
 
 returns : tie.Need-returns
 unfolding bytes32
-returns c = put-four (now (c .args .out)) (c .args .at) (c .args .word % 256) (c .args .word / 256 % 256) (c .args .word / 65536 % 256) (c .args .word / 16777216 % 256) (c .pre)
+returns c =
+    put-four (now (c .args .out)) (c .args .at) (c .args .word % 256) (c .args .word / 256 % 256) (c .args .word / 65536 % 256)
+    (c .args .word / 16777216 % 256) (c .pre)
 
 pub put32-spec : {M : Type 1} → statement M
 put32-spec =

@@ -23,7 +23,8 @@ array-share-prefix-pad : tie.Need-array-share-prefix-pad
 array-share-prefix-pad c = search needs
 
 slice-aggregate-put : tie.Need-slice-aggregate-put
-slice-aggregate-put c = sym (length-pad (8 - length (now (c .before .before .before .before .before .before .before .before .args .name))) (omega arith))
+slice-aggregate-put c =
+    sym (length-pad (8 - length (now (c .before .before .before .before .before .before .before .before .args .name))) (omega arith))
 
 put-requires-2 : tie.Need-put-requires-2
 put-requires-2 c κs = search needs
@@ -38,7 +39,8 @@ returns c =
     let put = c .before .before .before .before .before .before .before .put in
     let put2 = c .before .before .put2 in
     let pad = length-pad (8 - length (now (args .name))) (omega arith) in
-    name-put (now (args .out)) (put .last .0) (put2 .last .0) (args .at) (now (args .name)) (pre .1) (pre .0) (put .ensures ∙ put-fits _ _ _ (omega arith)) (put2 .ensures ∙ put-fits _ _ _ (omega (arith, put .kept .0)))
+    name-put (now (args .out)) (put .last .0) (put2 .last .0) (args .at) (now (args .name)) (pre .1) (pre .0)
+    (put .ensures ∙ put-fits _ _ _ (omega arith)) (put2 .ensures ∙ put-fits _ _ _ (omega (arith, put .kept .0)))
 
 pub put-name-spec : {M : Type 1} → statement M
 put-name-spec =

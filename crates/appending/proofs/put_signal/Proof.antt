@@ -25,12 +25,15 @@ same-length c = search needs
 
 returns : tie.Need-returns
 returns c =
-    let args = c .before .before .before .before .before .before .before .before .before .before .before .before .before .before .before .args in
-    let pre = c .before .before .before .before .before .before .before .before .before .before .before .before .before .before .before .pre in
-    let put-name = c .before .before .before .before .before .before .before .before .before .before .put-name in
+    let named = c .before .before .before .before .before .before .before .before .before .before in
+    let start = named .before .before .before .before .before in
+    let args = start .args in
+    let pre = start .pre in
+    let put-name = named .put-name in
     let put16 = c .before .before .before .before .before .before .put16 in
     let put-words = c .before .before .put-words in
-    signal-put (now (args .out)) (put-name .last .0) (put16 .last .0) (put-words .last .0) (args .at) (now (args .name)) (now (args .list)) (pre .1) (pre .0) (put-name .ensures) (put16 .ensures) (put-words .ensures)
+    signal-put (now (args .out)) (put-name .last .0) (put16 .last .0) (put-words .last .0) (args .at) (now (args .name)) (now (args .list))
+    (pre .1) (pre .0) (put-name .ensures) (put16 .ensures) (put-words .ensures)
 
 pub put-signal-spec : {M : Type 1} → statement M
 put-signal-spec =

@@ -18,7 +18,12 @@ abbrev μ-loop : tie.MeasureT-loop
 μ-loop out₀ at list i₀ out i = length list - i
 
 loop-holds : tie.Need-loop-holds Inv-loop μ-loop
-loop-holds c = (omega arith, refl, words-none (now (c .before .before .args .out)) (c .before .before .args .at) (now (c .before .before .args .list)) (c .before .before .pre))
+loop-holds c = (
+  omega arith,
+  refl,
+  words-none (now (c .before .before .args .out)) (c .before .before .args .at) (now (c .before .before .args .list))
+      (c .before .before .pre),
+)
 
 mul-put32 : tie.Need-mul-put32 Inv-loop μ-loop
 mul-put32 c = omega arith
@@ -47,8 +52,12 @@ loop-again c =
     let pre = c .before .before .before .before .before .before .before .before .before .pre in
     let loop = c .before .before .before .before .before .before .loop in
     let loop-test = c .before .before .before .before .before .loop-test in
-    let put32 = c .before .before .put32 in
-    (omega arith, put32 .kept .0 ∙ loop .inv .1, words-turn (now (args .out)) (args .at) (now (args .list)) (pre) (loop .i) (loop .out) (put32 .last .0) (loop-test .taken) (loop .inv .2) (put32 .ensures))
+    let put32 = c .before .before .put32 in (
+      omega arith,
+      put32 .kept .0 ∙ loop .inv .1,
+      words-turn (now (args .out)) (args .at) (now (args .list)) (pre) (loop .i) (loop .out) (put32 .last .0) (loop-test .taken)
+          (loop .inv .2) (put32 .ensures),
+    )
 
 same-length : tie.Need-same-length Inv-loop μ-loop
 same-length c = c .before .loop .inv .1

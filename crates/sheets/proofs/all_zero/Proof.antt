@@ -36,7 +36,11 @@ loop-less : tie.Need-loop-less Inv-loop μ-loop
 loop-less c = search needs
 
 loop-again : tie.Need-loop-again Inv-loop μ-loop
-loop-again c = (omega arith, sym (zeros-step (now (c .before .before .before .before .args .s)) (c .before .before .before .loop .i) (c .before .before .loop-test .taken) (c .if1 .left)) ∙ c .before .before .before .loop .inv .1)
+loop-again c = (
+  omega arith,
+  sym (zeros-step (now (c .before .before .before .before .args .s)) (c .before .before .before .loop .i)
+      (c .before .before .loop-test .taken) (c .if1 .left)) ∙ c .before .before .before .loop .inv .1,
+)
 
 returns-2 : tie.Need-returns-2 Inv-loop μ-loop
 returns-2 c = sym (zeros-end (now (c .before .before .args .s)) (c .before .loop .i) (c .loop-test .left)) ∙ c .before .loop .inv .1

@@ -37,7 +37,8 @@ returns c =
     let name-in = c .before .before .before .before .name-in in
     let well-named = c .before .before .before .well-named in
     let if1 = c .before .before .if1 in
-    fits-if-zeros (now (args .field)) (now (name-in .result)) (well-named .result) (name-in .ensures) (well-named .ensures) (if1 .taken) _ (c .all-zero .ensures)
+    fits-if-zeros (now (args .field)) (now (name-in .result)) (well-named .result) (name-in .ensures) (well-named .ensures) (if1 .taken) _
+    (c .all-zero .ensures)
 
 returns-2 : tie.Need-returns-2
 returns-2 c =

@@ -13,7 +13,9 @@ use Rattle.sheets.proofs.find.Statement.{statement}
 use Rattle.sheets.proofs.find.Tie as tie
 
 abbrev Inv-loop : tie.InvT-loop
-Inv-loop sheet count name at₀ i₀ at i = (i ≤ count) × (at ≤ length sheet) × Whole (count - i) (drop at sheet) × (placeFrom name at (count - i) (drop at sheet) ≡ placeFrom name 7 count (drop 7 sheet))
+Inv-loop sheet count name at₀ i₀ at i =
+    (i ≤ count) × (at ≤ length sheet) × Whole (count - i) (drop at sheet)
+    × (placeFrom name at (count - i) (drop at sheet) ≡ placeFrom name 7 count (drop 7 sheet))
 
 abbrev μ-loop : tie.MeasureT-loop
 μ-loop sheet count name at₀ i₀ at i = count - i
@@ -22,7 +24,13 @@ loop-holds : tie.Need-loop-holds Inv-loop μ-loop
 loop-holds c = (omega arith, c .before .before .pre .0, rw sub-zero (c .before .before .pre .1), rw sub-zero refl)
 
 field-at-requires : tie.Need-field-at-requires Inv-loop μ-loop
-field-at-requires c κs = omega (arith, room10 (now (c .before .before .before .before .args .sheet)) (c .before .loop .at) (c .before .before .before .before .args .count) (c .before .loop .i) (c .loop-test .taken) (c .before .loop .inv .1) (c .before .loop .inv .2))
+field-at-requires c κs =
+    omega (
+      arith,
+      room10 (now (c .before .before .before .before .args .sheet)) (c .before .loop .at)
+          (c .before .before .before .before .args .count) (c .before .loop .i) (c .loop-test .taken) (c .before .loop .inv .1)
+          (c .before .loop .inv .2),
+    )
 
 name-in-requires : tie.Need-name-in-requires Inv-loop μ-loop
 name-in-requires c κs = tt
@@ -56,7 +64,9 @@ returns c =
     let name-in = c .before .before .before .name-in in
     let alike = c .before .before .alike in
     let if1 = c .before .if1 in
-    found (now (args .name)) (now (args .sheet)) (loop .at) (args .count) (loop .i) _ (loop-test .taken) (now (field-at .result)) (now (name-in .result)) (alike .result) (field-at .ensures) (name-in .ensures) (alike .ensures) (loop .inv .3) (c .word-count .result) (if1 .taken) (c .word-count .ensures .0)
+    found (now (args .name)) (now (args .sheet)) (loop .at) (args .count) (loop .i) _ (loop-test .taken) (now (field-at .result))
+    (now (name-in .result)) (alike .result) (field-at .ensures) (name-in .ensures) (alike .ensures) (loop .inv .3) (c .word-count .result)
+    (if1 .taken) (c .word-count .ensures .0)
 
 signal-size-requires : tie.Need-signal-size-requires Inv-loop μ-loop
 signal-size-requires c κs =
@@ -88,16 +98,21 @@ loop-again c =
     let alike = c .before .before .alike in
     let if1 = c .before .if1 in (
       omega arith,
-      rw (c .signal-size .ensures) (room (now (args .sheet)) (loop .at) (args .count) (loop .i) (loop-test .taken) (loop .inv .1) (loop .inv .2)),
-      rw (c .signal-size .ensures) (whole-next (now (args .sheet)) (loop .at) (args .count) (loop .i) (loop-test .taken) (loop .inv .1) (loop .inv .2)),
-      rw (c .signal-size .ensures) (not-here (now (args .name)) (now (args .sheet)) (loop .at) (args .count) (loop .i) _ (loop-test .taken) (now (field-at .result)) (now (name-in .result)) (alike .result) (field-at .ensures) (name-in .ensures) (alike .ensures) (loop .inv .3) (if1 .left)),
+      rw (c .signal-size .ensures) (room (now (args .sheet)) (loop .at) (args .count) (loop .i) (loop-test .taken) (loop .inv .1)
+          (loop .inv .2)),
+      rw (c .signal-size .ensures) (whole-next (now (args .sheet)) (loop .at) (args .count) (loop .i) (loop-test .taken) (loop .inv .1)
+          (loop .inv .2)),
+      rw (c .signal-size .ensures) (not-here (now (args .name)) (now (args .sheet)) (loop .at) (args .count) (loop .i) _ (loop-test .taken)
+          (now (field-at .result)) (now (name-in .result)) (alike .result) (field-at .ensures) (name-in .ensures) (alike .ensures)
+          (loop .inv .3) (if1 .left)),
     )
 
 returns-2 : tie.Need-returns-2 Inv-loop μ-loop
 returns-2 c =
     let args = c .before .before .before .before .args in
     let loop = c .before .loop in
-    sym (place-none (now (args .name)) (loop .at) (args .count) (loop .i) (drop (loop .at) (now (args .sheet))) (c .loop-test .left)) ∙ loop .inv .3
+    sym (place-none (now (args .name)) (loop .at) (args .count) (loop .i) (drop (loop .at) (now (args .sheet))) (c .loop-test .left))
+    ∙ loop .inv .3
 
 pub find-spec : {M : Type 1} → statement M
 find-spec =

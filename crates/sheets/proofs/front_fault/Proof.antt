@@ -42,7 +42,8 @@ returns-3 c =
     let if2 = c .before .before .before .if2 in
     let if3 = c .before .before .if3 in
     let read16 = c .before .read16 in
-    sym (front-version (now (args .sheet)) (if1 .left) (alike .result) (alike .ensures) (if2 .taken) (if3 .left) (read16 .result) (read16 .ensures .0) (c .if4 .taken))
+    sym (front-version (now (args .sheet)) (if1 .left) (alike .result) (alike .ensures) (if2 .taken) (if3 .left) (read16 .result)
+    (read16 .ensures .0) (c .if4 .taken))
 
 returns-4 : tie.Need-returns-4
 returns-4 c =
@@ -53,18 +54,24 @@ returns-4 c =
     let if3 = c .before .before .before .if3 in
     let read16 = c .before .before .read16 in
     let if4 = c .before .if4 in
-    sym (front-no-count (now (args .sheet)) (if1 .left) (alike .result) (alike .ensures) (if2 .taken) (if3 .left) (read16 .result) (read16 .ensures .0) (if4 .left) (c .if5 .taken))
+    sym (front-no-count (now (args .sheet)) (if1 .left) (alike .result) (alike .ensures) (if2 .taken) (if3 .left) (read16 .result)
+    (read16 .ensures .0) (if4 .left) (c .if5 .taken))
 
 read16-requires-2 : tie.Need-read16-requires-2
 read16-requires-2 c κs = search needs
 
 -- the count was read: it alone decides
-counted : (c : tie.After-read162) → frontFault (c .before .before .before .before .before .before .before .before .before .before .before .args .sheet .now) ≡ cond (ltb 32 (c .read162 .result)) 15 0
+counted : (c : tie.After-read162) → frontFault
+    (c .before .before .before .before .before .before .before .before .before .before .before .args .sheet .now) ≡ cond
+    (ltb 32 (c .read162 .result)) 15 0
 counted c =
     let alike = c .before .before .before .before .before .before .alike in
     let read16 = c .before .before .before .read16 in
-    front-counted (now (c .before .before .before .before .before .before .before .before .before .before .before .args .sheet)) (c .before .before .before .before .before .before .before .before .before .if1 .left) (alike .result) (alike .ensures) (c .before .before .before .before .before .if2 .taken) (c .before .before .before .before .if3 .left)
-    (read16 .result) (read16 .ensures .0) (c .before .before .if4 .left) (c .before .if5 .left) (c .read162 .result) (c .read162 .ensures .0)
+    front-counted (now (c .before .before .before .before .before .before .before .before .before .before .before .args .sheet))
+    (c .before .before .before .before .before .before .before .before .before .if1 .left) (alike .result) (alike .ensures)
+    (c .before .before .before .before .before .if2 .taken) (c .before .before .before .before .if3 .left)
+    (read16 .result) (read16 .ensures .0) (c .before .before .if4 .left) (c .before .if5 .left) (c .read162 .result)
+    (c .read162 .ensures .0)
 
 returns-5 : tie.Need-returns-5
 returns-5 c = sym (counted (c .before) ∙ rw (lt-ltb 32 (c .before .read162 .result) (c .if6 .taken)) refl)

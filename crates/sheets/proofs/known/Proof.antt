@@ -20,13 +20,15 @@ returns : tie.Need-returns
 returns c =
     let args = c .before .before .before .before .before .args in
     let find = c .before .before .find in
-    sym (ap foundIn (c .enum-told .given .1)) ∙ ap foundIn (find .ensures) ∙ found-known (now (args .name)) 7 (args .count) (drop 7 (now (args .sheet)))
+    sym (ap foundIn (c .enum-told .given .1)) ∙ ap foundIn (find .ensures)
+    ∙ found-known (now (args .name)) 7 (args .count) (drop 7 (now (args .sheet)))
 
 returns-2 : tie.Need-returns-2
 returns-2 c =
     let args = c .before .before .before .before .before .args in
     let find = c .before .before .find in
-    sym (ap foundIn (c .enum-told2 .given .1)) ∙ ap foundIn (find .ensures) ∙ found-known (now (args .name)) 7 (args .count) (drop 7 (now (args .sheet)))
+    sym (ap foundIn (c .enum-told2 .given .1)) ∙ ap foundIn (find .ensures)
+    ∙ found-known (now (args .name)) 7 (args .count) (drop 7 (now (args .sheet)))
 
 pub known-spec : {M : Type 1} → statement M
 known-spec = tie.close (tie.spec find-requires enum-told enum-told-2 returns returns-2)

@@ -17,7 +17,8 @@ returns : tie.Need-returns
 returns c =
     let args = c .before .before .before .before .args in
     let sheet-fault = c .before .sheet-fault in
-    ap Refused (sheet-fault .ensures) ∙ place-bad-sheet (now (args .sheet)) (now (args .name)) (λ e. c .if1 .taken (sheet-fault .ensures ∙ e))
+    ap Refused (sheet-fault .ensures) ∙ place-bad-sheet (now (args .sheet)) (now (args .name))
+    (λ e. c .if1 .taken (sheet-fault .ensures ∙ e))
 
 well-named-requires : tie.Need-well-named-requires
 well-named-requires c κs = search needs
@@ -29,8 +30,11 @@ find-requires : tie.Need-find-requires
 find-requires c κs =
     let args = c .before .before .before .before .before .before .before .args in
     let sheet-fault = c .before .before .before .before .sheet-fault in
-    let if1 = c .before .before .before .if1 in
-    (front-none (now (args .sheet)) (sym (sheet-fault .ensures) ∙ if1 .left) .room, rw (count-is (now (args .sheet)) (c .read16 .result) (c .read16 .ensures .0)) (sheet-whole (now (args .sheet)) (sym (sheet-fault .ensures) ∙ if1 .left)))
+    let if1 = c .before .before .before .if1 in (
+      front-none (now (args .sheet)) (sym (sheet-fault .ensures) ∙ if1 .left) .room,
+      rw (count-is (now (args .sheet)) (c .read16 .result) (c .read16 .ensures .0))
+          (sheet-whole (now (args .sheet)) (sym (sheet-fault .ensures) ∙ if1 .left)),
+    )
 
 returns-2 : tie.Need-returns-2
 returns-2 c =
@@ -40,7 +44,9 @@ returns-2 c =
     let well-named = c .before .before .before .well-named in
     let if2 = c .before .before .if2 in
     let read16 = c .before .read16 in
-    c .find .ensures ∙ ap (λ (k : ℕ). placeFrom (now (args .name)) 7 k (drop 7 (now (args .sheet)))) (count-is (now (args .sheet)) (read16 .result) (read16 .ensures .0)) ∙ place-walked (now (args .sheet)) (now (args .name)) (sym (sheet-fault .ensures) ∙ if1 .left) (sym (well-named .ensures) ∙ if2 .taken)
+    c .find .ensures ∙ ap (λ (k : ℕ). placeFrom (now (args .name)) 7 k (drop 7 (now (args .sheet))))
+    (count-is (now (args .sheet)) (read16 .result) (read16 .ensures .0))
+    ∙ place-walked (now (args .sheet)) (now (args .name)) (sym (sheet-fault .ensures) ∙ if1 .left) (sym (well-named .ensures) ∙ if2 .taken)
 
 returns-3 : tie.Need-returns-3
 returns-3 c =
@@ -48,7 +54,8 @@ returns-3 c =
     let sheet-fault = c .before .before .before .sheet-fault in
     let if1 = c .before .before .if1 in
     let well-named = c .before .well-named in
-    place-bad-name (now (args .sheet)) (now (args .name)) (sym (sheet-fault .ensures) ∙ if1 .left) (sym (well-named .ensures) ∙ c .if2 .left)
+    place-bad-name (now (args .sheet)) (now (args .name)) (sym (sheet-fault .ensures) ∙ if1 .left)
+    (sym (well-named .ensures) ∙ c .if2 .left)
 
 pub locate-spec : {M : Type 1} → statement M
 locate-spec =

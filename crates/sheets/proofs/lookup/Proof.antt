@@ -14,7 +14,11 @@ enum-known-start : tie.Need-enum-known-start
 enum-known-start c = search needs
 
 add-end : tie.Need-add-end
-add-end c = omega (arith, place-within (now (c .before .before .before .before .before .before .args .sheet)) (now (c .before .before .before .before .before .before .args .name)) (c .before .start .given .0 .0) (c .before .start .given .0 .1 .0) (sym (c .before .before .before .locate .ensures) ∙ c .before .start .given .1) .1)
+add-end c =
+    let args = c .before .before .before .before .before .before .args in
+    let found = sym (c .before .before .before .locate .ensures) ∙ c .before .start .given .1 in
+    let start = c .before .start .given in
+    omega (arith, place-within (now (args .sheet)) (now (args .name)) (start .0 .0) (start .0 .1 .0) found .1)
 
 sub-result : tie.Need-sub-result
 sub-result c = search needs
@@ -27,7 +31,8 @@ part-result-end c =
     let args = c .before .before .before .before .before .before .args in
     let locate = c .before .before .before .locate in
     let start = c .before .start in
-    place-within (now (args .sheet)) (now (args .name)) (start .given .0 .0) (start .given .0 .1 .0) (sym (locate .ensures) ∙ start .given .1) .1
+    place-within (now (args .sheet)) (now (args .name)) (start .given .0 .0) (start .given .0 .1 .0)
+    (sym (locate .ensures) ∙ start .given .1) .1
 
 enum-told : tie.Need-enum-told
 enum-told c = search needs

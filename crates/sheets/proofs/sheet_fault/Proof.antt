@@ -42,8 +42,13 @@ unfolding sizeOf signalsFrom names countOn
 loop-holds c =
     let args = c .before .before .before .before .args in
     let front-fault = c .before .before .front-fault in
-    let if1 = c .before .if1 in
-    (fronted (now (args .sheet)) (sym (front-fault .ensures) ∙ if1 .left) .room, refl, fronted (now (args .sheet)) (sym (front-fault .ensures) ∙ if1 .left) .room, tt, rw (sub-zero, c .read16 .ensures .0) (sym (sheet-past (now (args .sheet)) (sym (front-fault .ensures) ∙ if1 .left))))
+    let if1 = c .before .if1 in (
+      fronted (now (args .sheet)) (sym (front-fault .ensures) ∙ if1 .left) .room,
+      refl,
+      fronted (now (args .sheet)) (sym (front-fault .ensures) ∙ if1 .left) .room,
+      tt,
+      rw (sub-zero, c .read16 .ensures .0) (sym (sheet-past (now (args .sheet)) (sym (front-fault .ensures) ∙ if1 .left))),
+    )
 
 signal-fault-requires : tie.Need-signal-fault-requires Inv-loop μ-loop
 signal-fault-requires c κs = ((c .before .loop .inv .0, c .before .loop .inv .3), c .before .loop .inv .2)
@@ -55,7 +60,8 @@ returns-2 c =
     let loop = c .before .before .before .loop in
     let loop-test = c .before .before .loop-test in
     let signal-fault = c .before .signal-fault in
-    signal-fault .ensures ∙ signals-fault _ (read16 .result) (loop .i) (drop (loop .at) (now (args .sheet))) (loop-test .taken) (λ e. c .if2 .taken (signal-fault .ensures ∙ e)) ∙ loop .inv .4
+    signal-fault .ensures ∙ signals-fault _ (read16 .result) (loop .i) (drop (loop .at) (now (args .sheet))) (loop-test .taken)
+    (λ e. c .if2 .taken (signal-fault .ensures ∙ e)) ∙ loop .inv .4
 
 signal-size-requires : tie.Need-signal-size-requires Inv-loop μ-loop
 signal-size-requires c κs =
@@ -64,7 +70,12 @@ signal-size-requires c κs =
     let loop = c .before .before .before .loop in
     let loop-test = c .before .before .loop-test in
     let signal-fault = c .before .signal-fault in
-    omega (arith, room-next (now (args .sheet)) (loop .at) (read16 .result) (loop .i) (loop-test .taken) (loop .inv .1) (loop .inv .2) (loop .inv .3) (sym (signal-fault .ensures) ∙ c .if2 .left), size-least (drop (loop .at) (now (args .sheet))))
+    omega (
+      arith,
+      room-next (now (args .sheet)) (loop .at) (read16 .result) (loop .i) (loop-test .taken) (loop .inv .1) (loop .inv .2)
+          (loop .inv .3) (sym (signal-fault .ensures) ∙ c .if2 .left),
+      size-least (drop (loop .at) (now (args .sheet))),
+    )
 
 add-at : tie.Need-add-at Inv-loop μ-loop
 add-at c =
@@ -74,7 +85,11 @@ add-at c =
     let loop-test = c .before .before .before .loop-test in
     let signal-fault = c .before .before .signal-fault in
     let if2 = c .before .if2 in
-    omega (arith, room-next (now (args .sheet)) (loop .at) (read16 .result) (loop .i) (loop-test .taken) (loop .inv .1) (loop .inv .2) (loop .inv .3) (sym (signal-fault .ensures) ∙ if2 .left))
+    omega (
+      arith,
+      room-next (now (args .sheet)) (loop .at) (read16 .result) (loop .i) (loop-test .taken) (loop .inv .1) (loop .inv .2)
+          (loop .inv .3) (sym (signal-fault .ensures) ∙ if2 .left),
+    )
 
 add-i : tie.Need-add-i Inv-loop μ-loop
 add-i c = search needs
@@ -91,10 +106,14 @@ loop-again c =
     let signal-fault = c .before .before .signal-fault in
     let if2 = c .before .if2 in (
       loop .inv .0,
-      rw (c .signal-size .ensures) (at-next (now (args .sheet)) (loop .at) (read16 .result) (loop .i) (loop-test .taken) (loop .inv .1) (loop .inv .2) (loop .inv .3) (sym (signal-fault .ensures) ∙ if2 .left)),
-      rw (c .signal-size .ensures) (room-next (now (args .sheet)) (loop .at) (read16 .result) (loop .i) (loop-test .taken) (loop .inv .1) (loop .inv .2) (loop .inv .3) (sym (signal-fault .ensures) ∙ if2 .left)),
-      whole-after (now (args .sheet)) (loop .at) (read16 .result) (loop .i) (loop-test .taken) (loop .inv .1) (loop .inv .2) (loop .inv .3) (sym (signal-fault .ensures) ∙ if2 .left),
-      rw (c .signal-size .ensures) (fault-next (now (args .sheet)) (loop .at) (read16 .result) (loop .i) (loop-test .taken) (loop .inv .1) (loop .inv .2) (loop .inv .3) (sym (signal-fault .ensures) ∙ if2 .left) ∙ loop .inv .4),
+      rw (c .signal-size .ensures) (at-next (now (args .sheet)) (loop .at) (read16 .result) (loop .i) (loop-test .taken) (loop .inv .1)
+          (loop .inv .2) (loop .inv .3) (sym (signal-fault .ensures) ∙ if2 .left)),
+      rw (c .signal-size .ensures) (room-next (now (args .sheet)) (loop .at) (read16 .result) (loop .i) (loop-test .taken) (loop .inv .1)
+          (loop .inv .2) (loop .inv .3) (sym (signal-fault .ensures) ∙ if2 .left)),
+      whole-after (now (args .sheet)) (loop .at) (read16 .result) (loop .i) (loop-test .taken) (loop .inv .1) (loop .inv .2) (loop .inv .3)
+          (sym (signal-fault .ensures) ∙ if2 .left),
+      rw (c .signal-size .ensures) (fault-next (now (args .sheet)) (loop .at) (read16 .result) (loop .i) (loop-test .taken) (loop .inv .1)
+          (loop .inv .2) (loop .inv .3) (sym (signal-fault .ensures) ∙ if2 .left) ∙ loop .inv .4),
     )
 
 returns-3 : tie.Need-returns-3 Inv-loop μ-loop
@@ -103,7 +122,8 @@ returns-3 c =
     let read16 = c .before .before .before .read16 in
     let loop = c .before .before .loop in
     let loop-test = c .before .loop-test in
-    sym (signals-end _ (read16 .result) (loop .i) (drop (loop .at) (now (args .sheet))) (loop-test .left) ∙ none-left (now (args .sheet)) (loop .at) (c .if3 .taken)) ∙ loop .inv .4
+    sym (signals-end _ (read16 .result) (loop .i) (drop (loop .at) (now (args .sheet))) (loop-test .left)
+    ∙ none-left (now (args .sheet)) (loop .at) (c .if3 .taken)) ∙ loop .inv .4
 
 returns-4 : tie.Need-returns-4 Inv-loop μ-loop
 returns-4 c =
@@ -111,7 +131,8 @@ returns-4 c =
     let read16 = c .before .before .before .read16 in
     let loop = c .before .before .loop in
     let loop-test = c .before .loop-test in
-    sym (signals-end _ (read16 .result) (loop .i) (drop (loop .at) (now (args .sheet))) (loop-test .left) ∙ some-left (now (args .sheet)) (loop .at) (loop .inv .2) (c .if3 .left)) ∙ loop .inv .4
+    sym (signals-end _ (read16 .result) (loop .i) (drop (loop .at) (now (args .sheet))) (loop-test .left)
+    ∙ some-left (now (args .sheet)) (loop .at) (loop .inv .2) (c .if3 .left)) ∙ loop .inv .4
 
 pub sheet-fault-spec : {M : Type 1} → statement M
 sheet-fault-spec =

@@ -5,7 +5,8 @@ use lib.ListN.{drop}
 use denote.Ref.{now}
 use Rattle.format.specs.Names.{fieldFits}
 use Rattle.format.specs.Reading.{names, signalsFrom}
-use Rattle.format.proofs.Judging.{known-name, signal-cut, signal-malformed, signal-repeated, signal-no-count, signal-none, signal-many, signal-words}
+use Rattle.format.proofs.Judging.{known-name, signal-cut, signal-malformed, signal-repeated, signal-no-count, signal-none, signal-many}
+use Rattle.format.proofs.Judging.{signal-words}
 use Rattle.sheets.proofs.signal_fault.Statement.{statement}
 use Rattle.sheets.proofs.signal_fault.Tie as tie
 
@@ -38,7 +39,10 @@ returns-2 c =
     let if2 = c .before .before .before .if2 in
     let name-in = c .before .before .name-in in
     let known = c .before .known in
-    sym (signal-repeated (names (signalsFrom (args .count) (drop 7 (now (args .sheet))))) (now (args .sheet)) (args .at) (if1 .left) (field-fits .result) (field-fits .ensures ∙ ap fieldFits (field-at .ensures)) (if2 .taken) (known .result) (known-name _ _ (names (signalsFrom (args .count) (drop 7 (now (args .sheet))))) _ (field-at .ensures) (name-in .ensures) (known .ensures)) (c .if3 .taken))
+    sym (signal-repeated (names (signalsFrom (args .count) (drop 7 (now (args .sheet))))) (now (args .sheet)) (args .at) (if1 .left)
+    (field-fits .result) (field-fits .ensures ∙ ap fieldFits (field-at .ensures)) (if2 .taken) (known .result)
+    (known-name _ _ (names (signalsFrom (args .count) (drop 7 (now (args .sheet))))) _ (field-at .ensures) (name-in .ensures)
+    (known .ensures)) (c .if3 .taken))
 
 returns-3 : tie.Need-returns-3
 returns-3 c =
@@ -50,7 +54,10 @@ returns-3 c =
     let name-in = c .before .before .before .name-in in
     let known = c .before .before .known in
     let if3 = c .before .if3 in
-    sym (signal-no-count (names (signalsFrom (args .count) (drop 7 (now (args .sheet))))) (now (args .sheet)) (args .at) (if1 .left) (field-fits .result) (field-fits .ensures ∙ ap fieldFits (field-at .ensures)) (if2 .taken) (known .result) (known-name _ _ (names (signalsFrom (args .count) (drop 7 (now (args .sheet))))) _ (field-at .ensures) (name-in .ensures) (known .ensures)) (if3 .left) (c .if4 .taken))
+    sym (signal-no-count (names (signalsFrom (args .count) (drop 7 (now (args .sheet))))) (now (args .sheet)) (args .at) (if1 .left)
+    (field-fits .result) (field-fits .ensures ∙ ap fieldFits (field-at .ensures)) (if2 .taken) (known .result)
+    (known-name _ _ (names (signalsFrom (args .count) (drop 7 (now (args .sheet))))) _ (field-at .ensures) (name-in .ensures)
+    (known .ensures)) (if3 .left) (c .if4 .taken))
 
 word-count-requires : tie.Need-word-count-requires
 word-count-requires c κs = search needs
@@ -67,7 +74,10 @@ returns-4 c =
     let if3 = c .before .before .before .if3 in
     let if4 = c .before .before .if4 in
     let word-count = c .before .word-count in
-    sym (signal-none (names (signalsFrom (args .count) (drop 7 (now (args .sheet))))) (now (args .sheet)) (args .at) (if1 .left) (field-fits .result) (field-fits .ensures ∙ ap fieldFits (field-at .ensures)) (if2 .taken) (known .result) (known-name _ _ (names (signalsFrom (args .count) (drop 7 (now (args .sheet))))) _ (field-at .ensures) (name-in .ensures) (known .ensures)) (if3 .left) (if4 .left) (word-count .result) (word-count .ensures .0) (c .if5 .taken))
+    sym (signal-none (names (signalsFrom (args .count) (drop 7 (now (args .sheet))))) (now (args .sheet)) (args .at) (if1 .left)
+    (field-fits .result) (field-fits .ensures ∙ ap fieldFits (field-at .ensures)) (if2 .taken) (known .result)
+    (known-name _ _ (names (signalsFrom (args .count) (drop 7 (now (args .sheet))))) _ (field-at .ensures) (name-in .ensures)
+    (known .ensures)) (if3 .left) (if4 .left) (word-count .result) (word-count .ensures .0) (c .if5 .taken))
 
 returns-5 : tie.Need-returns-5
 returns-5 c =
@@ -82,7 +92,10 @@ returns-5 c =
     let if4 = c .before .before .before .if4 in
     let word-count = c .before .before .word-count in
     let if5 = c .before .if5 in
-    sym (signal-many (names (signalsFrom (args .count) (drop 7 (now (args .sheet))))) (now (args .sheet)) (args .at) (if1 .left) (field-fits .result) (field-fits .ensures ∙ ap fieldFits (field-at .ensures)) (if2 .taken) (known .result) (known-name _ _ (names (signalsFrom (args .count) (drop 7 (now (args .sheet))))) _ (field-at .ensures) (name-in .ensures) (known .ensures)) (if3 .left) (if4 .left) (word-count .result) (word-count .ensures .0) (if5 .left) (c .if6 .taken))
+    sym (signal-many (names (signalsFrom (args .count) (drop 7 (now (args .sheet))))) (now (args .sheet)) (args .at) (if1 .left)
+    (field-fits .result) (field-fits .ensures ∙ ap fieldFits (field-at .ensures)) (if2 .taken) (known .result)
+    (known-name _ _ (names (signalsFrom (args .count) (drop 7 (now (args .sheet))))) _ (field-at .ensures) (name-in .ensures)
+    (known .ensures)) (if3 .left) (if4 .left) (word-count .result) (word-count .ensures .0) (if5 .left) (c .if6 .taken))
 
 add-words-fault : tie.Need-add-words-fault
 add-words-fault c = search needs
@@ -104,7 +117,10 @@ returns-6 c =
     let word-count = c .before .before .before .word-count in
     let if5 = c .before .before .if5 in
     let if6 = c .before .if6 in
-    c .words-fault .ensures ∙ signal-words (names (signalsFrom (args .count) (drop 7 (now (args .sheet))))) (now (args .sheet)) (args .at) (if1 .left) (field-fits .result) (field-fits .ensures ∙ ap fieldFits (field-at .ensures)) (if2 .taken) (known .result) (known-name _ _ (names (signalsFrom (args .count) (drop 7 (now (args .sheet))))) _ (field-at .ensures) (name-in .ensures) (known .ensures)) (if3 .left) (if4 .left) (word-count .result) (word-count .ensures .0) (if5 .left) (if6 .left)
+    c .words-fault .ensures ∙ signal-words (names (signalsFrom (args .count) (drop 7 (now (args .sheet))))) (now (args .sheet)) (args .at)
+    (if1 .left) (field-fits .result) (field-fits .ensures ∙ ap fieldFits (field-at .ensures)) (if2 .taken) (known .result)
+    (known-name _ _ (names (signalsFrom (args .count) (drop 7 (now (args .sheet))))) _ (field-at .ensures) (name-in .ensures)
+    (known .ensures)) (if3 .left) (if4 .left) (word-count .result) (word-count .ensures .0) (if5 .left) (if6 .left)
 
 returns-7 : tie.Need-returns-7
 returns-7 c =
@@ -112,7 +128,8 @@ returns-7 c =
     let if1 = c .before .before .before .if1 in
     let field-at = c .before .before .field-at in
     let field-fits = c .before .field-fits in
-    sym (signal-malformed (names (signalsFrom (args .count) (drop 7 (now (args .sheet))))) (now (args .sheet)) (args .at) (if1 .left) (field-fits .result) (field-fits .ensures ∙ ap fieldFits (field-at .ensures)) (c .if2 .left))
+    sym (signal-malformed (names (signalsFrom (args .count) (drop 7 (now (args .sheet))))) (now (args .sheet)) (args .at) (if1 .left)
+    (field-fits .result) (field-fits .ensures ∙ ap fieldFits (field-at .ensures)) (c .if2 .left))
 
 pub signal-fault-spec : {M : Type 1} → statement M
 signal-fault-spec =

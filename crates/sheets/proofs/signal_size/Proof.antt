@@ -16,7 +16,8 @@ add-result : tie.Need-add-result
 add-result c = search needs
 
 returns : tie.Need-returns
-returns c = size-at (drop (c .before .before .args .at) (now (c .before .before .args .sheet))) (c .word-count .result) (c .word-count .ensures .0)
+returns c =
+    size-at (drop (c .before .before .args .at) (now (c .before .before .args .sheet))) (c .word-count .result) (c .word-count .ensures .0)
 
 pub signal-size-spec : {M : Type 1} → statement M
 signal-size-spec = tie.close (tie.spec word-count-requires mul-result add-result returns)

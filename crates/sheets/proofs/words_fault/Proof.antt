@@ -11,7 +11,8 @@ use Rattle.sheets.proofs.words_fault.Statement.{statement}
 use Rattle.sheets.proofs.words_fault.Tie as tie
 
 abbrev Inv-loop : tie.InvT-loop
-Inv-loop s from n head before₀ last₀ at₀ i₀ before last at i = (1 ≤ i) × (at ≤ length s) × (laterWordsFault last before (n - i) (drop at s) ≡ sheetWordsFault n (drop from s))
+Inv-loop s from n head before₀ last₀ at₀ i₀ before last at i =
+    (1 ≤ i) × (at ≤ length s) × (laterWordsFault last before (n - i) (drop at s) ≡ sheetWordsFault n (drop from s))
 
 abbrev μ-loop : tie.MeasureT-loop
 μ-loop s from n head before₀ last₀ at₀ i₀ before last at i = n - i
@@ -36,7 +37,11 @@ add-at : tie.Need-add-at Inv-loop μ-loop
 add-at c = omega arith
 
 loop-holds : tie.Need-loop-holds Inv-loop μ-loop
-loop-holds c = (omega arith, omega arith, words-next (c .before .before .before .before .args .n) (now (c .before .before .before .before .args .s)) (c .before .before .before .before .args .from) (c .before .read32 .result) (c .before .read32 .ensures) (c .before .before .if1 .left) (c .if2 .left))
+loop-holds c =
+    let args = c .before .before .before .before .args in
+    let read32 = c .before .read32 in
+    let long = c .before .before .if1 .left in
+    (omega arith, omega arith, words-next (args .n) (now (args .s)) (args .from) (read32 .result) (read32 .ensures) long (c .if2 .left))
 
 sub-if3 : tie.Need-sub-if3 Inv-loop μ-loop
 sub-if3 c = search needs
@@ -46,7 +51,8 @@ returns-3 c =
     let args = c .before .before .before .before .before .before .before .args in
     let loop = c .before .before .loop in
     let loop-test = c .before .loop-test in
-    sym (later-cut (loop .last) (loop .before) (args .n) (loop .i) (now (args .s)) (loop .at) (loop-test .taken) (c .if3 .taken)) ∙ loop .inv .2
+    sym (later-cut (loop .last) (loop .before) (args .n) (loop .i) (now (args .s)) (loop .at) (loop-test .taken) (c .if3 .taken))
+    ∙ loop .inv .2
 
 read32-requires-2 : tie.Need-read32-requires-2 Inv-loop μ-loop
 read32-requires-2 c κs = search needs
@@ -58,7 +64,8 @@ returns-4 c =
     let loop-test = c .before .before .before .loop-test in
     let if3 = c .before .before .if3 in
     let read322 = c .before .read322 in
-    sym (later-date (loop .last) (loop .before) (args .n) (loop .i) (now (args .s)) (loop .at) (loop-test .taken) (read322 .result) (read322 .ensures) (if3 .left) (c .if4 .taken)) ∙ loop .inv .2
+    sym (later-date (loop .last) (loop .before) (args .n) (loop .i) (now (args .s)) (loop .at) (loop-test .taken) (read322 .result)
+    (read322 .ensures) (if3 .left) (c .if4 .taken)) ∙ loop .inv .2
 
 changes-nothing-requires : tie.Need-changes-nothing-requires Inv-loop μ-loop
 changes-nothing-requires c κs = tt
@@ -72,7 +79,8 @@ returns-5 c =
     let read322 = c .before .before .before .read322 in
     let if4 = c .before .before .if4 in
     let changes-nothing = c .before .changes-nothing in
-    sym (later-same (loop .last) (loop .before) (args .n) (loop .i) (now (args .s)) (loop .at) (loop-test .taken) (read322 .result) (read322 .ensures) (if3 .left) (if4 .left) (sym (changes-nothing .ensures) ∙ c .if5 .taken)) ∙ loop .inv .2
+    sym (later-same (loop .last) (loop .before) (args .n) (loop .i) (now (args .s)) (loop .at) (loop-test .taken) (read322 .result)
+    (read322 .ensures) (if3 .left) (if4 .left) (sym (changes-nothing .ensures) ∙ c .if5 .taken)) ∙ loop .inv .2
 
 add-at-2 : tie.Need-add-at-2 Inv-loop μ-loop
 add-at-2 c = omega arith
@@ -91,8 +99,12 @@ loop-again c =
     let if3 = c .before .before .before .before .if3 in
     let read322 = c .before .before .before .read322 in
     let if4 = c .before .before .if4 in
-    let changes-nothing = c .before .changes-nothing in
-    (omega arith, omega arith, later-next (loop .last) (loop .before) (args .n) (loop .i) (now (args .s)) (loop .at) (loop-test .taken) (read322 .result) (read322 .ensures) (if3 .left) (if4 .left) (sym (changes-nothing .ensures) ∙ c .if5 .left) ∙ loop .inv .2)
+    let changes-nothing = c .before .changes-nothing in (
+      omega arith,
+      omega arith,
+      later-next (loop .last) (loop .before) (args .n) (loop .i) (now (args .s)) (loop .at) (loop-test .taken)
+          (read322 .result) (read322 .ensures) (if3 .left) (if4 .left) (sym (changes-nothing .ensures) ∙ c .if5 .left) ∙ loop .inv .2,
+    )
 
 returns-6 : tie.Need-returns-6 Inv-loop μ-loop
 returns-6 c =

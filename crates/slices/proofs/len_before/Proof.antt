@@ -25,7 +25,11 @@ shared-slice-read-if1 c = search needs
 returns : tie.Need-returns Inv-loop μ-loop
 returns c =
     let args = c .before .before .before .before .args in
-    omega (arith, before-found (args .stop) (now (args .bytes)) (c .before .before .before .loop .i) (c .before .before .loop-test .taken) (c .if1 .taken))
+    omega (
+      arith,
+      before-found (args .stop) (now (args .bytes)) (c .before .before .before .loop .i) (c .before .before .loop-test .taken)
+          (c .if1 .taken),
+    )
 
 add-i : tie.Need-add-i Inv-loop μ-loop
 add-i c = search needs
@@ -35,8 +39,14 @@ loop-less c = search needs
 
 loop-again : tie.Need-loop-again Inv-loop μ-loop
 loop-again c =
-    let args = c .before .before .before .before .args in
-    (omega arith, omega (arith, before-passed (args .stop) (now (args .bytes)) (c .before .before .before .loop .i) (c .before .before .loop-test .taken) (c .if1 .left)))
+    let args = c .before .before .before .before .args in (
+      omega arith,
+      omega (
+        arith,
+        before-passed (args .stop) (now (args .bytes)) (c .before .before .before .loop .i)
+            (c .before .before .loop-test .taken) (c .if1 .left),
+      ),
+    )
 
 returns-2 : tie.Need-returns-2 Inv-loop μ-loop
 returns-2 c =

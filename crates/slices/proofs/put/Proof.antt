@@ -47,8 +47,12 @@ loop-less c = search needs
 loop-again : tie.Need-loop-again Inv-loop μ-loop
 loop-again c =
     let loop = c .before .before .loop in
-    let args = c .before .before .before .before .before .args in
-    (omega arith, simp length-set (omega arith), put-turn (now (args .out)) (args .at) (now (args .bytes)) (loop .i) (loop .out) (omega arith) (c .before .loop-test .taken) (loop .inv .2))
+    let args = c .before .before .before .before .before .args in (
+      omega arith,
+      simp length-set (omega arith),
+      put-turn (now (args .out)) (args .at) (now (args .bytes)) (loop .i) (loop .out) (omega arith) (c .before .loop-test .taken)
+          (loop .inv .2),
+    )
 
 same-length : tie.Need-same-length Inv-loop μ-loop
 same-length c = c .before .loop .inv .1
