@@ -7,7 +7,6 @@ use mathlib.Core.List.{List}
 use lib.Dec.{ltb}
 use lib.ListN.{length, getD, drop}
 use borrow.Author.Tests.{ltb-true, ltb-false}
-use Rattle.signals.specs.Moment.{gap, instant}
 use Rattle.signals.specs.Words.{dateOf, listFault, signalOf}
 use Rattle.signals.specs.Passing.{heldValue, isNext, atDate, afterDate, passedDate}
 use Rattle.signals.proofs.Operand.{At, at-pass, at-take, next-later, value-held}

@@ -1,15 +1,15 @@
 -- The answer of a question: the first fault that is one refuses it, and without a fault the value is told.
 use Prim.Native.Nat.{ℕ, _≤_, _<_}
 use native.Mathlib.Omega.{arith}
-use mathlib.Core.Path.{_≡_, refl, sym, _∙_, ap}
-use mathlib.Core.Bool.{Bool, true, false, cond, _||_, or-true}
+use mathlib.Core.Path.{_≡_, sym, _∙_, ap}
+use mathlib.Core.Bool.{Bool, or-true}
 use mathlib.Core.List.{List}
 use borrow.Author.Tests.{eq-eqb, ne-eqb, lt-ltb, le-ltb}
-use Rattle.signals.specs.Moment.{M, gap, instant}
-use Rattle.signals.specs.Words.{listFault, signalOf}
+use Rattle.signals.specs.Moment.{M}
+use Rattle.signals.specs.Words.{listFault}
 use Rattle.signals.specs.declared.Told.{Told}
-use Rattle.signals.specs.declared.Told.the-variants.{Yes, No, Refused}
-use Rattle.questions.specs.Questions.{instantFault, gapFault, valueAtOf, valueInOf}
+use Rattle.signals.specs.declared.Told.the-variants.{Refused}
+use Rattle.questions.specs.Questions.{instantFault, gapFault}
 use Rattle.signals.specs.Answers.{firstOf, toldValue, toldOf}
 
 module _ (f g : ℕ) (v : Bool) where

@@ -1,16 +1,12 @@
 -- The tests of the scan over moments: the table's value, and a stretch of moments that all show it or all do not.
 use Prim.Native.Nat.{ℕ, _≤_, _<_, max}
-use native.Mathlib.Omega.{arith}
-use mathlib.Core.Path.{_≡_, refl, sym, _∙_, ap}
-use mathlib.Core.Bool.{Bool, true, false, not, cond, Bool·beq, _&&_}
-use mathlib.Core.List.{List, []}
-use lib.Dec.{ltb}
+use mathlib.Core.Path.{_≡_, refl}
+use mathlib.Core.Bool.{Bool, true, false, not, Bool·beq}
+use mathlib.Core.List.{[]}
 use lib.ListN.{getD}
-use borrow.Author.Tests.{eq-eqb, ne-eqb, lt-ltb, le-ltb, ltb-true, ltb-false}
-use Rattle.signals.specs.Signal.{Signal, Table, num, cell}
-use Rattle.signals.specs.Quantified.{Up, Down}
-use Rattle.comparing.specs.Finding.{shows, inStretch, Clear, FirstFrom}
-use Rattle.comparing.specs.declared.Found.{Found}
+use borrow.Author.Tests.{lt-ltb, le-ltb}
+use Rattle.signals.specs.Signal.{Table, num, cell}
+use Rattle.comparing.specs.Finding.{shows, inStretch}
 use Rattle.comparing.specs.declared.Found.the-variants.{In, Nowhere}
 
 wanted : (v : Bool) → v ≡ Bool·beq true v

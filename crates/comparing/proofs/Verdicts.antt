@@ -1,22 +1,19 @@
 -- From the first moment found to the answers of implication and equality.
-use Prim.Native.Nat.{ℕ, _+_, _/_, _%_, _≤_, _<_, max}
+use Prim.Native.Nat.{ℕ, _+_, _/_, _%_, _≤_, _<_}
 use native.Mathlib.Omega.{arith}
-use mathlib.Core.Path.{_≡_, refl, sym, _∙_, ap}
-use mathlib.Core.Logic.{_⊎_, inl, inr, ⊎-elim}
-use mathlib.Core.Bool.{Bool, true, false, not, cond, Bool·beq, _&&_}
+use mathlib.Core.Path.{_≡_, refl, sym, _∙_}
+use mathlib.Core.Bool.{Bool, true, false, not, Bool·beq, _&&_}
 use mathlib.Core.List.{List, [], _∷_}
-use lib.Dec.{leb, ltb, eqb}
-use borrow.Author.Tests.{eq-eqb, ne-eqb, eqb-true, eqb-false, leb-true, leb-false}
+use borrow.Author.Tests.{eq-eqb, ne-eqb}
 use Rattle.signals.specs.Moment.{gap, isGap, tick}
 use Rattle.signals.specs.Signal.{Signal, Table, cell, every, refuted}
 use Rattle.signals.specs.Words.{listFault, pairFault, signalOf}
 use Rattle.signals.specs.Settled.{SettledFrom}
 use Rattle.signals.specs.Quantified.{Up, Down}
 use Rattle.signals.specs.Implication.{verdictOf, failsIn}
-use Rattle.signals.specs.Earliest.{Refutes, FirstRefutes, Judged}
+use Rattle.signals.specs.Earliest.{Refutes}
 use Rattle.signals.specs.declared.Verdict.{Verdict}
 use Rattle.signals.specs.declared.Verdict.the-variants as verdict
-use Rattle.signals.specs.declared.Told.{Told}
 use Rattle.signals.specs.declared.Told.the-variants as told
 use Rattle.signals.proofs.Truth.{not-both, every-of}
 use Rattle.signals.proofs.Implication.{refuted-up, refuted-of, verdict-judged}

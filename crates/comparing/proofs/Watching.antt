@@ -2,18 +2,18 @@
 use Prim.Native.Nat.{ℕ, _+_, _-_, _*_, _≤_, _<_, min, max}
 use native.Mathlib.Omega.{arith}
 use native.Mathlib.Decide.{decLe}
-use mathlib.Core.Path.{_≡_, refl, sym, _∙_, ap}
+use mathlib.Core.Path.{_≡_, refl, sym, _∙_}
 use mathlib.Core.Logic.{_⊎_, inl, inr, ⊎-elim}
-use mathlib.Core.Bool.{Bool, true, false, cond, _&&_}
+use mathlib.Core.Bool.{Bool, true, false, cond}
 use mathlib.Core.List.{List}
-use lib.Dec.{ltb, leb}
+use lib.Dec.{ltb}
 use lib.ListN.{length, getD}
-use borrow.Author.Tests.{ltb-true, ltb-false, leb-true, leb-false}
+use borrow.Author.Tests.{ltb-true, ltb-false}
 use Rattle.signals.specs.Moment.{M, gap, instant}
 use Rattle.signals.specs.Signal.{Signal, Table}
 use Rattle.signals.specs.Words.{dateOf, listFault, signalOf}
 use Rattle.signals.specs.Passing.{heldValue, isNext, atDate, passedDate}
-use Rattle.signals.specs.Quantified.{Up, Down}
+use Rattle.signals.specs.Quantified.{Down}
 use Rattle.signals.proofs.Operand.{At, Passed, at-pass, at-end, next-later}
 use Rattle.signals.proofs.Normal.{accepted-start, accepted-normal}
 use Rattle.lists.specs.Reading.{NEVER, nextDate, stepPast}

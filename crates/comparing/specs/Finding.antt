@@ -1,7 +1,6 @@
 -- The first moment from a moment on at which a table's value of two signals is the one wanted: what the scan's contract says.
 use Prim.Native.Nat.{ℕ, _≤_, _<_, max}
-use mathlib.Core.Path.{_≡_}
-use mathlib.Core.Bool.{Bool, true, false, cond, Bool·beq, _&&_}
+use mathlib.Core.Bool.{Bool, cond, Bool·beq, _&&_}
 use lib.Dec.{ltb}
 use Rattle.signals.specs.Moment.{gap}
 use Rattle.signals.specs.Signal.{Signal, Table, cell}

@@ -1,23 +1,21 @@
 -- The equality that is asked up to the later last date is that of the signals at every moment.
-use Prim.Native.Nat.{ℕ, _≤_, _<_}
+use Prim.Native.Nat.{ℕ}
 use native.Mathlib.Omega.{arith}
 use mathlib.Core.Path.{_≡_, refl, sym, _∙_, ap}
-use mathlib.Core.Logic.{_⊎_, inl, inr, _↔_}
-use mathlib.Core.Bool.{Bool, true, false, cond, Bool·beq}
+use mathlib.Core.Logic.{_⊎_, inl, inr}
+use mathlib.Core.Bool.{Bool, true, false, Bool·beq}
 use mathlib.Core.List.{List}
-use borrow.Author.Tests.{eq-eqb}
 use Rattle.signals.specs.Moment.{gap}
 use Rattle.signals.specs.Signal.{Signal, every}
-use Rattle.signals.specs.Words.{listFault, pairFault, signalOf}
-use Rattle.signals.specs.Settled.{SettledFrom, Same}
+use Rattle.signals.specs.Words.{pairFault, signalOf}
+use Rattle.signals.specs.Settled.{Same}
 use Rattle.signals.specs.Normal.{Accepted}
 use Rattle.signals.specs.Quantified.{Up, Down}
-use Rattle.signals.specs.declared.Told.{Told}
 use Rattle.signals.specs.declared.Told.the-variants.{Yes, No}
-use Rattle.signals.proofs.Truth.{up-or-down, not-both, every-up, every-of}
+use Rattle.signals.proofs.Truth.{up-or-down, not-both, every-of}
 use Rattle.signals.proofs.Normal.{unique-accepted}
 use Rattle.questions.specs.Questions.{laterLast, agreeing, equalOf}
-use Rattle.questions.specs.Equality.{Compared, Equality}
+use Rattle.questions.specs.Equality.{Equality}
 use Rattle.questions.proofs.LaterLast.{settled-a, settled-b, not-every}
 use Rattle.signals.specs.Answers.{firstOf, toldOf, toldValue}
 

@@ -1,16 +1,14 @@
 -- The verdict on two accepted lists is that on their signals.
-use Prim.Native.Nat.{ℕ, _≤_}
-use mathlib.Core.Path.{_≡_, refl}
-use mathlib.Core.Logic.{_↔_}
+use Prim.Native.Nat.{ℕ}
+use mathlib.Core.Path.{_≡_}
 use mathlib.Core.List.{List}
 use Rattle.signals.specs.Moment.{gap, instant}
-use Rattle.signals.specs.Words.{listFault, pairFault, signalOf}
+use Rattle.signals.specs.Words.{pairFault, signalOf}
 use Rattle.signals.specs.Normal.{Accepted}
 use Rattle.signals.specs.Implication.{verdictOf}
-use Rattle.signals.specs.Earliest.{Judged}
 use Rattle.signals.proofs.Implication.{verdict-judged, failsIn-instant, failsIn-gap}
 use Rattle.questions.specs.Questions.{laterLast, impliesOf}
-use Rattle.questions.specs.Implication.{Claimed, Implication}
+use Rattle.questions.specs.Implication.{Implication}
 use Rattle.questions.proofs.LaterLast.{settled-a, settled-b}
 use Rattle.signals.specs.Answers.{firstOf, verdictFor}
 

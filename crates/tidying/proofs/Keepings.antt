@@ -1,21 +1,17 @@
 -- Tidying word by word: what its loop keeps, one turn of it, its end, and the answer of the call.
-use Prim.Native.Nat.{ℕ, zero, suc, _+_, _-_, _≤_, _<_}
+use Prim.Native.Nat.{ℕ, suc, _+_, _-_, _≤_, _<_}
 use native.Mathlib.Omega.{arith}
-use native.Mathlib.Numerals.{add-one}
 use mathlib.Core.Path.{_≡_, refl, sym, _∙_, ap}
-use mathlib.Core.Bool.{Bool, true, false, cond, Bool·beq, _&&_}
+use mathlib.Core.Bool.{Bool, true, false, Bool·beq, _&&_}
 use mathlib.Core.List.{List, [], _∷_, _++_, append-assoc, append-nil}
 use lib.ListN.{length, getD, drop, set, length-set, length-append}
-use lib.Seq.{set-out}
 use borrow.Author.Tests.{eq-eqb, ne-eqb, lt-ltb, le-ltb}
-use Rattle.signals.specs.Moment.{M, gap, instant}
 use Rattle.signals.specs.Signal.{Signal, num}
 use Rattle.signals.specs.Words.{dateOf, word, changesNothing, tidyFault, signalOf, wordsOf, listOf, lastFrom, lastDate}
 use Rattle.signals.specs.Settled.{entry}
-use Rattle.signals.specs.Passing.{heldValue, atDate, afterDate, passedDate}
+use Rattle.signals.specs.Passing.{heldValue, atDate, afterDate}
 use Rattle.signals.specs.Tidying.{tidied}
 use Rattle.signals.specs.Answers.{writtenOf, outputOf}
-use Rattle.signals.specs.declared.Written.{Written}
 use Rattle.signals.specs.declared.Written.the-variants.{Count, Refused}
 use Rattle.signals.proofs.Scan.{scan-to, scan-settled, listOf-scan}
 use Rattle.signals.proofs.Operand.{At, Passed, at-pass, at-end, next-later, words-left, value-held}
@@ -23,7 +19,7 @@ use Rattle.signals.proofs.Normal.{last-le, changes-word, accepted-normal}
 use Rattle.signals.proofs.Tidying.{tidy-start, tidying}
 use Rattle.lists.specs.Reading.{nextDate, stepPast}
 use Rattle.tidying.specs.Calls.{tidyingFault, CallOfTidying}
-use Rattle.tidying.specs.Keeping.{entryOf, putIn, overlay}
+use Rattle.tidying.specs.Keeping.{entryOf, putIn, overlay, KeptWord}
 use Rattle.lists.specs.declared.Step.{Step}
 use Rattle.lists.proofs.Counting.{next-in, passed-next}
 use Rattle.signals.specs.Answers.{firstOf}
@@ -73,18 +69,15 @@ overlay-none (w ∷ ws) (o ∷ old) h = absurd (omega arith)
 
 -- the cases of one word
 module _ (out : List ℕ) (count d : ℕ) (s : Step) (w : ℕ) (e : w ≡ word d (s .at) (s .after)) where
-  abbrev Kept : ℕ → List ℕ → Type 0
-  Kept r after = (r ≡ count + length (entryOf d s)) × (after ≡ putIn out count (entryOf d s))
-
   idle : (v : Bool) → changesNothing (s .before) w ≡ v → Bool·beq (s .at) (s .before) && Bool·beq (s .after) (s .before) ≡ v
   idle v q = sym (changes-word (s .before) (s .at) (s .after) d) ∙ ap (changesNothing (s .before)) (sym e) ∙ q
 
-  pub kept-none : (b : Bool) → b ≡ changesNothing (s .before) w → b ≡ true → Kept count out
+  pub kept-none : (b : Bool) → b ≡ changesNothing (s .before) w → b ≡ true → KeptWord out count d s count out
   unfolding entry putIn
   kept-none b q t = (rw (idle true (sym q ∙ t)) (omega arith), rw (idle true (sym q ∙ t)))
 
   pub kept-one : (b : Bool) → b ≡ changesNothing (s .before) w → b ≡ false → (after : List ℕ) → after ≡ set out count w
-      → Kept (count + 1) after
+      → KeptWord out count d s (count + 1) after
   unfolding entry putIn
   kept-one b q t after p = (rw (idle false (sym q ∙ t)), rw (idle false (sym q ∙ t)) (rw (← e) p))
 
@@ -205,10 +198,7 @@ keep-length l old start out h count passed e k =
 
 -- the call
 module _ (l out : List ℕ) (fault : ℕ) (e : fault ≡ tidyFault l) where
-  abbrev pub Told : Written → List ℕ → Type 0
-  Told r after = (r ≡ writtenOf (tidyingFault l (length out)) (tidied l)) × (after ≡ outputOf (tidyingFault l (length out)) (tidied l) out)
-
-  pub tidy-refused : (fault ≡ 0 → ⊥) → Told (Refused fault) out
+  pub tidy-refused : (fault ≡ 0 → ⊥) → CallOfTidying l out (Refused fault) out
   unfolding tidyingFault firstOf writtenOf outputOf
   tidy-refused n = (rw (← e, ne-eqb fault 0 n, ne-eqb fault 0 n), rw (← e, ne-eqb fault 0 n, ne-eqb fault 0 n))
 
@@ -217,7 +207,7 @@ module _ (l out : List ℕ) (fault : ℕ) (e : fault ≡ tidyFault l) where
     same : part ++ out ≡ out
     same = rw (p ∙ overlay-none (tidied l) [] refl)
 
-    pub tidy-short : length (part ++ out) < count → Told (Refused 7) (part ++ out)
+    pub tidy-short : length (part ++ out) < count → CallOfTidying l out (Refused 7) (part ++ out)
     unfolding tidyingFault firstOf writtenOf outputOf
     tidy-short h =
         let o : length out < length (tidied l) = omega (arith, ap length same) in (
@@ -225,7 +215,7 @@ module _ (l out : List ℕ) (fault : ℕ) (e : fault ≡ tidyFault l) where
           rw (← e, eq-eqb fault 0 z, lt-ltb (length out) (length (tidied l)) o) same,
         )
 
-    pub tidy-done : count ≤ length (part ++ out) → (after : List ℕ) → after ≡ overlay (tidied l) (part ++ out) → Told (Count count) after
+    pub tidy-done : count ≤ length (part ++ out) → (after : List ℕ) → after ≡ overlay (tidied l) (part ++ out) → CallOfTidying l out (Count count) after
     unfolding tidyingFault firstOf writtenOf outputOf
     tidy-done h after q =
         let o : length (tidied l) ≤ length out = omega (arith, ap length same) in (

@@ -1,11 +1,10 @@
 -- `asking::search` meets its contract: the words passed are dated before the date, and the last step passes the date itself.
 use borrow.Author.Needs.{needs}
-use Prim.Native.Nat.{ℕ, _≤_, _<_, _-_}
+use Prim.Native.Nat.{_-_}
 use native.Mathlib.Omega.{arith}
-use mathlib.Core.Path.{_≡_, refl, sym, _∙_, ap}
+use mathlib.Core.Path.{_≡_}
 use lib.ListN.{length}
 use Rattle.lists.specs.Reading.{nextDate}
-use Rattle.lists.specs.declared.Step.{Step}
 use Rattle.asking.proofs.Searching.{Seeking, Turned, seek-start, turn, found}
 use Rattle.asking.proofs.search.Statement.{statement}
 use Rattle.asking.proofs.search.Tie as tie

@@ -1,11 +1,8 @@
 -- `comparing::first_moment` meets its contract: no moment from the asked one up to the gap reached shows the value wanted.
 use borrow.Author.Needs.{needs}
-use Prim.Native.Nat.{ℕ, _+_, _-_, _*_, _≤_, _<_}
+use Prim.Native.Nat.{_+_, _-_, _*_}
 use native.Mathlib.Omega.{arith}
-use mathlib.Core.Path.{_≡_, refl, sym, _∙_, ap}
-use mathlib.Core.Logic.{⊎-elim}
 use lib.ListN.{length}
-use Rattle.signals.specs.Moment.{gap}
 use Rattle.signals.proofs.WordFacts.{date-le}
 use Rattle.comparing.proofs.Watching.{Watching, Turn, Dated, Outcome, P, event, short, watch-start, turn-later, turn-more, turn-on}
 use Rattle.comparing.proofs.Watching.{before-outcome, at-outcome, outcome-in, outcome-none, end-none, end-in, shows-of}

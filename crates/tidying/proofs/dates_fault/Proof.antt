@@ -1,9 +1,9 @@
 -- `tidying::dates_fault` meets its contract: what is left to judge from the word reached has the fault of the whole.
 use borrow.Author.Needs.{needs}
-use Prim.Native.Nat.{ℕ, _≤_, _<_, _-_}
+use Prim.Native.Nat.{_≤_, _-_}
 use native.Mathlib.Omega.{arith}
 use mathlib.Core.Path.{_≡_, refl, sym, _∙_}
-use lib.ListN.{length, getD, drop}
+use lib.ListN.{length, drop}
 use Rattle.signals.specs.Words.{datesFault}
 use Rattle.tidying.proofs.Dates.{dates-3, dates-on, dates-done}
 use Rattle.lists.proofs.Counting.{next-in}

@@ -1,9 +1,9 @@
 -- `tidying::keep_words` meets its contract: the words of the signal up to the date reached are laid over the output.
 use borrow.Author.Needs.{needs}
-use Prim.Native.Nat.{ℕ, _≤_, _<_, _-_}
+use Prim.Native.Nat.{_-_}
 use native.Mathlib.Omega.{arith}
-use mathlib.Core.Path.{_≡_, refl, sym, _∙_}
-use lib.ListN.{length, length-set}
+use mathlib.Core.Path.{_∙_}
+use lib.ListN.{length}
 use Rattle.signals.proofs.WordFacts.{num-le, date-le}
 use Rattle.tidying.proofs.Keepings.{Keeping, keep-start, keep-turn, keep-few, keep-count, keep-over, keep-length, moved}
 use Rattle.lists.proofs.Counting.{next-in}
