@@ -3,7 +3,7 @@ use Prim.Native.Nat.{ℕ, _+_, _-_, _*_, _≤_, _<_}
 use native.Mathlib.Nat.{zero-add}
 use native.Mathlib.Omega.{arith}
 use mathlib.Core.Path.{_≡_, refl, sym, ap, _∙_}
-use mathlib.Core.Bool.{Bool, true, false, not, _||_, cond}
+use mathlib.Core.Bool.{true, false, not, _||_, cond}
 use mathlib.Core.List.{List, [], _∷_, _++_, append-assoc, append-nil}
 use lib.Dec.{leb, ltb}
 use lib.ListN.{length, take, drop, length-append, length-drop}
@@ -23,7 +23,7 @@ use Rattle.format.proofs.ReadBack.{sheet-written, length-signals}
 use Rattle.names.specs.Names.{wellNamed}
 use Rattle.format.specs.Names.{among}
 use Rattle.slices.specs.Bytes.{bytes16, Bytes}
-use Rattle.format.specs.Reading.{mark, sheetFault, countOn, signalsFrom, signalsOn, names, Entry, entry}
+use Rattle.format.specs.Reading.{mark, sheetFault, countOn, signalsOn, names, Entry, entry}
 use Rattle.format.specs.Writing.{entryBytes, entriesBytes, sheetBytes}
 use Rattle.format.specs.Calls.{appended, appendFault}
 use Rattle.slices.specs.Slices.{placed}
@@ -206,12 +206,6 @@ module _ (sheet name list out o₁ o₂ o₃ o₄ : List ℕ) (n : ℕ) (b : Byt
             ∙ placed-front out (appended sheet name list)
             ∙ sym (rw z),
       )
-
--- the name is known among the first of the signals, all of them
-pub known-on : (sheet name : List ℕ) (n : ℕ) {k : Bool} → n ≡ countOn sheet → k ≡ among name (names (signalsFrom n (drop 7 sheet)))
-    → k ≡ among name (names (signalsOn sheet))
-unfolding signalsOn
-known-on sheet name n e h = h ∙ ap (λ (m : ℕ). among name (names (signalsFrom m (drop 7 sheet)))) e
 
 -- what an appending without a fault knows of sizes
 pub record Roomy (sheet name list out : List ℕ) : Type 0 where

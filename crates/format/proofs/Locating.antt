@@ -6,7 +6,7 @@ use mathlib.Core.Bool.{Bool, true, false, cond}
 use mathlib.Core.List.{List, [], _∷_, _++_}
 use lib.Dec.{eqb}
 use lib.ListN.{length, take, drop, length-drop}
-use borrow.Author.Tests.{eq-eqb, ne-eqb, eqb-true, eqb-false}
+use borrow.Author.Tests.{eq-eqb, ne-eqb, eqb-true}
 use Rattle.names.proofs.Truth.{true-false}
 use Rattle.format.proofs.Judging.{sound, foundIn, found-known, Fronted, fronted}
 use Rattle.format.proofs.PlaceSays.{place-says}
@@ -23,7 +23,7 @@ use Rattle.format.specs.declared.Place.the-variants.{At, Refused}
 use Rattle.signals.specs.Answers.{firstOf}
 use Rattle.signals.proofs.FirstFault.{both-none}
 
--- the first of two faults is none: both are
+-- signals without a fault are whole
 pub all-whole : (earlier : List (List ℕ)) (n : ℕ) (rest : List ℕ) → signalsFault earlier n rest ≡ 0 → Whole n rest
 unfolding signalsFault firstOf
 all-whole earlier zero rest h = tt

@@ -8,14 +8,14 @@ use lib.Dec.{eqb}
 use lib.ListN.{length, take, drop, length-append}
 use borrow.Author.Tests.{eq-eqb}
 use Rattle.slices.specs.Slices.{before}
-use Rattle.format.specs.Names.{same, among, unpadded}
+use Rattle.format.specs.Names.{same}
 use Rattle.slices.specs.Bytes.{wordsIn}
-use Rattle.format.specs.Reading.{nameAt, wordCount, signalSize, countOn, signalsOn, signalsFrom, names, Entry, entry}
+use Rattle.format.specs.Reading.{nameAt, wordCount, signalSize, countOn, signalsOn, signalsFrom, Entry, entry}
 use Rattle.format.specs.Writing.{entryBytes, entriesBytes}
-use Rattle.format.specs.Calls.{lookupFault, firstByte, byteCount, placeFrom, placeOn, placeOf}
-use Rattle.format.specs.LookupPlace.{AtItsWords, LookupPlace}
+use Rattle.format.specs.Calls.{lookupFault, firstByte, byteCount, placeFrom, placeOf}
+use Rattle.format.specs.LookupPlace.{LookupPlace}
 use Rattle.format.specs.declared.Place.{Place}
-use Rattle.format.specs.declared.Place.the-variants.{At, Refused}
+use Rattle.format.specs.declared.Place.the-variants.{At}
 use Rattle.names.proofs.Truth.{true-false}
 use Rattle.format.proofs.Steps.{same-equal}
 use Rattle.format.proofs.Judging.{foundIn, found-known}

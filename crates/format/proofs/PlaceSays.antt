@@ -1,5 +1,4 @@
 -- Reading a place and giving it are one definition of its cases.
-use Prim.Native.Nat.{ℕ, _≤_}
 use mathlib.Core.Path.{_≡_, refl}
 use Rattle.signals.proofs.AnswersSay.{by-fault, is-fault}
 use Rattle.format.specs.Calls.{faultOfPlace, firstByte, byteCount, placeFor}

@@ -1,13 +1,13 @@
 -- The calls on sheets, by document 01: begin, check, lookup with its sister, append.
 use Prim.Native.Nat.{ℕ, zero, suc, _+_, _*_}
-use mathlib.Core.Bool.{Bool, true, false, not, cond, _||_}
+use mathlib.Core.Bool.{not, cond, _||_}
 use mathlib.Core.List.{List, [], _∷_, _++_}
 use lib.Dec.{leb, ltb, eqb}
 use lib.ListN.{length, take, drop}
 use Rattle.signals.specs.Words.{listFault}
 use Rattle.names.specs.Names.{wellNamed}
 use Rattle.format.specs.Names.{same, among}
-use Rattle.format.specs.Reading.{nameAt, wordCount, signalSize, sheetFault, countOn, signalsOn, names, Entry, entry}
+use Rattle.format.specs.Reading.{nameAt, wordCount, signalSize, sheetFault, countOn, signalsOn, names, entry}
 use Rattle.format.specs.Writing.{sheetBytes}
 use Rattle.format.specs.declared.Place.{Place}
 use Rattle.format.specs.declared.Place.the-variants.{At, Refused}

@@ -2,7 +2,7 @@
 -- word count; and it holds all the words of its list.
 use Prim.Native.Nat.{ℕ, _+_, _*_}
 use mathlib.Core.Path.{_≡_}
-use mathlib.Core.List.{List, [], _∷_, _++_}
+use mathlib.Core.List.{List, _∷_, _++_}
 use lib.ListN.{length}
 use Rattle.format.specs.Reading.{signalsOn, Entry, entry}
 use Rattle.format.specs.Writing.{entriesBytes}

@@ -1,14 +1,11 @@
 -- The theorems about sheets, each as a type. Bytes are below 256 and words below 2^32, as the slices that hold them are.
 use Prim.Native.Nat.{ℕ, _/_, _≤_}
 use mathlib.Core.Path.{_≡_}
-use mathlib.Core.Bool.{Bool, true, false}
 use mathlib.Core.List.{List, [], _∷_, _++_}
 use lib.ListN.{length}
 use Rattle.signals.specs.Words.{signalOf, listFault}
 use Rattle.slices.specs.Bytes.{Bytes, Words, wordsIn, wordBytes}
-use Rattle.names.specs.Names.{wellNamed}
-use Rattle.format.specs.Names.{among}
-use Rattle.format.specs.Reading.{sheetFault, signalsOn, names, listNamed, environmentOn, Entry, entry}
+use Rattle.format.specs.Reading.{sheetFault, signalsOn, listNamed, environmentOn, Entry, entry}
 use Rattle.format.specs.Writing.{sheetBytes, Holdable}
 use Rattle.format.specs.Calls.{lookupFault, lookupOf, appendFault, appended}
 

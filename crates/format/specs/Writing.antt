@@ -1,7 +1,7 @@
 -- Document 01, "Sheets": the bytes of a sheet that holds these signals, and which signals a sheet can hold.
 use Prim.Native.Nat.{ℕ, _≤_}
 use mathlib.Core.Path.{_≡_}
-use mathlib.Core.Bool.{Bool, true, false}
+use mathlib.Core.Bool.{true, false}
 use mathlib.Core.List.{List, [], _∷_, _++_}
 use lib.ListN.{length}
 use Rattle.signals.specs.Words.{listFault}

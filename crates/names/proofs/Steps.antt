@@ -1,11 +1,10 @@
 -- What the test of names says of a name by its length, and of its characters from a place on.
-use Prim.Native.Nat.{ℕ, suc, _+_, _-_, _≤_, _<_}
+use Prim.Native.Nat.{ℕ, suc, _+_, _≤_, _<_}
 use native.Mathlib.Omega.{arith}
 use mathlib.Core.Path.{_≡_, refl}
 use mathlib.Core.Bool.{true, false, _&&_}
 use mathlib.Core.List.{List, [], _∷_}
-use lib.ListN.{length, getD, take, drop, length-drop}
-use lib.Seq.{take-all}
+use lib.ListN.{length, getD, drop}
 use borrow.Author.Tests.{lt-leb, le-leb}
 use Rattle.slices.proofs.Steps.{drop-step, drop-end}
 use Rattle.names.specs.Names.{letter, digit, nameByte, allOf, wellNamed}

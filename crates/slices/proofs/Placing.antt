@@ -5,15 +5,12 @@ use native.Mathlib.Omega.{arith}
 use mathlib.Core.Path.{_≡_, sym, ap, _∙_}
 use mathlib.Core.List.{List, [], _++_, append-assoc}
 use lib.ListN.{length, getD, set, take, drop, length-append}
-use lib.Seq.{take-length, length-paste, take-paste, drop-paste, drop-drop, paste, paste-zero, paste-suc}
+use lib.Seq.{take-length, take-paste, drop-paste, drop-drop, paste, paste-zero, paste-suc}
 use borrow.Author.Tests.{le-leb, lt-leb}
 use Rattle.slices.specs.Slices.{placed, putAt}
 
 pub placed-as-paste : (out : List ℕ) (at : ℕ) (s : List ℕ) → paste out at s (length s) ≡ placed out at s
 placed-as-paste out at s = rw (take-length s)
-
-pub length-placed : (out : List ℕ) (at : ℕ) (s : List ℕ) → at + length s ≤ length out → length (placed out at s) ≡ length out
-length-placed out at s h = rw (← placed-as-paste out at s) (length-paste out at s (length s) h (omega arith))
 
 pub placed-more : (out : List ℕ) (at : ℕ) (x y : List ℕ) → at + length x + length y ≤ length out
     → placed (placed out at x) (at + length x) y ≡ placed out at (x ++ y)
