@@ -15,6 +15,7 @@ use sheets::MARK;
 use sheets::MOST_SIGNALS;
 use sheets::VERSION;
 use sheets::VERSION_AT;
+use sheets::WORD_BYTES;
 use sheets::WORD_COUNT_AT;
 use sheets::WORDS_AT;
 use signals::Written;
@@ -46,7 +47,7 @@ fn put_words(out: &mut [u8], at: usize, list: &[u32])
 {
     let mut i = 0;
     while i < list.len() {
-        put32(out, at + 4 * i, list[i]);
+        put32(out, at + WORD_BYTES * i, list[i]);
         i += 1;
     }
 }
@@ -104,7 +105,7 @@ fn append_fault(sheet: &[u8], name: &[u8], list: &[u32], room: usize) -> u32
     if MOST_SIGNALS <= slices::read16(sheet, COUNT_AT) {
         return 15;
     }
-    if room < sheet.len() + (WORDS_AT + 4 * list.len()) {
+    if room < sheet.len() + (WORDS_AT + WORD_BYTES * list.len()) {
         return 7;
     }
     0
@@ -124,5 +125,5 @@ pub fn append(sheet: &[u8], name: &[u8], list: &[u32], out: &mut [u8]) -> Writte
     put16(out, COUNT_AT, count + 1);
     slices::put(out, FIRST_AT, &sheet[FIRST_AT..]);
     put_signal(out, end, name, list);
-    Written::Count(end + (WORDS_AT + 4 * list.len()))
+    Written::Count(end + (WORDS_AT + WORD_BYTES * list.len()))
 }

@@ -27,10 +27,12 @@ pub const COUNT_AT: usize = 5;
 
 pub const FIRST_AT: usize = 7;
 
-// Where in a signal its word count and its words stand.
+// Where in a signal its word count and its words stand, and the bytes of a word.
 pub const WORD_COUNT_AT: usize = 8;
 
 pub const WORDS_AT: usize = 10;
+
+pub const WORD_BYTES: usize = 4;
 
 // Two byte strings are alike.
 fn alike(a: &[u8], b: &[u8]) -> bool
@@ -104,7 +106,7 @@ fn signal_size(sheet: &[u8], at: usize) -> usize
     requires { ⌜ at + 10 ≤ length (now sheet) ⌝ }
     ensures { λ r. ⌜ r ≡ signalSize (drop at (now (sheet .entry))) ⌝ }
 {
-    WORDS_AT + 4 * word_count(sheet, at)
+    WORDS_AT + WORD_BYTES * word_count(sheet, at)
 }
 
 // Both values of the word equal the value before it.
@@ -128,7 +130,7 @@ fn words_fault(s: &[u8], from: usize, n: usize) -> u32
     requires { ⌜ from ≤ length (now s) ⌝ }
     ensures { λ r. ⌜ r ≡ sheetWordsFault n (drop from (now (s .entry))) ⌝ }
 {
-    if s.len() - from < 4 {
+    if s.len() - from < WORD_BYTES {
         return 15;
     }
     let head = slices::read32(s, from);
@@ -137,10 +139,10 @@ fn words_fault(s: &[u8], from: usize, n: usize) -> u32
     }
     let mut before = head == 1;
     let mut last: u32 = 0;
-    let mut at = from + 4;
+    let mut at = from + WORD_BYTES;
     let mut i: usize = 1;
     while i < n {
-        if s.len() - at < 4 {
+        if s.len() - at < WORD_BYTES {
             return 15;
         }
         let word = slices::read32(s, at);
@@ -152,7 +154,7 @@ fn words_fault(s: &[u8], from: usize, n: usize) -> u32
         }
         last = word / 4;
         before = word % 2 == 1;
-        at += 4;
+        at += WORD_BYTES;
         i += 1;
     }
     0
@@ -170,7 +172,7 @@ fn find(sheet: &[u8], count: usize, name: &[u8]) -> Place
         if alike(held, name) {
             return Place::At {
                 start: at + WORDS_AT,
-                count: 4 * word_count(sheet, at),
+                count: WORD_BYTES * word_count(sheet, at),
             };
         }
         at += signal_size(sheet, at);
