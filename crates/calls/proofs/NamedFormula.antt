@@ -15,13 +15,14 @@ use Rattle.signals.proofs.Normal.{acceptedNormal, readBack}
 use Rattle.operations.specs.Calls.{changesAfterM}
 use Rattle.grammar.specs.Tree.{Tree, Leaf, leaf, unary, binary, down, up, name}
 use Rattle.grammar.specs.Code.{code}
-use Rattle.grammar.specs.Grammar.{Sum, Product, Factor, isName}
+use Rattle.names.specs.Names.{letter, allOf, nameByte, wellNamed}
+use Rattle.grammar.specs.Grammar.{Sum, Product, Factor}
 use Rattle.grammar.specs.Formula.{formulaTree, formulaFault}
 use Rattle.grammar.specs.Exactness.{LengthIn}
 use Rattle.grammar.proofs.Reading.{tree-of, one-tree, faults-exact}
 use Rattle.grammar.specs.Parts.{parts}
 use Rattle.sheets.specs.Bytes.{Bytes, Words}
-use Rattle.sheets.specs.Names.{letter, lettersOrDigits, wellNamed, among}
+use Rattle.sheets.specs.Names.{among}
 use Rattle.sheets.specs.Reading.{sheetFault, signalsOn, names, listNamed, environmentOn}
 use Rattle.calls.specs.OnSheet.{settlingDate, exactOn, leafFound, namesFound}
 use Rattle.calls.specs.TreesOnSheets.{TreesOnSheets}
@@ -30,11 +31,7 @@ use Rattle.calls.specs.Calls.{readingFault, partFault, partsFault, worki
 use Rattle.calls.proofs.SheetLists.{sheet-sound, named-sound, named-words}
 use Rattle.calls.proofs.PartFaults.{late-of}
 use Rattle.calls.proofs.NotRefused.{Clear}
-use Rattle.calls.proofs.OneNameRule.{one-name-rule}
 use Rattle.signals.proofs.FirstFault.{first-with-none, next-is}
-
-pub is-name : (n : List ℕ) → wellNamed n ≡ true → isName n ≡ true
-is-name n e = one-name-rule n ∙ e
 
 -- words below 2^32 have no date past M
 not-late : (l : List ℕ) → Words l → changesAfterM l ≡ false
@@ -42,7 +39,7 @@ unfolding dateOf
 not-late l h = down-of (changesAfterM l) (λ e. let w = late-of l e in omega (arith, w .2, h (w .0)))
 
 -- a name as a formula
-name-writes : (n : List ℕ) → isName n ≡ true → Sum n (leaf (name n)) 0
+name-writes : (n : List ℕ) → wellNamed n ≡ true → Sum n (leaf (name n)) 0
 name-writes n e = Sum.product (Product.factor (Factor.named e))
 
 -- a leaf has no length
@@ -58,12 +55,12 @@ no-leaf (LengthIn.under h) = tt
 no-leaf (LengthIn.first h) = tt
 no-leaf (LengthIn.second h) = tt
 
-name-fault : (n : List ℕ) → wellNamed n ≡ true → isName n ≡ true → formulaFault n ≡ 0
+name-fault : (n : List ℕ) → wellNamed n ≡ true → formulaFault n ≡ 0
 unfolding wellNamed code
-name-fault [] e f = absurd (not-both {A = ⊥} e refl)
-name-fault (b ∷ bs) e f =
-    let l = leb-true (length (b ∷ bs)) 8 (and-left (leb (length (b ∷ bs)) 8) (letter b && lettersOrDigits bs) e) in
-    let w = name-writes (b ∷ bs) f in
+name-fault [] e = absurd (not-both {A = ⊥} e refl)
+name-fault (b ∷ bs) e =
+    let l = leb-true (length (b ∷ bs)) 8 (and-left (leb (length (b ∷ bs)) 8) (letter b && allOf nameByte bs) e) in
+    let w = name-writes (b ∷ bs) e in
     faults-exact (b ∷ bs) .4 .1 (
       λ t. ⊎-elim (λ z. omega arith) (λ z. omega arith) t,
       λ x. x (leaf (name (b ∷ bs))) 0 w,
@@ -122,14 +119,13 @@ unfolding workingFault wordsOn
 name-served sheet n small ok e =
     let l = listNamed n (signalsOn sheet) in
     let s = named-sound n (signalsOn sheet) (sheet-sound sheet ok) e in
-    let f = is-name n (s .0) in
-    let t : formulaTree n ≡ leaf (name n) = tree-of n (leaf (name n)) 0 (name-writes n f) in
+    let t : formulaTree n ≡ leaf (name n) = tree-of n (leaf (name n)) 0 (name-writes n (s .0)) in
     let x : exactOn sheet (leaf (name n)) ≡ l = name-exact sheet n (s .1) in
     let z = name-fine sheet n small ok e in
     record {
       clear = record {
         sheet-ok = ok;
-        text-ok = text-clear sheet n (name-fault n (s .0) f) t e;
+        text-ok = text-clear sheet n (name-fault n (s .0)) t e;
         parts-ok = rw t (name-parts sheet n z);
       };
       same-words = rw t x;

@@ -1,3 +1,4 @@
 -- Laws that the proofs of the functions cite.
 pub mod Steps
 pub mod Placing
+pub mod Numbers

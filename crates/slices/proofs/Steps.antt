@@ -17,6 +17,10 @@ drop-step l i h = rw (add-one, drop-cons l i 0)
 pub drop-end : (l : List ℕ) (i : ℕ) → length l ≤ i → drop i l ≡ []
 drop-end l i h = drop-of-length-le l {i = i} h
 
+-- a part from a place to the end
+pub part-rest : (l : List ℕ) (a : ℕ) → take (length l - a) (drop a l) ≡ drop a l
+part-rest l a = take-all (length l - a) (drop a l) (rw length-drop (omega arith))
+
 module _ (stop : ℕ) (s : List ℕ) (i : ℕ) where
   pub before-found : i < length s → getD s i 0 ≡ stop → length (before stop (drop i s)) ≡ 0
   unfolding before
@@ -64,13 +68,11 @@ drop-past stop (b ∷ bs) = go (eqb b stop) (drop-past stop bs)
 -- what is left of a part that starts where the loop stopped
 module _ (stop : ℕ) (s : List ℕ) (n : ℕ) (e : n ≡ length (before stop s)) where
   pub past-found : take (length s - (n + 1)) (drop (n + 1) s) ≡ past stop s
-  past-found =
-      take-all (length s - (n + 1)) (drop (n + 1) s) (rw (length-drop (n + 1) s) (omega arith))
-      ∙ rw (add-one n, e) (drop-past stop s)
+  past-found = part-rest s (n + 1) ∙ rw (add-one n, e) (drop-past stop s)
 
   pub past-none : length s ≤ n → take (length s - n) (drop n s) ≡ past stop s
   past-none h =
-      take-all (length s - n) (drop n s) (rw (length-drop n s) (omega arith))
+      part-rest s n
       ∙ drop-end s n h
       ∙ sym (drop-end s (suc n) (omega arith))
       ∙ rw e (drop-past stop s)

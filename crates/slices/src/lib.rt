@@ -1,6 +1,8 @@
-// What sheets and the program's report both do with bytes.
+// What sheets and the program's report do with bytes.
 ghost use mathlib.Core.Path.{_≡_};
-ghost use lib.ListN.{length};
+ghost use Prim.Native.Nat.{_<_};
+ghost use lib.ListN.{length, drop};
+ghost use Rattle.slices.specs.Bytes.{low16, low32};
 ghost use Rattle.slices.specs.Slices.{before, past, putAt};
 
 // The number of bytes before the first that is `stop`; of all bytes when none is.
@@ -34,6 +36,34 @@ pub fn part_after(bytes: &[u8], stop: u8) -> &[u8]
         return &bytes[n + 1..];
     }
     &bytes[n..]
+}
+
+// The 16-bit number at a place, low byte first; bytes past the end are 0.
+pub fn read16(bytes: &[u8], at: usize) -> usize
+    ensures { λ r. ⌜ (r ≡ low16 (drop at (now (bytes .entry)))) × (r < 65536) ⌝ }
+{
+    if bytes.len() <= at {
+        return 0;
+    }
+    let low = bytes[at] as usize;
+    if bytes.len() - at < 2 {
+        return low;
+    }
+    low + 256 * (bytes[at + 1] as usize)
+}
+
+// The 32-bit word at a place, low byte first; bytes past the end are 0.
+pub fn read32(bytes: &[u8], at: usize) -> u32
+    ensures { λ r. ⌜ r ≡ low32 (drop at (now (bytes .entry))) ⌝ }
+{
+    if bytes.len() <= at {
+        return 0;
+    }
+    let low = read16(bytes, at) as u32;
+    if bytes.len() - at <= 2 {
+        return low;
+    }
+    low + 65536 * (read16(bytes, at + 2) as u32)
 }
 
 // Writes bytes into the output at a place; nothing where they do not fit.

@@ -1,0 +1,4 @@
+-- Laws of the test of names, and the theorem that it is the sentence.
+pub mod Truth
+pub mod Steps
+pub mod NamesExact
