@@ -1,5 +1,4 @@
 -- The proofs of the statements of specs/.
-pub mod OneNameRule
 pub mod FirstFault
 pub mod Settles
 pub mod PartFaults

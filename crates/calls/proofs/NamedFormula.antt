@@ -15,7 +15,7 @@ use Rattle.signals.proofs.Normal.{accepted-normal, read-back}
 use Rattle.operations.specs.Calls.{changesAfterM}
 use Rattle.grammar.specs.Tree.{Tree, Leaf, leaf, unary, binary, down, up, name}
 use Rattle.grammar.specs.Code.{code}
-use Rattle.grammar.specs.Grammar.{Sum, Product, Factor, isName}
+use Rattle.grammar.specs.Grammar.{Sum, Product, Factor}
 use Rattle.grammar.specs.Formula.{formulaTree, formulaFault}
 use Rattle.grammar.specs.Exactness.{LengthIn}
 use Rattle.grammar.proofs.Reading.{tree-of, one-tree}
@@ -32,11 +32,7 @@ use Rattle.calls.specs.Calls.{readingFault, partFault, partsFault, worki
 use Rattle.format.proofs.SheetLists.{sheet-sound, named-sound, named-words}
 use Rattle.calls.proofs.PartFaults.{late-of}
 use Rattle.calls.proofs.NotRefused.{Clear}
-use Rattle.calls.proofs.OneNameRule.{one-name-rule}
 use Rattle.signals.proofs.FirstFault.{first-with-none, next-is}
-
-pub is-name : (n : List ℕ) → wellNamed n ≡ true → isName n ≡ true
-is-name n e = one-name-rule n ∙ e
 
 -- words below 2^32 have no date past M
 not-late : (l : List ℕ) → Words l → changesAfterM l ≡ false
@@ -60,12 +56,12 @@ no-leaf (LengthIn.under h) = tt
 no-leaf (LengthIn.first h) = tt
 no-leaf (LengthIn.second h) = tt
 
-name-fault : (n : List ℕ) → wellNamed n ≡ true → isName n ≡ true → formulaFault n ≡ 0
+name-fault : (n : List ℕ) → wellNamed n ≡ true → formulaFault n ≡ 0
 unfolding wellNamed code
-name-fault [] e f = absurd (not-both {A = ⊥} e refl)
-name-fault (b ∷ bs) e f =
+name-fault [] e = absurd (not-both {A = ⊥} e refl)
+name-fault (b ∷ bs) e =
     let l = leb-true (length (b ∷ bs)) 8 (and-left (leb (length (b ∷ bs)) 8) (letter b && allOf nameByte bs) e) in
-    let w = name-writes (b ∷ bs) f in
+    let w = name-writes (b ∷ bs) e in
     of-fine
     (b ∷ bs)
     (record {

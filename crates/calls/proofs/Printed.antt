@@ -13,9 +13,10 @@ use Rattle.signals.specs.declared.Verdict.the-variants.{FailsAt}
 use Rattle.operations.specs.Calls.{changesAfterM}
 use Rattle.grammar.specs.Tree as tree
 use Rattle.grammar.specs.Tree.{Tree}
-use Rattle.grammar.specs.Lengths.{isDigit, allOf, isLength, value}
-use Rattle.grammar.specs.Grammar.{Writes, Sum, Product, Factor, isLower, isNameByte, isName}
-use Rattle.grammar.specs.Grammar as grammar
+use Rattle.names.specs.Names.{digit, allOf, letter, nameByte, wellNamed}
+use Rattle.grammar.specs.Lengths.{isLength, value}
+use Rattle.grammar.specs.Grammar.{Writes, Sum, Product, Factor}
+use Rattle.grammar.specs.Lengths as lengths
 use Rattle.grammar.specs.Reader.{run, next, bad, stepped, expect, put, passLength, valueBetween, prefixKind, leafAt, timed, sumAt, sumsAt, productAt, productsAt, factorAt, latchAt, timerAt, readText}
 use Rattle.grammar.specs.Formula.{timedPart, nameAt, accepted, partsOf, depthOf, longestOf, formulaFault}
 use Rattle.grammar.proofs.Reading.{tree-of}
@@ -56,27 +57,27 @@ unfolding signalsOn signalsFrom names among countOn wordCount signalSize reading
 found-f = refl
 
 -- the texts are read
-name-f : isName printedF ≡ true
-unfolding isName isLower isNameByte allOf
+name-f : wellNamed printedF ≡ true
+unfolding wellNamed letter nameByte allOf
 name-f = refl
 
 f-writes : Writes printedF f 0
 f-writes = Sum.product (Product.factor (Factor.named name-f))
 
 length-two : isLength (50 ∷ []) ≡ true
-unfolding isLength isDigit allOf
+unfolding isLength digit allOf
 length-two = refl
 
 g-writes : Writes printedG g 1
-unfolding value grammar.valueFrom
+unfolding value lengths.valueFrom
 g-writes = Sum.product (Product.factor (Factor.ton (50 ∷ []) length-two f-writes))
 
 f-fine : formulaFault printedF ≡ 0
-unfolding formulaFault accepted longestOf partsOf depthOf readText sumAt sumsAt productAt productsAt factorAt leafAt next stepped put bad expect prefixKind isLower isDigit isNameByte run
+unfolding formulaFault accepted longestOf partsOf depthOf readText sumAt sumsAt productAt productsAt factorAt leafAt next stepped put bad expect prefixKind letter digit nameByte run
 f-fine = refl
 
 g-fine : formulaFault printedG ≡ 0
-unfolding formulaFault accepted longestOf partsOf depthOf readText sumAt sumsAt productAt productsAt factorAt latchAt timerAt timed timedPart passLength valueBetween value grammar.valueFrom leafAt next stepped put bad expect prefixKind isLower isDigit isNameByte run
+unfolding formulaFault accepted longestOf partsOf depthOf readText sumAt sumsAt productAt productsAt factorAt latchAt timerAt timed timedPart passLength valueBetween value lengths.valueFrom leafAt next stepped put bad expect prefixKind letter digit nameByte run
 g-fine = refl
 
 -- their lists

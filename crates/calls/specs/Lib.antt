@@ -1,5 +1,4 @@
 -- Formula calls and claims of two formulas as document 01 defines them, and demands 2 and 3 as predicates of any engine.
-pub mod OneNameRule
 pub mod OnSheet
 pub mod Calls
 pub mod Engine

@@ -107,14 +107,14 @@ fn load(sheet: &[u8], text: &[u8], code: u64, work: &mut [u32], at: usize) -> us
     ensures { λ r. ⌜ Loaded (now (sheet .entry)) (leafOf (now (text .entry)) code) (now (work .entry)) (now (work .exit)) at r ⌝ }
 {
     let kind = code % 16;
-    if kind == formulas::kind::NAME {
+    if kind == marks::kind::NAME {
         let place = (code / 256) as usize;
         let count = (code / 16 % 16) as usize;
         let name = name_of(text, place, count);
         let part = sheets::lookup(sheet, name);
         return put_part(part, work, at);
     }
-    if kind == formulas::kind::UP {
+    if kind == marks::kind::UP {
         put_word(work, at, 1);
         return 1;
     }
@@ -132,20 +132,20 @@ fn apply_unary(code: u64, a: &[u32], buffer: &mut [u32]) -> SlotAnswer
     ensures { λ r. ⌜ Given (unaryExact (unaryOf (code % 16) (code / 16)) (now (a .entry))) (now (buffer .exit)) r ⌝ }
 {
     let kind = code % 16;
-    if kind == formulas::kind::NOT {
+    if kind == marks::kind::NOT {
         return merging::not_in(a, buffer);
     }
-    if kind == formulas::kind::RISING {
+    if kind == marks::kind::RISING {
         return merging::rising_in(a, buffer);
     }
-    if kind == formulas::kind::FALLING {
+    if kind == marks::kind::FALLING {
         return merging::falling_in(a, buffer);
     }
     let ticks = (code / 16 % 4294967296) as u32;
-    if kind == formulas::kind::TON {
-        return operations::delay::ton_in(Length(ticks), a, buffer);
+    if kind == marks::kind::TON {
+        return delays::ton_in(Length(ticks), a, buffer);
     }
-    operations::delay::tof_in(Length(ticks), a, buffer)
+    delays::tof_in(Length(ticks), a, buffer)
 }
 
 // A part of two operands, worked out in a buffer.
@@ -154,13 +154,13 @@ fn apply_binary(code: u64, a: &[u32], b: &[u32], buffer: &mut [u32]) -> SlotAnsw
     ensures { λ r. ⌜ Given (binaryExact (binaryOf (code % 16)) (now (a .entry)) (now (b .entry))) (now (buffer .exit)) r ⌝ }
 {
     let kind = code % 16;
-    if kind == formulas::kind::AND {
+    if kind == marks::kind::AND {
         return merging::connective_in(AND, a, b, buffer);
     }
-    if kind == formulas::kind::OR {
+    if kind == marks::kind::OR {
         return merging::connective_in(OR, a, b, buffer);
     }
-    if kind == formulas::kind::SR {
+    if kind == marks::kind::SR {
         return merging::sr_in(a, b, buffer);
     }
     merging::rs_in(a, b, buffer)
@@ -290,10 +290,10 @@ fn step(
     ensures { λ r. ⌜ Steps (now (sheet .entry)) (now (work .entry)) (now (work .exit)) (now (counts .entry)) base height (partOf (now (text .entry)) code) r ⌝ }
 {
     let kind = code % 16;
-    if kind < formulas::kind::NOT {
+    if kind < marks::kind::NOT {
         return push_leaf(sheet, text, code, work, height, base);
     }
-    if kind < formulas::kind::AND {
+    if kind < marks::kind::AND {
         return on_one(code, work, buffer, counts, height, base);
     }
     if kind < 12 {

@@ -5,17 +5,18 @@ use native.Mathlib.Numerals.{add-one}
 use mathlib.Core.Path.{_≡_, refl, sym, ap, _∙_, subst}
 use mathlib.Core.Bool.{Bool, true, false, cond}
 use mathlib.Core.List.{List, [], _∷_, _++_}
-use lib.Dec.{eqb}
+use lib.Dec.{ltb, eqb}
 use lib.ListN.{length, take, drop, set, length-set, length-drop}
 use lib.Seq.{take-suc-set}
-use borrow.Author.Tests.{eqb-true}
-use Rattle.grammar.specs.Lengths.{isDigit}
-use Rattle.grammar.specs.Reader.{State, next, bad, stepped, expect, put, passLength}
-use Rattle.formulas.specs.Marks.{Mark, viewOf, nextMark, movedMark, expectMark, lengthMark, putMark, putCode, Ready, Done}
+use borrow.Author.Tests.{eqb-true, ltb-true, lt-ltb}
+use Rattle.names.specs.Names.{digit}
+use Rattle.grammar.specs.Reader.{State, run, next, bad, stepped, expect, put, passLength}
+use Rattle.marks.specs.Marks.{Mark, nextMark, lengthEnd}
+use Rattle.formulas.specs.Readers.{viewOf, movedMark, expectMark, lengthMark, putMark, putCode, Ready, Done}
 use Rattle.grammar.proofs.Bytes.{by-cond, never}
 use Rattle.grammar.proofs.Standing.{state-eq}
 use Rattle.grammar.proofs.Carried.{both-ways}
-use Rattle.formulas.proofs.Marking.{inside, run-most}
+use Rattle.marks.proofs.Marking.{inside, run-some, run-most, none-at-0}
 
 pub view-next : (text : List ℕ) (m : Mark) (code : List ℕ) → next text (viewOf m code) ≡ nextMark text m
 unfolding next nextMark
@@ -25,11 +26,19 @@ pub view-expect : (text : List ℕ) (b : ℕ) (m : Mark) (code : List ℕ) → v
 unfolding expectMark expect stepped bad next nextMark
 view-expect text b m code = both-ways (λ (x : Mark). viewOf x code) (eqb (nextMark text m) b) (λ e. refl) (λ e. refl)
 
+-- a length that is next ends after its first byte
+length-some : (text : List ℕ) (m : Mark) → digit (nextMark text m) ≡ true → ltb 0 (m .at + run digit (drop (m .at) text)) ≡ true
+length-some text m e = lt-ltb 0 (m .at + run digit (drop (m .at) text)) (omega (arith, run-some digit text m (none-at-0 false) e))
+
 pub view-length : (text : List ℕ) (m : Mark) (code : List ℕ) → viewOf (lengthMark text m) code ≡ passLength text (viewOf m code)
-unfolding lengthMark passLength stepped bad next nextMark
-view-length text m code =
-    both-ways (λ (x : Mark). viewOf x code) (eqb (nextMark text m) 48) (λ e. refl)
-    (λ e. both-ways (λ (x : Mark). viewOf x code) (isDigit (nextMark text m)) (λ e. refl) (λ e. refl))
+unfolding lengthMark lengthEnd passLength stepped bad next nextMark
+view-length text m code = go (eqb (nextMark text m) 48) refl (digit (nextMark text m)) refl
+  where
+    go : (y : Bool) → eqb (nextMark text m) 48 ≡ y → (z : Bool) → digit (nextMark text m) ≡ z →
+        viewOf (lengthMark text m) code ≡ passLength text (viewOf m code)
+    go true y z e = rw (y, lt-ltb 0 (m .at + 1) (omega arith)) refl
+    go false y true e = rw (y, e, length-some text m e) refl
+    go false y false e = rw (y, e) refl
 
 pub view-put : (m : Mark) (w deep k : ℕ) (code : List ℕ) → (m .ok ≡ true → m .parts < length code) → viewOf (putMark m deep k) (putCode m w code) ≡ put w deep k (viewOf m code)
 unfolding putMark putCode put
@@ -62,16 +71,26 @@ pub record Passed (text : List ℕ) (m r : Mark) : Type 0 where
   pub on : m .at ≤ r .at
   pub within : r .at ≤ length text
 
+length-bounds : (text : List ℕ) (m : Mark) → m .at ≤ length text → 0 < lengthEnd text m →
+    (m .at ≤ lengthEnd text m) × (lengthEnd text m ≤ length text)
+unfolding lengthEnd
+length-bounds text m h =
+    by-cond (λ (n : ℕ). 0 < n → (m .at ≤ n) × (n ≤ length text)) (eqb (nextMark text m) 48)
+    (λ e pos.
+    let i = inside text m 48 (eqb-true (nextMark text m) 48 e) (omega arith) in
+    (omega arith, omega (arith, i .before)))
+    (λ e. by-cond (λ (n : ℕ). 0 < n → (m .at ≤ n) × (n ≤ length text)) (digit (nextMark text m))
+    (λ f pos. (omega arith, omega (arith, run-most digit (drop (m .at) text), length-drop (m .at) text)))
+    (λ f pos. absurd (omega arith)))
+
 pub passed : (text : List ℕ) (m : Mark) → m .at ≤ length text → Passed text m (lengthMark text m)
 unfolding lengthMark
 passed text m h =
-    by-cond (Passed text m) (eqb (nextMark text m) 48)
+    by-cond (Passed text m) (ltb 0 (lengthEnd text m))
     (λ e.
-    let i = inside text m 48 (eqb-true (nextMark text m) 48 e) (omega arith) in
-    record { parts = refl; on = omega arith; within = omega (arith, i .before) })
-    (λ e. by-cond (Passed text m) (isDigit (nextMark text m))
-    (λ f. record { parts = refl; on = omega arith; within = omega (arith, run-most isDigit (drop (m .at) text), length-drop (m .at) text) })
-    (λ f. record { parts = refl; on = omega arith; within = h }))
+    let b = length-bounds text m h (ltb-true 0 (lengthEnd text m) e) in
+    record { parts = refl; on = b .0; within = b .1 })
+    (λ e. record { parts = refl; on = omega arith; within = h })
 
 pub record Put (m r : Mark) : Type 0 where
   pub at : r .at ≡ m .at

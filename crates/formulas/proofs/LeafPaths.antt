@@ -1,87 +1,123 @@
 -- The paths through `leaf`, over plain values.
-use Prim.Native.Nat.{ℕ, zero, _+_, _≤_, _<_}
+use Prim.Native.Nat.{ℕ, _+_, _-_, _≤_, _<_}
 use native.Mathlib.Omega.{arith}
 use mathlib.Core.Path.{_≡_, refl, sym, ap, _∙_, subst}
-use mathlib.Core.Bool.{true, false}
+use mathlib.Core.Bool.{Bool, true, false, cond}
 use mathlib.Core.List.{List}
-use lib.Dec.{eqb}
-use lib.ListN.{length, getD, drop, length-drop}
-use borrow.Author.Tests.{le-leb, lt-leb}
-use Rattle.grammar.specs.Grammar.{isLower, isNameByte}
+use lib.Dec.{leb, eqb}
+use lib.ListN.{length, drop, length-drop}
+use borrow.Author.Tests.{eqb-true, leb-true}
+use Rattle.names.specs.Names.{letter, nameByte}
 use Rattle.grammar.specs.Reader.{State, run, bad, stepped, put, leafAt}
 use Rattle.grammar.specs.Formula.{coded, nameWord}
-use Rattle.formulas.specs.Marks.{Mark, viewOf, nextMark, badMark, movedMark, putMark, putCode, Ready, LeafRead}
-use Rattle.grammar.proofs.Bytes.{lower-low, lower-not}
-use Rattle.formulas.proofs.Marking.{inside, run-on, run-most}
-use Rattle.formulas.proofs.Doing.{view-next, starting, moving-by, moving, putting, becoming, turned, roomy}
+use Rattle.marks.specs.Marks.{Mark, nextMark, leafEnd}
+use Rattle.marks.proofs.Marking.{inside, run-some, run-most, none-at-0}
+use Rattle.formulas.specs.Readers.{viewOf, badMark, movedMark, leafWord, putMark, putCode, Ready, Done, LeafRead}
+use Rattle.grammar.proofs.Bytes.{by-cond}
+use Rattle.formulas.proofs.Doing.{view-next, starting, moving-by, putting, becoming, turned, roomy}
+
+-- the letters and digits from the mark on
+abbrev count : List ℕ → Mark → ℕ
+count text m = run nameByte (drop (m .at) text)
+
+-- a letter begins a name
+letter-name : (b : ℕ) → letter b ≡ true → nameByte b ≡ true
+unfolding nameByte
+letter-name b e = rw e refl
+
+-- a constant or name has a byte, and ends in the text
+pub record Leaf (text : List ℕ) (m : Mark) (n : ℕ) : Type 0 where
+  pub some : m .at < n
+  pub within : n ≤ length text
+
+abbrev Ends : List ℕ → Mark → ℕ → Type 0
+Ends text m n = 0 < n → Leaf text m n
+
+pub leaf-bounds : (text : List ℕ) (m : Mark) → m .at ≤ length text → 0 < leafEnd text m → Leaf text m (leafEnd text m)
+unfolding leafEnd
+leaf-bounds text m h =
+    by-cond (Ends text m) (eqb (nextMark text m) 48) (λ e pos. one-byte 48 (eqb-true (nextMark text m) 48 e) (omega arith))
+    (λ e. by-cond (Ends text m) (eqb (nextMark text m) 49) (λ e pos. one-byte 49 (eqb-true (nextMark text m) 49 e) (omega arith))
+    (λ e. by-cond (Ends text m) (letter (nextMark text m))
+    (λ low. by-cond (Ends text m) (leb (count text m) 8) (λ e pos. name low) (λ e pos. absurd (omega arith)))
+    (λ e pos. absurd (omega arith))))
+  where
+    one-byte : (b : ℕ) → nextMark text m ≡ b → 0 < b → Leaf text m (m .at + 1)
+    one-byte b e pos = let i = inside text m b e pos in record { some = omega arith; within = omega (arith, i .before) }
+
+    name : letter (nextMark text m) ≡ true → Leaf text m (m .at + count text m)
+    name low =
+        record {
+          some = omega (arith, run-some nameByte text m (none-at-0 true) (letter-name (nextMark text m) low));
+          within = omega (arith, run-most nameByte (drop (m .at) text), length-drop (m .at) text);
+        }
 
 module _ (text old : List ℕ) (m : Mark) (deep : ℕ) (g : Ready text old m deep) where
-  abbrev stepping : ℕ → State ℕ → State ℕ
-  stepping n s = stepped 1 s
+  -- what is put out for a constant or name
+  leaf-put : 0 < leafEnd text m →
+      leafAt coded text deep (viewOf m old)
+      ≡ put (leafWord (nextMark text m) (m .at) (leafEnd text m)) deep 0 (stepped (leafEnd text m - m .at) (viewOf m old))
+  unfolding leafAt leafEnd leafWord
+  leaf-put h =
+      go (eqb (nextMark text m) 48) refl (eqb (nextMark text m) 49) refl (letter (nextMark text m)) refl (leb (count text m) 8) refl h
+    where
+      after : (w k n : ℕ) → k ≡ n → put w deep 0 (stepped k (viewOf m old)) ≡ put w deep 0 (stepped n (viewOf m old))
+      after w k n e = ap (λ (j : ℕ). put w deep 0 (stepped j (viewOf m old))) e
 
-  constant-strict : (movedMark m (m .at + 1)) .ok ≡ true → (movedMark m (m .at + 1)) .parts + m .at + 1 ≤ m .parts + (movedMark m (m .at + 1)) .at
-  constant-strict h = omega arith
+      go : (p : Bool) → eqb (nextMark text m) 48 ≡ p → (q : Bool) → eqb (nextMark text m) 49 ≡ q → (r : Bool) → letter (nextMark text m) ≡ r →
+          (s : Bool) → leb (count text m) 8 ≡ s → 0 < leafEnd text m →
+          leafAt coded text deep (viewOf m old)
+          ≡ put (leafWord (nextMark text m) (m .at) (leafEnd text m)) deep 0 (stepped (leafEnd text m - m .at) (viewOf m old))
+      go true p q e r f s k pos = rw (view-next text m old, p) (after 0 1 (m .at + 1 - m .at) (omega arith))
+      go false p true e r f s k pos = rw (view-next text m old, p, e) (after 1 1 (m .at + 1 - m .at) (omega arith))
+      go false p false e true f true k pos =
+          let n : count text m ≡ m .at + count text m - m .at = omega arith in
+          rw (view-next text m old, p, e, f, k)
+          (ap (λ (j : ℕ). put (nameWord (m .at) j) deep 0 (stepped j (viewOf m old))) n ∙ refl)
+      go false p false e true f false k pos = let z : 0 < 0 = rw (p, e, f, k) at pos in absurd (omega arith)
+      go false p false e false f s k pos = let z : 0 < 0 = rw (p, e, f) at pos in absurd (omega arith)
 
-  pub constant-room : (b : ℕ) → nextMark text m ≡ b → 0 < b → (x : Mark) → x ≡ movedMark m (m .at + 1) → x .ok ≡ true → x .parts < 1024
-  constant-room b e pos x q =
-      subst (λ (y : Mark). y .ok ≡ true → y .parts < 1024) (sym q) (roomy g (moving (starting 0 g) (inside text m b e pos .before)) constant-strict)
+  leaf-none : leafEnd text m ≤ 0 → leafAt coded text deep (viewOf m old) ≡ bad (viewOf m old)
+  unfolding leafAt leafEnd
+  leaf-none h =
+      go (eqb (nextMark text m) 48) refl (eqb (nextMark text m) 49) refl (letter (nextMark text m)) refl (leb (count text m) 8) refl h
+    where
+      go : (p : Bool) → eqb (nextMark text m) 48 ≡ p → (q : Bool) → eqb (nextMark text m) 49 ≡ q → (r : Bool) → letter (nextMark text m) ≡ r →
+          (s : Bool) → leb (count text m) 8 ≡ s → leafEnd text m ≤ 0 → leafAt coded text deep (viewOf m old) ≡ bad (viewOf m old)
+      go true p q e r f s k none = let z : m .at + 1 ≤ 0 = rw p at none in absurd (omega arith)
+      go false p true e r f s k none = let z : m .at + 1 ≤ 0 = rw (p, e) at none in absurd (omega arith)
+      go false p false e true f true k none =
+          let z : m .at + count text m ≤ 0 = rw (p, e, f, k) at none in
+          absurd (omega (arith, run-some nameByte text m (none-at-0 true) (letter-name (nextMark text m) f)))
+      go false p false e true f false k none = rw (view-next text m old, p, e, f, k) refl
+      go false p false e false f s k none = rw (view-next text m old, p, e, f) refl
 
-  pub constant-path : (b kind : ℕ) → nextMark text m ≡ b → 0 < b → leafAt coded text deep (viewOf m old) ≡ put kind deep 0 (stepped 1 (viewOf m old)) →
-      (x r : Mark) (new : List ℕ) → x ≡ movedMark m (m .at + 1) → r ≡ putMark x deep 0 → new ≡ putCode x kind old → LeafRead text deep m old new r
-  constant-path b kind e pos f x r new q qr qn =
-      let d = putting kind deep 0 g (moving (starting 0 g) (inside text m b e pos .before)) constant-strict in
-      turned (qn ∙ ap (λ (y : Mark). putCode y kind old) q) (qr ∙ ap (λ (y : Mark). putMark y deep 0) q) (becoming d (λ n. f))
+  module _ (h : 0 < leafEnd text m) where
+    ends : Leaf text m (leafEnd text m)
+    ends = leaf-bounds text m (g .within) h
 
-  pub zero-is : nextMark text m ≡ 48 → leafAt coded text deep (viewOf m old) ≡ put 0 deep 0 (stepped 1 (viewOf m old))
-  unfolding leafAt
-  zero-is e = rw (view-next text m old, e) refl
+    past : Done (λ n s. stepped (leafEnd text m - m .at) s) 0 text m old old (movedMark m (leafEnd text m))
+    past =
+        let e : leafEnd text m ≡ m .at + (leafEnd text m - m .at) = omega (arith, ends .some) in
+        turned refl (ap (movedMark m) e) (moving-by (leafEnd text m - m .at) (starting 0 g) (omega (arith, ends .some, ends .within)))
 
-  pub one-is : nextMark text m ≡ 49 → leafAt coded text deep (viewOf m old) ≡ put 1 deep 0 (stepped 1 (viewOf m old))
-  unfolding leafAt
-  one-is e = rw (view-next text m old, e) refl
+    strict : (movedMark m (leafEnd text m)) .ok ≡ true →
+        (movedMark m (leafEnd text m)) .parts + m .at + 1 ≤ m .parts + (movedMark m (leafEnd text m)) .at
+    strict ok = omega (arith, ends .some)
 
-  abbrev count : ℕ
-  count = run isNameByte (drop (m .at) text)
+    pub leaf-room : (x : Mark) → x ≡ movedMark m (leafEnd text m) → x .ok ≡ true → x .parts < 1024
+    leaf-room x q = subst (λ (y : Mark). y .ok ≡ true → y .parts < 1024) (sym q) (roomy g past strict)
 
-  count-most : m .at + count ≤ length text
-  count-most = let h = run-most isNameByte (drop (m .at) text) in omega (arith, h, length-drop (m .at) text, g .within)
+    pub leaf-path : (w : ℕ) → w ≡ leafWord (nextMark text m) (m .at) (leafEnd text m) → (x r : Mark) (new : List ℕ) →
+        x ≡ movedMark m (leafEnd text m) → r ≡ putMark x deep 0 → new ≡ putCode x w old → LeafRead text deep m old new r
+    leaf-path w e x r new q qr qn =
+        let d = putting w deep 0 g past strict in
+        turned (qn ∙ ap (λ (y : Mark). putCode y w old) q) (qr ∙ ap (λ (y : Mark). putMark y deep 0) q)
+        (becoming d (λ n. leaf-put h ∙ ap (λ (v : ℕ). put v deep 0 (stepped (leafEnd text m - m .at) (viewOf m old))) (sym e)))
 
-  count-some : isLower (nextMark text m) ≡ true → 0 < count
-  unfolding isNameByte nextMark
-  count-some low =
-      let l = lower-low (nextMark text m) low in
-      let i = inside text m (nextMark text m) refl (omega arith) in
-      let b : isLower (getD text (m .at) 0) ≡ true = rw (i .fine) at low in
-      omega (arith, run-on isNameByte text (m .at) (i .before) (rw b refl))
-
-  name-strict : isLower (nextMark text m) ≡ true → (movedMark m (m .at + count)) .ok ≡ true → (movedMark m (m .at + count)) .parts + m .at + 1 ≤ m .parts + (movedMark m (m .at + count)) .at
-  name-strict low h = omega (arith, count-some low)
-
-  pub name-room : isLower (nextMark text m) ≡ true → (x : Mark) → x ≡ movedMark m (m .at + count) → x .ok ≡ true → x .parts < 1024
-  name-room low x q =
-      subst (λ (y : Mark). y .ok ≡ true → y .parts < 1024) (sym q) (roomy g (moving-by count (starting 0 g) count-most) (name-strict low))
-
-  name-is : isLower (nextMark text m) ≡ true → count ≤ 8 → leafAt coded text deep (viewOf m old) ≡ put (nameWord (m .at) count) deep 0 (stepped count (viewOf m old))
-  unfolding leafAt
-  name-is low short =
-      let k = lower-not (nextMark text m) low in
-      rw (view-next text m old, k .zero, k .one, low, le-leb count 8 short) refl
-
-  pub name-path : isLower (nextMark text m) ≡ true → count ≤ 8 → (x r : Mark) (new : List ℕ) → x ≡ movedMark m (m .at + count) →
-      r ≡ putMark x deep 0 → new ≡ putCode x (nameWord (m .at) count) old → LeafRead text deep m old new r
-  name-path low short x r new q qr qn =
-      let d = putting (nameWord (m .at) count) deep 0 g (moving-by count (starting 0 g) count-most) (name-strict low) in
-      turned (qn ∙ ap (λ (y : Mark). putCode y (nameWord (m .at) count) old) q) (qr ∙ ap (λ (y : Mark). putMark y deep 0) q) (becoming d (λ n. name-is low short))
-
-  pub bad-path : (r : Mark) → r ≡ badMark m → leafAt coded text deep (viewOf m old) ≡ bad (viewOf m old) → LeafRead text deep m old old r
+  pub bad-path : leafEnd text m ≤ 0 → (r : Mark) → r ≡ badMark m → LeafRead text deep m old old r
   unfolding bad
-  bad-path r q f =
-      turned refl q (becoming {G = λ n s. bad s} (record { same = λ n h. refl; room = g .room; within = g .within; on = omega arith; few = omega arith }) (λ n. f))
-
-  pub long-is : eqb (nextMark text m) 48 ≡ false → eqb (nextMark text m) 49 ≡ false → isLower (nextMark text m) ≡ true → 8 < count → leafAt coded text deep (viewOf m old) ≡ bad (viewOf m old)
-  unfolding leafAt
-  long-is a b c d = rw (view-next text m old, a, b, c, lt-leb count 8 d) refl
-
-  pub other-is : eqb (nextMark text m) 48 ≡ false → eqb (nextMark text m) 49 ≡ false → isLower (nextMark text m) ≡ false → leafAt coded text deep (viewOf m old) ≡ bad (viewOf m old)
-  unfolding leafAt
-  other-is a b c = rw (view-next text m old, a, b, c) refl
+  bad-path h r q =
+      turned refl q
+      (becoming {G = λ n s. bad s} (record { same = λ n h. refl; room = g .room; within = g .within; on = omega arith; few = omega arith })
+      (λ n. leaf-none h))

@@ -1,13 +1,15 @@
 -- The words of a mark that is lent, as the reader's steps store them, and a text lent as the front of a page.
-use Prim.Native.Nat.{ℕ, zero, suc, _+_, _-_, _≤_, max}
+use Prim.Native.Nat.{ℕ, zero, suc, _+_, _-_, _≤_, min, max}
 use native.Mathlib.Omega.{arith}
-use mathlib.Core.Path.{_≡_, refl}
+use mathlib.Core.Path.{_≡_, refl, sym, _∙_}
 use mathlib.Core.List.{List, [], _∷_}
 use lib.ListN.{length, getD, set, take, drop}
 use lib.Seq.{take-take, length-take-le}
 use borrow.Author.Tests.{eq-eqb}
 use Rattle.grammar.specs.Reader.{valueBetween}
-use Rattle.formulas.specs.Marks.{markOf, Marked, Lent, badMark, movedMark, putMark}
+use Rattle.marks.specs.Marks.{markOf, lent, numberAt}
+use Rattle.marks.proofs.Marking.{number-between}
+use Rattle.formulas.specs.Readers.{Marked, Lent, badMark, movedMark, putMark}
 
 -- a list of five is five elements
 five : (P : List ℕ → Type 0) → ((a b c d e : ℕ) → P (a ∷ b ∷ c ∷ d ∷ e ∷ [])) → (l : List ℕ) → length l ≡ 5 → P l
@@ -44,12 +46,21 @@ part-front l zero (suc a) k h = absurd (omega arith)
 part-front [] (suc n) (suc a) k h = refl
 part-front (x ∷ l) (suc n) (suc a) k h = part-front l n a k (omega arith)
 
-pub value-front : (page : List ℕ) (bytes a e : ℕ) → a ≤ e → e ≤ bytes → valueBetween (take bytes page) a e ≡ valueBetween page a e
-unfolding valueBetween
-value-front page bytes a e h k = rw (part-front page bytes a (e - a) (omega arith)) refl
+pub text-long : {page m : List ℕ} {bytes : ℕ} → Lent page bytes m → length (lent page bytes) ≡ bytes
+unfolding lent
+text-long {page} {m} {bytes} l =
+    let e = length-take-le (min bytes 1024) page (omega (arith, l .whole, l .first)) in omega (arith, l .first)
 
-pub text-long : {page m : List ℕ} {bytes : ℕ} → Lent page bytes m → length (take bytes page) ≡ bytes
-text-long {page} {m} {bytes} l = length-take-le bytes page (omega (arith, l .whole, l .first))
+-- the number that bytes of a lent text write
+value-front : (page : List ℕ) (bytes a e : ℕ) → a ≤ e → e ≤ min bytes 1024 → valueBetween (lent page bytes) a e ≡ valueBetween page a e
+unfolding valueBetween lent
+value-front page bytes a e h k = rw (part-front page (min bytes 1024) a (e - a) (omega arith)) refl
+
+pub number-lent : {page m : List ℕ} {bytes : ℕ} → Lent page bytes m → (a e : ℕ) → a ≤ e → e ≤ bytes →
+    numberAt page a (min e 1024 - a) ≡ valueBetween (lent page bytes) a e
+number-lent {page} {m} {bytes} l a e h k =
+    let q : min e 1024 ≡ e = omega (arith, l .first) in
+    rw q (number-between page a e h (omega (arith, l .whole, l .first)) ∙ sym (value-front page bytes a e h (omega (arith, l .first))))
 
 pub lent-on : {page m r : List ℕ} {bytes : ℕ} → Lent page bytes m → length r ≡ 5 → Lent page bytes r
 lent-on l h = record { whole = l .whole; first = l .first; five = h }

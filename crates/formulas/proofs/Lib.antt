@@ -1,6 +1,5 @@
 -- Lemmas on the reader's steps and paths.
 pub mod Lending
-pub mod Marking
 pub mod Doing
 pub mod LeafPaths
 pub mod ReaderPaths

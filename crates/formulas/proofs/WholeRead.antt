@@ -1,5 +1,5 @@
 -- A text read from its first byte on, over plain values: the mark's fault is the formula's, and the words put out are its code words.
-use Prim.Native.Nat.{ℕ, _+_, _*_, _≤_, _<_}
+use Prim.Native.Nat.{ℕ, _+_, _*_, _≤_, _<_, min}
 use native.Mathlib.Omega.{arith}
 use native.Mathlib.Decide.{decLt}
 use mathlib.Core.Path.{_≡_, refl, sym, ap, _∙_, subst}
@@ -14,7 +14,8 @@ use Rattle.signals.specs.Answers.{writtenOf}
 use Rattle.signals.specs.declared.Written.the-variants as written
 use Rattle.grammar.specs.Reader.{State, readText}
 use Rattle.grammar.specs.Formula.{spelled, coded, capped, partOf, accepted, partsOf, depthOf, longestOf, formulaFault, codeOf, codeAfter}
-use Rattle.formulas.specs.Marks.{Mark, markOf, viewOf, Ready, SumRead, Begun, markFault}
+use Rattle.marks.specs.Marks.{Mark, markOf, markFault, lent}
+use Rattle.formulas.specs.Readers.{viewOf, Ready, SumRead, Begun}
 use Rattle.grammar.proofs.Coding.{coded-run, cutPart}
 use Rattle.grammar.proofs.Storing.{sets-front}
 
@@ -25,8 +26,12 @@ pub ready-first : (text old : List ℕ) → length text ≤ 1024 → length old 
 ready-first text old h r = record { short = h; room = r; within = omega arith; fewer = omega arith; opened = omega arith }
 
 -- a text that was laid on a page is the page's front
-laid : (text blank : List ℕ) {page : List ℕ} → page ≡ sets blank 0 text → length text ≤ length blank → take (length text) page ≡ text
-laid text blank e h = rw (e, sets-front text blank h) (take-append-seam text (drop (length text) blank))
+laid : (text blank : List ℕ) {page : List ℕ} → page ≡ sets blank 0 text → length text ≤ length blank → length text ≤ 1024 →
+    lent page (length text) ≡ text
+unfolding lent
+laid text blank e h k =
+    let q : min (length text) 1024 ≡ length text = omega arith in
+    rw (q, e, sets-front text blank h) (take-append-seam text (drop (length text) blank))
 
 -- at the first byte, the words of the mark and a page with the text on it
 abbrev begin : List ℕ
@@ -36,13 +41,13 @@ pub begun : (text blank : List ℕ) {page words : List ℕ} → page ≡ sets bl
 unfolding markOf
 begun text blank {page} {words} e b h w = (
   record { whole = ap length e ∙ length-sets blank 0 text ∙ b; first = h; five = refl },
-  subst (λ (t : List ℕ). Ready t words first 0) (sym (laid text blank e (omega arith))) (ready-first text words h w),
+  subst (λ (t : List ℕ). Ready t words first 0) (sym (laid text blank e (omega arith) h)) (ready-first text words h w),
 )
 
 pub as-laid : (text blank : List ℕ) {page old new : List ℕ} {m : Mark} → page ≡ sets blank 0 text → length blank ≡ 1024 → length text ≤ 1024 →
-    SumRead (take (length text) page) 0 (markOf begin) old new m → SumRead text 0 first old new m
+    SumRead (lent page (length text)) 0 (markOf begin) old new m → SumRead text 0 first old new m
 unfolding markOf
-as-laid text blank {page} {old} {new} {m} e b h d = subst (λ (t : List ℕ). SumRead t 0 first old new m) (laid text blank e (omega arith)) d
+as-laid text blank {page} {old} {new} {m} e b h d = subst (λ (t : List ℕ). SumRead t 0 first old new m) (laid text blank e (omega arith) h) d
 
 capped-over : (n : ℕ) → ltb M (capped n) ≡ ltb M n
 unfolding capped

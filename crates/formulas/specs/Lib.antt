@@ -1,2 +1,2 @@
--- What the reader's private contracts cite.
-pub mod Marks
+-- What the contract of `read` and the private contracts of its readers cite.
+pub mod Readers

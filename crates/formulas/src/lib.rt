@@ -1,5 +1,4 @@
 // The formula reader: the fault of a formula, or its parts as code words in working-out order.
-pub mod kind;
 mod mark;
 mod reader;
 
@@ -7,46 +6,14 @@ ghost use mathlib.Core.Path.{_≡_};
 ghost use Prim.Native.Nat.{_≤_};
 ghost use lib.ListN.{length, take};
 ghost use lib.Seq.{sets};
-ghost use Rattle.signals.specs.Answers.{writtenOf};
-ghost use Rattle.grammar.specs.Formula.{formulaFault, codeOf, codeAfter};
-ghost use Rattle.formulas.specs.Marks.{markOf, markFault};
-use mark::AT;
-use mark::DEEPEST;
-use mark::LONGEST;
-use mark::OK;
-use mark::PARTS;
+ghost use Rattle.formulas.specs.Readers.{CallOfRead};
+use marks::OK;
+use marks::PARTS;
+use marks::fault_of;
 use signals::Written;
 
-// The most bytes that a formula has, the most parts, the largest depth, and M, the largest length.
+// The most bytes that a formula has.
 const MOST_BYTES: usize = 1024;
-
-const MOST_PARTS: usize = 32;
-
-const MOST_DEPTH: usize = 16;
-
-const MOST_LENGTH: usize = signals::M as usize;
-
-// The fault of a text of so many bytes that was read up to the mark: 11, 8, 12, 0 for none.
-fn fault_of(m: &[usize; 5], bytes: usize) -> u32
-    ensures { λ r. ⌜ r ≡ markFault (markOf (now (m .entry))) bytes ⌝ }
-{
-    if m[OK] == 1 {
-        if m[AT] < bytes {
-            return 11;
-        }
-        if MOST_LENGTH < m[LONGEST] {
-            return 8;
-        }
-        if MOST_PARTS < m[PARTS] {
-            return 12;
-        }
-        if MOST_DEPTH < m[DEEPEST] {
-            return 12;
-        }
-        return 0;
-    }
-    11
-}
 
 // Copies the text to the front of the page.
 fn lay(text: &[u8], page: &mut [u8; 1024])
@@ -74,7 +41,7 @@ fn copy(words: &[u64], count: usize, code: &mut [u64; 32])
 
 // Reads a formula: faults 10, 11, 8, 12; else how many code words it wrote, one for each part in working-out order.
 pub fn read(text: &[u8], code: &mut [u64; 32]) -> Written
-    ensures { λ r. ⌜ (r ≡ writtenOf (formulaFault (now (text .entry))) (codeOf (now (text .entry)))) × (now (code .exit) ≡ codeAfter (now (text .entry)) (now (code .entry))) ⌝ }
+    ensures { λ r. ⌜ CallOfRead (now (text .entry)) (now (code .entry)) r (now (code .exit)) ⌝ }
 {
     let bytes = text.len();
     if bytes == 0 {

@@ -1,49 +1,46 @@
 // Sum, product and factor readers that call each other: the rest of a chain, a latch and a timer are readers of their own.
-ghost use Prim.Native.Nat.{_+_, _<_};
-ghost use lib.ListN.{take};
-ghost use Rattle.formulas.specs.Marks.{Begun, Left, LeafRead, SumRead, SumsRead, ProductRead, ProductsRead};
-ghost use Rattle.formulas.specs.Marks.{FactorRead, LatchRead, TimerRead};
-use crate::kind;
-use crate::mark::AT;
+ghost use mathlib.Core.Path.{_≡_};
+ghost use Prim.Native.Nat.{_+_, _≤_, _<_};
+ghost use Rattle.marks.specs.Marks.{lent};
+ghost use Rattle.formulas.specs.Readers.{Begun, Left, leafWord, LeafRead, SumRead, SumsRead, ProductRead, ProductsRead};
+ghost use Rattle.formulas.specs.Readers.{FactorRead, LatchRead, TimerRead};
 use crate::mark::expect;
 use crate::mark::fail;
-use crate::mark::is_lower;
 use crate::mark::move_to;
-use crate::mark::next;
 use crate::mark::pass_length;
-use crate::mark::prefix_kind;
 use crate::mark::put;
-use crate::mark::run_end;
-use crate::mark::ticks;
+use marks::AT;
+use marks::kind;
+use marks::leaf_end;
+use marks::next;
+use marks::prefix_kind;
+use marks::ticks;
+
+// The code word of a constant or name from `at` up to `end`, of which `b` is the first byte.
+fn leaf_word(b: u8, at: usize, end: usize) -> u64
+    requires { ⌜ (at ≤ end) × (end ≤ 1024) ⌝ }
+    ensures { λ r. ⌜ r ≡ leafWord b at end ⌝ }
+{
+    if b == b'0' {
+        return kind::DOWN;
+    }
+    if b == b'1' {
+        return kind::UP;
+    }
+    (at as u64 * 16 + (end - at) as u64) * 16 + kind::NAME
+}
 
 // 0, 1 or a name.
 fn leaf(text: &[u8; 1024], bytes: usize, code: &mut [u64; 1024], m: &mut [usize; 5], deep: usize)
     requires { ⌜ Begun (now text) bytes (now code) (now m) deep ⌝ }
-    ensures { λ _. ⌜ Left (LeafRead (take bytes (now (text .entry))) deep) (now (m .entry))
+    ensures { λ _. ⌜ Left (LeafRead (lent (now (text .entry)) bytes) deep) (now (m .entry))
         (now (code .entry)) (now (code .exit)) (now (m .exit)) ⌝ }
 {
-    let at = m[AT];
-    let b = next(text, bytes, m);
-    if b == b'0' {
-        move_to(m, at + 1);
-        put(code, m, kind::DOWN, deep, 0);
-        return;
-    }
-    if b == b'1' {
-        move_to(m, at + 1);
-        put(code, m, kind::UP, deep, 0);
-        return;
-    }
-    if is_lower(b) {
-        let end = run_end(text, bytes, at, true);
-        let count = end - at;
-        if count <= 8 {
-            let word = (at as u64 * 16 + count as u64) * 16 + kind::NAME;
-            move_to(m, end);
-            put(code, m, word, deep, 0);
-            return;
-        }
-        fail(m);
+    let end = leaf_end(text, bytes, m);
+    if 0 < end {
+        let word = leaf_word(next(text, bytes, m), m[AT], end);
+        move_to(m, end);
+        put(code, m, word, deep, 0);
         return;
     }
     fail(m);
@@ -58,7 +55,7 @@ pub(crate) fn sum(
     deep: usize,
 )
     requires { ⌜ Begun (now text) bytes (now code) (now m) deep ⌝ }
-    ensures { λ _. ⌜ Left (SumRead (take bytes (now (text .entry))) deep) (now (m .entry))
+    ensures { λ _. ⌜ Left (SumRead (lent (now (text .entry)) bytes) deep) (now (m .entry))
         (now (code .entry)) (now (code .exit)) (now (m .exit)) ⌝ }
 {
     product(text, bytes, code, m, deep);
@@ -68,7 +65,7 @@ pub(crate) fn sum(
 // {"+" product}
 fn sums(text: &[u8; 1024], bytes: usize, code: &mut [u64; 1024], m: &mut [usize; 5], deep: usize)
     requires { ⌜ Begun (now text) bytes (now code) (now m) deep ⌝ }
-    ensures { λ _. ⌜ Left (SumsRead (take bytes (now (text .entry))) deep) (now (m .entry))
+    ensures { λ _. ⌜ Left (SumsRead (lent (now (text .entry)) bytes) deep) (now (m .entry))
         (now (code .entry)) (now (code .exit)) (now (m .exit)) ⌝ }
 {
     if next(text, bytes, m) == b'+' {
@@ -83,7 +80,7 @@ fn sums(text: &[u8; 1024], bytes: usize, code: &mut [u64; 1024], m: &mut [usize;
 // product = factor {"." factor}
 fn product(text: &[u8; 1024], bytes: usize, code: &mut [u64; 1024], m: &mut [usize; 5], deep: usize)
     requires { ⌜ Begun (now text) bytes (now code) (now m) deep ⌝ }
-    ensures { λ _. ⌜ Left (ProductRead (take bytes (now (text .entry))) deep) (now (m .entry))
+    ensures { λ _. ⌜ Left (ProductRead (lent (now (text .entry)) bytes) deep) (now (m .entry))
         (now (code .entry)) (now (code .exit)) (now (m .exit)) ⌝ }
 {
     factor(text, bytes, code, m, deep);
@@ -99,7 +96,7 @@ fn products(
     deep: usize,
 )
     requires { ⌜ Begun (now text) bytes (now code) (now m) deep ⌝ }
-    ensures { λ _. ⌜ Left (ProductsRead (take bytes (now (text .entry))) deep) (now (m .entry))
+    ensures { λ _. ⌜ Left (ProductsRead (lent (now (text .entry)) bytes) deep) (now (m .entry))
         (now (code .entry)) (now (code .exit)) (now (m .exit)) ⌝ }
 {
     if next(text, bytes, m) == b'.' {
@@ -114,7 +111,7 @@ fn products(
 // factor = "!" factor, "^" factor, "~" factor, "(" sum ")", "0", "1", name, or a block
 fn factor(text: &[u8; 1024], bytes: usize, code: &mut [u64; 1024], m: &mut [usize; 5], deep: usize)
     requires { ⌜ Begun (now text) bytes (now code) (now m) deep ⌝ }
-    ensures { λ _. ⌜ Left (FactorRead (take bytes (now (text .entry))) deep) (now (m .entry))
+    ensures { λ _. ⌜ Left (FactorRead (lent (now (text .entry)) bytes) deep) (now (m .entry))
         (now (code .entry)) (now (code .exit)) (now (m .exit)) ⌝ }
 {
     let at = m[AT];
@@ -170,7 +167,7 @@ fn latch(
     deep: usize,
 )
     requires { ⌜ Begun (now text) bytes (now code) (now m) (deep + 1) ⌝ }
-    ensures { λ _. ⌜ Left (LatchRead (take bytes (now (text .entry))) part deep) (now (m .entry))
+    ensures { λ _. ⌜ Left (LatchRead (lent (now (text .entry)) bytes) part deep) (now (m .entry))
         (now (code .entry)) (now (code .exit)) (now (m .exit)) ⌝ }
 {
     expect(text, bytes, m, b'(');
@@ -191,7 +188,7 @@ fn timer(
     deep: usize,
 )
     requires { ⌜ (Begun (now text) bytes (now code) (now m) (deep + 1)) × (part < 16) ⌝ }
-    ensures { λ _. ⌜ Left (TimerRead (take bytes (now (text .entry))) part deep) (now (m .entry))
+    ensures { λ _. ⌜ Left (TimerRead (lent (now (text .entry)) bytes) part deep) (now (m .entry))
         (now (code .entry)) (now (code .exit)) (now (m .exit)) ⌝ }
 {
     expect(text, bytes, m, b'(');

@@ -7,8 +7,7 @@ use mathlib.Core.List.{List, [], _∷_, _++_}
 use lib.Dec.{leb, eqb}
 use lib.ListN.{length, getD}
 use borrow.Author.Tests.{ne-eqb, leb-true}
-use Rattle.grammar.specs.Lengths.{allOf}
-use Rattle.grammar.specs.Grammar.{isLower}
+use Rattle.names.specs.Names.{allOf, letter}
 use Rattle.grammar.specs.Reader.{run, prefixKind}
 
 pub never : {A : Type 0} → _≡_ {A = Bool} false true → A
@@ -47,15 +46,15 @@ pub record NotLower (b : ℕ) : Type 0 where
   pub zero : eqb b 48 ≡ false
   pub one : eqb b 49 ≡ false
 
-pub lower-low : (b : ℕ) → isLower b ≡ true → 97 ≤ b
-unfolding isLower
+pub lower-low : (b : ℕ) → letter b ≡ true → 97 ≤ b
+unfolding letter
 lower-low b e = leb-true 97 b (and-left (leb 97 b) (leb b 122) e)
 
-pub lower-high : (b : ℕ) → isLower b ≡ true → b ≤ 122
-unfolding isLower
+pub lower-high : (b : ℕ) → letter b ≡ true → b ≤ 122
+unfolding letter
 lower-high b e = leb-true b 122 (and-right (leb 97 b) (leb b 122) e)
 
-pub lower-not : (b : ℕ) → isLower b ≡ true → NotLower b
+pub lower-not : (b : ℕ) → letter b ≡ true → NotLower b
 unfolding prefixKind
 lower-not b e =
     let low : 97 ≤ b = lower-low b e in

@@ -6,8 +6,7 @@ use mathlib.Core.List.{List, [], _∷_, map, map-append}
 use lib.Dec.{leb, ltb, eqb}
 use lib.ListN.{length, drop}
 use borrow.Author.Tests.{leb-true}
-use Rattle.grammar.specs.Lengths.{isDigit}
-use Rattle.grammar.specs.Grammar.{isLower, isNameByte}
+use Rattle.names.specs.Names.{digit, letter, nameByte}
 use Rattle.grammar.specs.Kinds as kinds
 use Rattle.grammar.specs.Formula.{Kind, plainKinds}
 use Rattle.grammar.specs.Reader.{State, Emission, run, next, bad, stepped, expect, put, passLength, valueBetween, prefixKind, leafAt, timed, sumAt, sumsAt, productAt, productsAt, factorAt, latchAt, timerAt, readText, start}
@@ -52,7 +51,7 @@ module _ {X Y : Type 0} (E : Emission X) (E2 : Emission Y) (f : X → Y) (g : �
 
   length-same : (s : State X) → carried (passLength text s) ≡ passLength text (carried s)
   unfolding passLength next stepped bad
-  length-same s = both-ways carried (eqb (next text s) 48) (λ e. refl) (λ e. both-ways carried (isDigit (next text s)) (λ e. refl) (λ e. refl))
+  length-same s = both-ways carried (eqb (next text s) 48) (λ e. refl) (λ e. both-ways carried (digit (next text s)) (λ e. refl) (λ e. refl))
 
   put-same : (x : X) (deep k : ℕ) (s : State X) → carried (put x deep k s) ≡ put (f x) deep (g k) (carried s)
   unfolding put
@@ -69,11 +68,11 @@ module _ {X Y : Type 0} (E : Emission X) (E2 : Emission Y) (f : X → Y) (g : �
   leaf-same deep s =
       both-ways carried (eqb (next text s) 48) (λ e. plain-same kinds.DOWN deep refl (stepped 1 s) (stepped 1 (carried s)) refl)
       (λ e. both-ways carried (eqb (next text s) 49) (λ e. plain-same kinds.UP deep refl (stepped 1 s) (stepped 1 (carried s)) refl)
-      (λ e. both-ways carried (isLower (next text s))
-      (λ low. both-ways carried (leb (run isNameByte (drop (s .at) text)) 8)
+      (λ e. both-ways carried (letter (next text s))
+      (λ low. both-ways carried (leb (run nameByte (drop (s .at) text)) 8)
       (λ short.
-      put-same (E .named (s .at) (run isNameByte (drop (s .at) text))) deep 0 (stepped (run isNameByte (drop (s .at) text)) s)
-      ∙ rw (c .named (s .at) (run isNameByte (drop (s .at) text)) (leb-true (run isNameByte (drop (s .at) text)) 8 short), c .none) refl)
+      put-same (E .named (s .at) (run nameByte (drop (s .at) text))) deep 0 (stepped (run nameByte (drop (s .at) text)) s)
+      ∙ rw (c .named (s .at) (run nameByte (drop (s .at) text)) (leb-true (run nameByte (drop (s .at) text)) 8 short), c .none) refl)
       (λ long. refl))
       (λ e. refl)))
 

@@ -10,8 +10,9 @@ use lib.Seq.{take-append-seam}
 use borrow.Author.Tests.{leb-true, le-leb, eq-eqb}
 use Rattle.grammar.specs.Tree.{Tree, Unary, Binary, leaf, unary, binary, invert, rise, fall, ton, tof, and, or, sr, rs, name, down, up}
 use Rattle.grammar.specs.Code.{Part, code, longest, one, two, ticksOf}
-use Rattle.grammar.specs.Lengths.{isDigit, allOf, isLength, value}
-use Rattle.grammar.specs.Grammar.{Sum, Product, Factor, isLower, isNameByte, isName}
+use Rattle.names.specs.Names.{digit, allOf, letter, nameByte, wellNamed}
+use Rattle.grammar.specs.Lengths.{isLength, value}
+use Rattle.grammar.specs.Grammar.{Sum, Product, Factor}
 use Rattle.grammar.specs.Kinds as kinds
 use Rattle.grammar.specs.Reader.{State, next, stepped, put, passLength, valueBetween, prefixKind, leafAt, timed, sumAt, sumsAt, productAt, productsAt, factorAt, latchAt, timerAt}
 use Rattle.grammar.specs.Formula.{plainPart, timedPart, nameAt, spelled}
@@ -22,7 +23,7 @@ use Rattle.grammar.proofs.Steps.{joined, prefixed, bracketed, latched, 
 
 -- a name or a number ends before these bytes
 abbrev pub NameEnds : List ℕ → Type 0
-NameEnds l = isNameByte (getD l 0 0) ≡ false
+NameEnds l = nameByte (getD l 0 0) ≡ false
 
 -- what may follow a sum
 pub record SumEnds (l : List ℕ) : Type 0 where
@@ -31,15 +32,15 @@ pub record SumEnds (l : List ℕ) : Type 0 where
   pub plus : eqb (getD l 0 0) 43 ≡ false
 
 pub closed : (l : List ℕ) → SumEnds (41 ∷ l)
-unfolding isNameByte isLower isDigit
+unfolding nameByte letter digit
 closed l = record { name = refl; dot = refl; plus = refl }
 
 pub parted : (l : List ℕ) → SumEnds (44 ∷ l)
-unfolding isNameByte isLower isDigit
+unfolding nameByte letter digit
 parted l = record { name = refl; dot = refl; plus = refl }
 
 pub ended : SumEnds []
-unfolding isNameByte isLower isDigit
+unfolding nameByte letter digit
 ended = record { name = refl; dot = refl; plus = refl }
 
 module _ (text : List ℕ) where
@@ -108,7 +109,7 @@ module _ (text : List ℕ) where
       )
 
   pub plus-reads : (w v : List ℕ) (t u : Tree) (d e : ℕ) → ReadsSum w t d → ReadsProduct v u e → ReadsSum (w ++ (43 ∷ v)) (binary or t u) (max d e)
-  unfolding isNameByte isLower isDigit
+  unfolding nameByte letter digit
   plus-reads w v t u d e r x n deep s l a f g h =
       let a2 : At text s (w ++ (43 ∷ (v ++ l))) = rw append-assoc at a in
       let q = r n deep s (43 ∷ (v ++ l)) a2 refl refl (rw append-assoc at h) in
@@ -125,7 +126,7 @@ module _ (text : List ℕ) where
       (k, omega (arith, length-append v l), one-more times and refl w v t u d e k s l a q)
 
   pub dot-reads : (w v : List ℕ) (t u : Tree) (d e : ℕ) → ReadsProduct w t d → ReadsFactor v u e → ReadsProduct (w ++ (46 ∷ v)) (binary and t u) (max d e)
-  unfolding isNameByte isLower isDigit
+  unfolding nameByte letter digit
   dot-reads w v t u d e r x n deep s l a f h =
       let a2 : At text s (w ++ (46 ∷ (v ++ l))) = rw append-assoc at a in
       let q = r n deep s (46 ∷ (v ++ l)) a2 refl (rw append-assoc at h) in
@@ -160,22 +161,22 @@ module _ (text : List ℕ) where
   one-reads zero deep s l a f h = absurd (omega arith)
   one-reads (suc n) deep s l a f h = rw (next-of a, a .fine) (state-eq refl refl refl (omega arith) refl)
 
-  name-step : (b : ℕ) (bs : List ℕ) → isLower b ≡ true → allOf isNameByte bs ≡ true → length bs ≤ 7 → ReadsFactor (b ∷ bs) (leaf (name (b ∷ bs))) 0
-  unfolding factorAt leafAt put after stepped code longest nameAt allOf isNameByte
+  name-step : (b : ℕ) (bs : List ℕ) → letter b ≡ true → allOf nameByte bs ≡ true → length bs ≤ 7 → ReadsFactor (b ∷ bs) (leaf (name (b ∷ bs))) 0
+  unfolding factorAt leafAt put after stepped code longest nameAt allOf nameByte
   name-step b bs low all short zero deep s l a f h = absurd (omega arith)
   name-step b bs low all short (suc n) deep s l a f h =
       let k = lower-not b low in
-      let every : allOf isNameByte (b ∷ bs) ≡ true = rw low all in
-      rw (next-of a, k .prefix, k .bracket, k .S, k .R, k .T, k .zero, k .one, low, a .left, run-all isNameByte (b ∷ bs) l every f, le-leb (length (b ∷ bs)) 8 (omega arith), a .fine, take-append-seam (b ∷ bs) l)
+      let every : allOf nameByte (b ∷ bs) ≡ true = rw low all in
+      rw (next-of a, k .prefix, k .bracket, k .S, k .R, k .T, k .zero, k .one, low, a .left, run-all nameByte (b ∷ bs) l every f, le-leb (length (b ∷ bs)) 8 (omega arith), a .fine, take-append-seam (b ∷ bs) l)
       (state-eq refl refl refl (omega arith) refl)
 
-  pub named-reads : (w : List ℕ) → isName w ≡ true → ReadsFactor w (leaf (name w)) 0
-  unfolding isName
+  pub named-reads : (w : List ℕ) → wellNamed w ≡ true → ReadsFactor w (leaf (name w)) 0
+  unfolding wellNamed
   named-reads [] e n deep s l a f h = never e
   named-reads (b ∷ bs) e n deep s l a f h =
-      let low = and-left (isLower b) (allOf isNameByte bs && leb (length bs) 7) e in
-      let rest = and-right (isLower b) (allOf isNameByte bs && leb (length bs) 7) e in
-      name-step b bs low (and-left (allOf isNameByte bs) (leb (length bs) 7) rest) (leb-true (length bs) 7 (and-right (allOf isNameByte bs) (leb (length bs) 7) rest)) n deep s l a f h
+      let rest = and-right (leb (length (b ∷ bs)) 8) (letter b && allOf nameByte bs) e in
+      let short = leb-true (length (b ∷ bs)) 8 (and-left (leb (length (b ∷ bs)) 8) (letter b && allOf nameByte bs) e) in
+      name-step b bs (and-left (letter b) (allOf nameByte bs) rest) (and-right (letter b) (allOf nameByte bs) rest) (omega arith) n deep s l a f h
 
   -- a latch after its letters
   pub latch-reads : (kind : ℕ) (o : Binary) → plainPart kind ≡ two o → (w v : List ℕ) (t u : Tree) (d e : ℕ) → ReadsWhole w t d → ReadsWhole v u e →
@@ -199,21 +200,21 @@ module _ (text : List ℕ) where
       (latched kind o p w v t u d e deep s)
 
   -- a length
-  length-step : (b : ℕ) (bs l : List ℕ) (s : State Part) → isDigit b ≡ true → allOf isDigit bs ≡ true → (z : Bool) → eqb b 48 ≡ z →
+  length-step : (b : ℕ) (bs l : List ℕ) (s : State Part) → digit b ≡ true → allOf digit bs ≡ true → (z : Bool) → eqb b 48 ≡ z →
       eqb (length bs) 0 || not z ≡ true → At text s ((b ∷ bs) ++ (44 ∷ l)) → passLength text s ≡ stepped (length (b ∷ bs)) s
-  unfolding passLength allOf isDigit
+  unfolding passLength allOf digit
   length-step b [] l s dig all true z e a = rw (next-of a, z) refl
   length-step b (c ∷ bs) l s dig all true z e a = never (rw eqb·suc-zero at e)
   length-step b bs l s dig all false z e a =
-      let every : allOf isDigit (b ∷ bs) ≡ true = rw dig all in
-      rw (next-of a, z, dig, a .left, run-all isDigit (b ∷ bs) (44 ∷ l) every refl) refl
+      let every : allOf digit (b ∷ bs) ≡ true = rw dig all in
+      rw (next-of a, z, dig, a .left, run-all digit (b ∷ bs) (44 ∷ l) every refl) refl
 
   pub length-reads : (w l : List ℕ) (s : State Part) → isLength w ≡ true → At text s (w ++ (44 ∷ l)) → passLength text s ≡ stepped (length w) s
   unfolding isLength
   length-reads [] l s e a = never e
   length-reads (b ∷ bs) l s e a =
-      let rest = and-right (isDigit b) (allOf isDigit bs && (eqb (length bs) 0 || not (eqb b 48))) e in
-      length-step b bs l s (and-left (isDigit b) (allOf isDigit bs && (eqb (length bs) 0 || not (eqb b 48))) e) (and-left (allOf isDigit bs) (eqb (length bs) 0 || not (eqb b 48)) rest) (eqb b 48) refl (and-right (allOf isDigit bs) (eqb (length bs) 0 || not (eqb b 48)) rest) a
+      let rest = and-right (digit b) (allOf digit bs && (eqb (length bs) 0 || not (eqb b 48))) e in
+      length-step b bs l s (and-left (digit b) (allOf digit bs && (eqb (length bs) 0 || not (eqb b 48))) e) (and-left (allOf digit bs) (eqb (length bs) 0 || not (eqb b 48)) rest) (eqb b 48) refl (and-right (allOf digit bs) (eqb (length bs) 0 || not (eqb b 48)) rest) a
 
   -- a timer after its letters
   pub timer-reads : (kind : ℕ) (w v : List ℕ) (o : Unary) → timedPart kind (value w) ≡ one o → ticksOf o ≡ value w → (t : Tree) (d : ℕ) →

@@ -10,8 +10,9 @@ use lib.Seq.{length-take-le}
 use borrow.Author.Tests.{eqb-true, leb-true, le-leb}
 use Rattle.grammar.specs.Tree.{Leaf, leaf, name, down, up}
 use Rattle.grammar.specs.Code.{Part, code, longest, operand, one}
-use Rattle.grammar.specs.Lengths.{isDigit, allOf, isLength}
-use Rattle.grammar.specs.Grammar.{Factor, isLower, isNameByte, isName}
+use Rattle.names.specs.Names.{digit, allOf, letter, nameByte, wellNamed}
+use Rattle.grammar.specs.Lengths.{isLength}
+use Rattle.grammar.specs.Grammar.{Factor}
 use Rattle.grammar.specs.Reader.{State, run, next, bad, stepped, put, passLength, leafAt}
 use Rattle.grammar.specs.Formula.{nameAt, spelled}
 use Rattle.grammar.proofs.Bytes.{never, by-cond, and-left}
@@ -33,12 +34,12 @@ or-true : (a : Bool) → a || true ≡ true
 or-true true = refl
 or-true false = refl
 
-digit-pos : (b : ℕ) → isDigit b ≡ true → 0 < b
-unfolding isDigit
+digit-pos : (b : ℕ) → digit b ≡ true → 0 < b
+unfolding digit
 digit-pos b e = let h = leb-true 48 b (and-left (leb 48 b) (leb b 57) e) in omega arith
 
-lower-pos : (b : ℕ) → isLower b ≡ true → 0 < b
-unfolding isLower
+lower-pos : (b : ℕ) → letter b ≡ true → 0 < b
+unfolding letter
 lower-pos b e = let h = leb-true 97 b (and-left (leb 97 b) (leb b 122) e) in omega arith
 
 -- a constant or a name
@@ -55,50 +56,50 @@ module _ (text : List ℕ) where
     pub gives : r ≡ stepped (length digits) s
 
   -- a first byte and the run after it
-  digits-found : (s : State Part) (b : ℕ) (l : List ℕ) → At text s (b ∷ l) → isDigit b ≡ true → eqb b 48 ≡ false →
-      LengthFound s (stepped (run isDigit (drop (s .at) text)) s)
+  digits-found : (s : State Part) (b : ℕ) (l : List ℕ) → At text s (b ∷ l) → digit b ≡ true → eqb b 48 ≡ false →
+      LengthFound s (stepped (run digit (drop (s .at) text)) s)
   unfolding run isLength
   digits-found s b l a dig z =
-      let k = run-front isDigit l in
-      let size : length (take (run isDigit l) l) ≡ run isDigit l = length-take-le (run isDigit l) l (k .1) in
+      let k = run-front digit l in
+      let size : length (take (run digit l) l) ≡ run digit l = length-take-le (run digit l) l (k .1) in
       record {
-        digits = b ∷ take (run isDigit l) l;
-        rest = drop (run isDigit l) l;
-        here = rw (take-append-drop (run isDigit l) l) a;
-        number = rw (dig, k .0, z) (or-true (eqb (length (take (run isDigit l) l)) 0));
+        digits = b ∷ take (run digit l) l;
+        rest = drop (run digit l) l;
+        here = rw (take-append-drop (run digit l) l) a;
+        number = rw (dig, k .0, z) (or-true (eqb (length (take (run digit l) l)) 0));
         gives = rw (a .left, dig, size) refl;
       }
 
   pub length-inv : (s : State Part) → (passLength text s) .ok ≡ true → LengthFound s (passLength text s)
-  unfolding passLength bad isLength isDigit allOf
+  unfolding passLength bad isLength digit allOf
   length-inv s =
       by-cond (λ (r : State Part). r .ok ≡ true → LengthFound s r) (eqb (next text s) 48)
       (λ e h.
       let x = next-inv text s 48 (eqb-true (next text s) 48 e) (omega arith) in
       record { digits = 48 ∷ []; rest = x .0; here = x .1; number = refl; gives = refl })
-      (λ e. by-cond (λ (r : State Part). r .ok ≡ true → LengthFound s r) (isDigit (next text s))
+      (λ e. by-cond (λ (r : State Part). r .ok ≡ true → LengthFound s r) (digit (next text s))
       (λ dig h.
       let x = next-inv text s (next text s) refl (digit-pos (next text s) dig) in
       digits-found s (next text s) (x .0) (x .1) dig e)
       (λ dig h. never h))
 
-  name-found : (deep : ℕ) (s : State Part) (b : ℕ) (l : List ℕ) → At text s (b ∷ l) → isLower b ≡ true → leb (run isNameByte (drop (s .at) text)) 8 ≡ true →
-      Found text Factor deep s (put (operand (name (nameAt text (s .at) (run isNameByte (drop (s .at) text))))) deep 0 (stepped (run isNameByte (drop (s .at) text)) s))
-  unfolding run nameAt isNameByte isName
+  name-found : (deep : ℕ) (s : State Part) (b : ℕ) (l : List ℕ) → At text s (b ∷ l) → letter b ≡ true → leb (run nameByte (drop (s .at) text)) 8 ≡ true →
+      Found text Factor deep s (put (operand (name (nameAt text (s .at) (run nameByte (drop (s .at) text))))) deep 0 (stepped (run nameByte (drop (s .at) text)) s))
+  unfolding run nameAt nameByte wellNamed
   name-found deep s b l a low short =
-      let k = run-front isNameByte l in
-      let w = b ∷ take (run isNameByte l) l in
-      let size : length (take (run isNameByte l) l) ≡ run isNameByte l = length-take-le (run isNameByte l) l (k .1) in
-      let all : run isNameByte (drop (s .at) text) ≡ length w = rw (a .left, low, size) refl in
+      let k = run-front nameByte l in
+      let w = b ∷ take (run nameByte l) l in
+      let size : length (take (run nameByte l) l) ≡ run nameByte l = length-take-le (run nameByte l) l (k .1) in
+      let all : run nameByte (drop (s .at) text) ≡ length w = rw (a .left, low, size) refl in
       let these : take (length w) (drop (s .at) text) ≡ w = rw (a .left, size) refl in
       let short2 : length w ≤ 8 = leb-true (length w) 8 (rw all at short) in
       record {
         bytes = w;
         tree = leaf (name w);
         depth = 0;
-        rest = drop (run isNameByte l) l;
-        here = rw (take-append-drop (run isNameByte l) l) a;
-        derived = Factor.named {w = w} (rw (low, k .0, le-leb (length (take (run isNameByte l) l)) 7 (omega arith)) refl);
+        rest = drop (run nameByte l) l;
+        here = rw (take-append-drop (run nameByte l) l) a;
+        derived = Factor.named {w = w} (rw (le-leb (length w) 8 short2, low, k .0) refl);
         gives = rw (all, these) (leaf-eq (name w) w deep s (a .fine));
       }
 
@@ -113,8 +114,8 @@ module _ (text : List ℕ) where
       (λ e h.
       let x = next-inv text s 49 (eqb-true (next text s) 49 e) (omega arith) in
       record { bytes = 49 ∷ []; tree = leaf up; depth = 0; rest = x .0; here = x .1; derived = Factor.one; gives = leaf-eq up (49 ∷ []) deep s (x .1 .fine) })
-      (λ e1. by-cond (Finds text Factor deep s) (isLower (next text s))
-      (λ low. by-cond (Finds text Factor deep s) (leb (run isNameByte (drop (s .at) text)) 8)
+      (λ e1. by-cond (Finds text Factor deep s) (letter (next text s))
+      (λ low. by-cond (Finds text Factor deep s) (leb (run nameByte (drop (s .at) text)) 8)
       (λ short h.
       let x = next-inv text s (next text s) refl (lower-pos (next text s) low) in
       name-found deep s (next text s) (x .0) (x .1) low short)

@@ -9,7 +9,8 @@ use lib.Dec.{leb, eqb}
 use lib.ListN.{length}
 use borrow.Author.Tests.{ne-eqb, le-leb}
 use Rattle.grammar.specs.Tree.{Tree, leaf, unary, binary, invert, rise, fall, ton, tof, and, or, sr, rs, name, down, up}
-use Rattle.grammar.specs.Lengths.{isDigit, allOf, isLength, value, valueFrom}
+use Rattle.names.specs.Names.{digit, allOf}
+use Rattle.grammar.specs.Lengths.{isLength, value, valueFrom}
 use Rattle.grammar.specs.Grammar.{Sum, Product, Factor}
 use Rattle.grammar.specs.Exactness.{Writable, EveryTreeWritten}
 use Rattle.grammar.proofs.Bytes.{and-both}
@@ -19,25 +20,25 @@ unfolding valueFrom
 value-more k c [] = refl
 value-more k c (b ∷ w) = value-more (k * 10 + (b - 48)) c w
 
-all-more : (c : ℕ) (w : List ℕ) → allOf isDigit w ≡ true → isDigit c ≡ true → allOf isDigit (w ++ (c ∷ [])) ≡ true
+all-more : (c : ℕ) (w : List ℕ) → allOf digit w ≡ true → digit c ≡ true → allOf digit (w ++ (c ∷ [])) ≡ true
 unfolding allOf
 all-more c [] e f = rw f refl
-all-more c (b ∷ w) e f = go (isDigit b) e (λ h. all-more c w h f)
+all-more c (b ∷ w) e f = go (digit b) e (λ h. all-more c w h f)
   where
-    go : (z : Bool) → z && allOf isDigit w ≡ true → (allOf isDigit w ≡ true → allOf isDigit (w ++ (c ∷ [])) ≡ true) → z && allOf isDigit (w ++ (c ∷ [])) ≡ true
+    go : (z : Bool) → z && allOf digit w ≡ true → (allOf digit w ≡ true → allOf digit (w ++ (c ∷ [])) ≡ true) → z && allOf digit (w ++ (c ∷ [])) ≡ true
     go true e g = g e
     go false e g = e
 
-digit-is : (n : ℕ) → n < 10 → isDigit (48 + n) ≡ true
-unfolding isDigit
+digit-is : (n : ℕ) → n < 10 → digit (48 + n) ≡ true
+unfolding digit
 digit-is n h = and-both (leb 48 (48 + n)) (leb (48 + n) 57) (le-leb 48 (48 + n) (omega arith)) (le-leb (48 + n) 57 (omega arith))
 
 -- the digits of a number above 0
 record Digits (v : ℕ) : Type 0 where
   first : ℕ
   others : List ℕ
-  digit : isDigit first ≡ true
-  digits : allOf isDigit others ≡ true
+  leads : digit first ≡ true
+  digits : allOf digit others ≡ true
   above : eqb first 48 ≡ false
   number : value (first ∷ others) ≡ v
 
@@ -47,7 +48,7 @@ digits-of zero v h pos = absurd (omega arith)
 digits-of (suc n) v h pos = go (decLt v 10) (digits-of n (v / 10))
   where
     go : Dec (v < 10) → (v / 10 ≤ n → 0 < v / 10 → Digits (v / 10)) → Digits v
-    go (yes k) ih = record { first = 48 + v; others = []; digit = digit-is v k; digits = refl; above = ne-eqb (48 + v) 48 (omega arith); number = omega arith }
+    go (yes k) ih = record { first = 48 + v; others = []; leads = digit-is v k; digits = refl; above = ne-eqb (48 + v) 48 (omega arith); number = omega arith }
     go (no k) ih =
         let r = ih (omega (arith, k)) (omega (arith, k)) in
         let m = value-more 0 (48 + v % 10) (r .first ∷ r .others) in
@@ -55,16 +56,16 @@ digits-of (suc n) v h pos = go (decLt v 10) (digits-of n (v / 10))
         record {
           first = r .first;
           others = r .others ++ ((48 + v % 10) ∷ []);
-          digit = r .digit;
+          leads = r .leads;
           digits = all-more (48 + v % 10) (r .others) (r .digits) (digit-is (v % 10) (omega arith));
           above = r .above;
           number = m ∙ omega arith;
         }
 
 pub length-written : (v : ℕ) → (w : List ℕ) × (isLength w ≡ true) × (value w ≡ v)
-unfolding isLength value valueFrom isDigit allOf
+unfolding isLength value valueFrom digit allOf
 length-written zero = (48 ∷ [], refl, refl)
-length-written (suc v) = let r = digits-of (suc v) (suc v) (omega arith) (omega arith) in (r .first ∷ r .others, rw (r .digit, r .digits, r .above) (or-true (eqb (length (r .others)) 0)), r .number)
+length-written (suc v) = let r = digits-of (suc v) (suc v) (omega arith) (omega arith) in (r .first ∷ r .others, rw (r .leads, r .digits, r .above) (or-true (eqb (length (r .others)) 0)), r .number)
   where
     or-true : (a : Bool) → a || true ≡ true
     or-true true = refl

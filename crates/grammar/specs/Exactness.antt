@@ -9,7 +9,8 @@ use Rattle.signals.specs.Moment.{M}
 use Rattle.signals.specs.Checks.{Check, NoFault, Exactly}
 use Rattle.grammar.specs.Tree.{Tree, Leaf, Unary, Binary, leaf, unary, binary, name, down, up, ton, tof}
 use Rattle.grammar.specs.Code.{code}
-use Rattle.grammar.specs.Grammar.{Sum, isName}
+use Rattle.names.specs.Names.{wellNamed}
+use Rattle.grammar.specs.Grammar.{Sum}
 use Rattle.grammar.specs.Formula.{accepted, formulaTree, depthOf, partsOf, formulaFault, partOf, codeOf}
 
 -- The reader accepts exactly the bytes that the grammar derives, with that tree and depth.
@@ -28,7 +29,7 @@ PartsExact = (w : List ℕ) (t : Tree) (d : ℕ) → Sum w t d → partsOf w ≡
 abbrev pub leafWritable : Leaf → Type 0
 leafWritable down = Unit
 leafWritable up = Unit
-leafWritable (name w) = isName w ≡ true
+leafWritable (name w) = wellNamed w ≡ true
 
 abbrev pub Writable : Tree → Type 0
 Writable (leaf l) = leafWritable l

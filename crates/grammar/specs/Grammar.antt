@@ -1,25 +1,12 @@
 -- Document 01, "Formulas": the grammar, rule by rule, as a relation between bytes, tree and depth.
 use Prim.Native.Nat.{ℕ, _+_, max}
 use mathlib.Core.Path.{_≡_}
-use mathlib.Core.Bool.{Bool, true, false, _&&_, _||_}
+use mathlib.Core.Bool.{true}
 use mathlib.Core.List.{List, [], _∷_, _++_}
-use lib.Dec.{leb}
-use lib.ListN.{length}
-use Rattle.grammar.specs.Lengths.{isDigit, allOf, isLength, value}
+use Rattle.names.specs.Names.{wellNamed}
+use Rattle.grammar.specs.Lengths.{isLength, value}
 use Rattle.grammar.specs.Tree.{Tree}
 use Rattle.grammar.specs.Tree as tree
-
--- lowercase letters
-unfoldable pub isLower : ℕ → Bool
-isLower b = leb 97 b && leb b 122
-
-unfoldable pub isNameByte : ℕ → Bool
-isNameByte b = isLower b || isDigit b
-
--- A name is 1 to 8 characters, a lowercase letter, then lowercase letters or digits.
-unfoldable pub isName : List ℕ → Bool
-isName [] = false
-isName (b ∷ bs) = isLower b && (allOf isNameByte bs && leb (length bs) 7)
 
 -- The bytes, the tree that they write and the largest depth of its parts. A part's depth is the number of open brackets, those of
 -- blocks included, and of ! ^ ~ around it. Chains group to the left. 33 is !, 94 ^, 126 ~, 40 (, 41 ), 44 a comma, 43 +, 46 a full stop.
@@ -44,7 +31,7 @@ mutual
     brackets : {w : List ℕ} {t : Tree} {d : ℕ} → Sum w t d → Factor (40 ∷ (w ++ (41 ∷ []))) t (d + 1)
     zero : Factor (48 ∷ []) (tree.leaf tree.down) 0
     one : Factor (49 ∷ []) (tree.leaf tree.up) 0
-    named : {w : List ℕ} → isName w ≡ true → Factor w (tree.leaf (tree.name w)) 0
+    named : {w : List ℕ} → wellNamed w ≡ true → Factor w (tree.leaf (tree.name w)) 0
     sr : {w v : List ℕ} {t u : Tree} {d e : ℕ} → Sum w t d → Sum v u e →
         Factor (83 ∷ 82 ∷ 40 ∷ (w ++ (44 ∷ (v ++ (41 ∷ []))))) (tree.binary tree.sr t u) (max d e + 1)
     rs : {w v : List ℕ} {t u : Tree} {d e : ℕ} → Sum w t d → Sum v u e →

@@ -5,8 +5,8 @@ use mathlib.Core.List.{List, [], _∷_, _++_}
 use lib.Dec.{leb, ltb, eqb}
 use lib.ListN.{length, getD, take, drop}
 use Rattle.grammar.specs.Kinds as kinds
-use Rattle.grammar.specs.Lengths.{isDigit, value}
-use Rattle.grammar.specs.Grammar.{isLower, isNameByte}
+use Rattle.names.specs.Names.{digit, letter, nameByte}
+use Rattle.grammar.specs.Lengths.{value}
 
 -- where a reader is: whether all is well, the bytes passed, the parts put out, the largest depth and length of one
 pub record State (X : Type 0) : Type 0 where
@@ -54,7 +54,7 @@ put x deep ticks s =
 unfoldable pub passLength : {X : Type 0} → List ℕ → State X → State X
 passLength text s =
     cond (eqb (next text s) 48) (stepped 1 s)
-    (cond (isDigit (next text s)) (stepped (run isDigit (drop (s .at) text)) s) (bad s))
+    (cond (digit (next text s)) (stepped (run digit (drop (s .at) text)) s) (bad s))
 
 -- the number that the bytes from a up to e write
 unfoldable pub valueBetween : List ℕ → ℕ → ℕ → ℕ
@@ -70,9 +70,9 @@ module _ {X : Type 0} (E : Emission X) (text : List ℕ) where
   leafAt deep s =
       cond (eqb (next text s) 48) (put (E .plain kinds.DOWN) deep 0 (stepped 1 s))
       (cond (eqb (next text s) 49) (put (E .plain kinds.UP) deep 0 (stepped 1 s))
-      (cond (isLower (next text s))
-      (cond (leb (run isNameByte (drop (s .at) text)) 8)
-      (put (E .named (s .at) (run isNameByte (drop (s .at) text))) deep 0 (stepped (run isNameByte (drop (s .at) text)) s))
+      (cond (letter (next text s))
+      (cond (leb (run nameByte (drop (s .at) text)) 8)
+      (put (E .named (s .at) (run nameByte (drop (s .at) text))) deep 0 (stepped (run nameByte (drop (s .at) text)) s))
       (bad s))
       (bad s)))
 

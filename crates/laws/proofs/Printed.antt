@@ -6,8 +6,8 @@ use mathlib.Core.Path.{_≡_, refl, _∙_}
 use mathlib.Core.Bool.{true}
 use mathlib.Core.List.{List, [], _∷_, _++_, append-nil}
 use lib.ListN.{length, getD}
-use Rattle.grammar.specs.Lengths.{allOf}
-use Rattle.grammar.specs.Grammar.{Factor, Writes, isName, isLower}
+use Rattle.names.specs.Names.{allOf, wellNamed, letter}
+use Rattle.grammar.specs.Grammar.{Factor, Writes}
 use Rattle.laws.specs.Scheme.{Letter, LengthTerm, Scheme, Equation, Substitution, put}
 use Rattle.laws.specs.Laws.{table, equation, andCommutes}
 use Rattle.laws.specs.Printed.{texts, textOf, bytes, leftOf, rightOf, lengthSigns, letterSigns, begins, putAt, filledAfter, filled}
@@ -111,8 +111,8 @@ side v w x h a text e =
     let same : text ≡ y .text = e ∙ y .printed [] ∙ append-nil (y .text) in
     (y .depth, rw same (y .derived))
 
-own-name : (l : Letter) → isName (ownName l) ≡ true
-unfolding ownName bytes isName allOf isLower
+own-name : (l : Letter) → wellNamed (ownName l) ≡ true
+unfolding ownName bytes wellNamed allOf letter
 own-name Letter.f = refl
 own-name Letter.g = refl
 own-name Letter.h = refl

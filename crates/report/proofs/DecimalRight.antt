@@ -9,7 +9,8 @@ use lib.Dec.{leb, eqb}
 use lib.ListN.{length}
 use borrow.Author.Tests.{ne-eqb, eq-eqb, le-leb, eqb-true, eqb-false}
 use Rattle.names.proofs.Truth.{and-left, and-right}
-use Rattle.grammar.specs.Lengths.{isDigit, allOf, isLength, valueFrom, value}
+use Rattle.grammar.specs.Lengths.{isLength, valueFrom, value}
+use Rattle.names.specs.Names.{digit as isDigit, allOf}
 use Rattle.report.specs.Line.{digit, leading, decimal}
 use Rattle.report.specs.Decimal.{DecimalRight}
 

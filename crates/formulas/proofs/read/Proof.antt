@@ -6,7 +6,8 @@ use mathlib.Core.Path.{_≡_, sym, ap, _∙_}
 use mathlib.Core.List.{List}
 use lib.ListN.{length, replicate, length-replicate}
 use lib.Seq.{sets}
-use Rattle.formulas.specs.Marks.{markOf, SumRead}
+use Rattle.marks.specs.Marks.{markOf}
+use Rattle.formulas.specs.Readers.{SumRead}
 use Rattle.formulas.proofs.WholeRead.{first, begun, as-laid, empty-is, long-is, refused-is, written-is}
 use Rattle.formulas.proofs.WholeRead.{few-words, few-parts, words-are, words-length, fault-is}
 use Rattle.formulas.proofs.read.Statement.{statement}

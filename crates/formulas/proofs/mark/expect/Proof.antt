@@ -3,10 +3,10 @@ use borrow.Author.Needs.{needs}
 use borrow.Author.Tests.{eq-eqb, ne-eqb}
 use native.Mathlib.Omega.{arith}
 use mathlib.Core.Path.{sym, _∙_}
-use lib.ListN.{take}
-use lib.Seq.{length-take-le}
-use Rattle.formulas.specs.Marks.{markOf, nextMark, expectMark}
-use Rattle.formulas.proofs.Marking.{inside}
+use Rattle.marks.specs.Marks.{markOf, nextMark, lent}
+use Rattle.formulas.specs.Readers.{expectMark}
+use Rattle.marks.proofs.Marking.{inside}
+use Rattle.formulas.proofs.Lending.{text-long}
 use Rattle.formulas.proofs.mark.expect.Statement.{statement}
 use Rattle.formulas.proofs.mark.expect.Tie as tie
 
@@ -22,8 +22,8 @@ add-move-to c =
     let n = c .before .before .before in
     let s = n .before .before in
     let a = s .args in
-    let l = length-take-le (a .bytes) (a .text .now) (omega (arith, s .pre .0 .whole, s .pre .0 .first)) in
-    let i = inside (take (a .bytes) (a .text .now)) (markOf (a .m .now)) (a .b) (sym (n .next .ensures) ∙ c .before .before .if1 .taken) (s .pre .1) in
+    let l = text-long (s .pre .0) in
+    let i = inside (lent (a .text .now) (a .bytes)) (markOf (a .m .now)) (a .b) (sym (n .next .ensures) ∙ c .before .before .if1 .taken) (s .pre .1) in
     omega (arith, i .before, l, s .pre .0 .first)
 
 move-to-requires : tie.Need-move-to-requires
@@ -34,7 +34,7 @@ unfolding expectMark markOf
 returns c =
     let n = c .before .before .before .before in
     let a = n .before .before .args in
-    rw (eq-eqb (nextMark (take (a .bytes) (a .text .now)) (markOf (a .m .now))) (a .b) (sym (n .next .ensures) ∙ c .before .before .before .if1 .taken)) (c .move-to .ensures)
+    rw (eq-eqb (nextMark (lent (a .text .now) (a .bytes)) (markOf (a .m .now))) (a .b) (sym (n .next .ensures) ∙ c .before .before .before .if1 .taken)) (c .move-to .ensures)
 
 fail-requires : tie.Need-fail-requires
 fail-requires c κs = search needs
@@ -44,7 +44,7 @@ unfolding expectMark
 returns-2 c =
     let n = c .before .before .before in
     let a = n .before .before .args in
-    rw (ne-eqb (nextMark (take (a .bytes) (a .text .now)) (markOf (a .m .now))) (a .b) (λ e. c .before .before .if1 .left (n .next .ensures ∙ e))) (c .fail .ensures)
+    rw (ne-eqb (nextMark (lent (a .text .now) (a .bytes)) (markOf (a .m .now))) (a .b) (λ e. c .before .before .if1 .left (n .next .ensures ∙ e))) (c .fail .ensures)
 
 pub expect-spec : {M : Type 1} → statement M
 expect-spec = tie.close (tie.spec next-requires element-copy-out-at add-move-to move-to-requires returns fail-requires returns-2)

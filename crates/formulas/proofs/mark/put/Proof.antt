@@ -3,7 +3,8 @@ use borrow.Author.Needs.{needs}
 use borrow.Author.Tests.{eq-eqb, ne-eqb}
 use native.Mathlib.Omega.{arith}
 use mathlib.Core.Path.{refl}
-use Rattle.formulas.specs.Marks.{markOf, putMark, putCode}
+use Rattle.marks.specs.Marks.{markOf}
+use Rattle.formulas.specs.Readers.{putMark, putCode}
 use Rattle.formulas.proofs.Lending.{stored}
 use Rattle.formulas.proofs.mark.put.Statement.{statement}
 use Rattle.formulas.proofs.mark.put.Tie as tie

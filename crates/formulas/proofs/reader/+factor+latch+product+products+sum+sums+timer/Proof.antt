@@ -4,12 +4,12 @@ use Prim.Native.Nat.{ℕ, _+_, _*_, _-_, _<_}
 use native.Mathlib.Omega.{arith}
 use borrow.Author.Tests.{ne-eqb}
 use mathlib.Core.Path.{sym, ap, _∙_}
-use lib.ListN.{length, take}
+use lib.ListN.{length}
 use borrow.Author.Needs.{needs}
 use Rattle.grammar.specs.Formula.{capped}
-use Rattle.formulas.specs.Marks.{Mark, markOf}
-use Rattle.formulas.proofs.Marking.{capped-most}
-use Rattle.formulas.proofs.Lending.{lent-on, text-long, value-front}
+use Rattle.marks.specs.Marks.{Mark, markOf, lent}
+use Rattle.marks.proofs.Marking.{capped-most}
+use Rattle.formulas.proofs.Lending.{lent-on, text-long, number-lent}
 use Rattle.formulas.proofs.Doing.{passed, inner-needs}
 use Rattle.formulas.proofs.ReaderPaths as paths
 use Rattle.formulas.proofs.ReaderChains as chains
@@ -39,35 +39,35 @@ use Rattle.formulas.proofs.reader.timer.Kinds as timer-kinds
 use Rattle.formulas.proofs.reader.+factor+latch+product+products+sum+sums+timer.Lts-timer as timer-lts
 use Rattle.formulas.proofs.mark.expect.Reads as expect-reads
 use Rattle.formulas.proofs.mark.move_to.Reads as move-to-reads
-use Rattle.formulas.proofs.mark.next.Reads as next-reads
+use Rattle.marks.proofs.next.Reads as next-reads
 use Rattle.formulas.proofs.mark.pass_length.Reads as pass-length-reads
-use Rattle.formulas.proofs.mark.prefix_kind.Reads as prefix-kind-reads
+use Rattle.marks.proofs.prefix_kind.Reads as prefix-kind-reads
 use Rattle.formulas.proofs.mark.put.Reads as put-reads
-use Rattle.formulas.proofs.mark.ticks.Reads as ticks-reads
+use Rattle.marks.proofs.ticks.Reads as ticks-reads
 use Rattle.formulas.proofs.reader.leaf.Reads as leaf-reads
 use Rattle.formulas.proofs.reader.+factor+latch+product+products+sum+sums+timer.{statement}
 use Rattle.formulas.proofs.reader.+factor+latch+product+products+sum+sums+timer.Tie.{close}
 
 abbrev μ-factor : Measures 3 factor-kinds.ps ℕ
-μ-factor κs a = 5 * (length (take (a .1 .0) (a .0 .now)) - markOf (a .1 .1 .1 .0 .now) .at) + a .1 .1 .1 .1 .0 + 2
+μ-factor κs a = 5 * (length (lent (a .0 .now) (a .1 .0)) - markOf (a .1 .1 .1 .0 .now) .at) + a .1 .1 .1 .1 .0 + 2
 
 abbrev μ-latch : Measures 3 latch-kinds.ps ℕ
-μ-latch κs a = 5 * (length (take (a .1 .0) (a .0 .now)) - markOf (a .1 .1 .1 .0 .now) .at) + a .1 .1 .1 .1 .1 .0 + 6
+μ-latch κs a = 5 * (length (lent (a .0 .now) (a .1 .0)) - markOf (a .1 .1 .1 .0 .now) .at) + a .1 .1 .1 .1 .1 .0 + 6
 
 abbrev μ-product : Measures 3 product-kinds.ps ℕ
-μ-product κs a = 5 * (length (take (a .1 .0) (a .0 .now)) - markOf (a .1 .1 .1 .0 .now) .at) + a .1 .1 .1 .1 .0 + 3
+μ-product κs a = 5 * (length (lent (a .0 .now) (a .1 .0)) - markOf (a .1 .1 .1 .0 .now) .at) + a .1 .1 .1 .1 .0 + 3
 
 abbrev μ-products : Measures 3 products-kinds.ps ℕ
-μ-products κs a = 5 * (length (take (a .1 .0) (a .0 .now)) - markOf (a .1 .1 .1 .0 .now) .at) + a .1 .1 .1 .1 .0 + 1
+μ-products κs a = 5 * (length (lent (a .0 .now) (a .1 .0)) - markOf (a .1 .1 .1 .0 .now) .at) + a .1 .1 .1 .1 .0 + 1
 
 abbrev μ-sum : Measures 3 sum-kinds.ps ℕ
-μ-sum κs a = 5 * (length (take (a .1 .0) (a .0 .now)) - markOf (a .1 .1 .1 .0 .now) .at) + a .1 .1 .1 .1 .0 + 4
+μ-sum κs a = 5 * (length (lent (a .0 .now) (a .1 .0)) - markOf (a .1 .1 .1 .0 .now) .at) + a .1 .1 .1 .1 .0 + 4
 
 abbrev μ-sums : Measures 3 sums-kinds.ps ℕ
-μ-sums κs a = 5 * (length (take (a .1 .0) (a .0 .now)) - markOf (a .1 .1 .1 .0 .now) .at) + a .1 .1 .1 .1 .0 + 1
+μ-sums κs a = 5 * (length (lent (a .0 .now) (a .1 .0)) - markOf (a .1 .1 .1 .0 .now) .at) + a .1 .1 .1 .1 .0 + 1
 
 abbrev μ-timer : Measures 3 timer-kinds.ps ℕ
-μ-timer κs a = 5 * (length (take (a .1 .0) (a .0 .now)) - markOf (a .1 .1 .1 .0 .now) .at) + a .1 .1 .1 .1 .1 .0 + 6
+μ-timer κs a = 5 * (length (lent (a .0 .now) (a .1 .0)) - markOf (a .1 .1 .1 .0 .now) .at) + a .1 .1 .1 .1 .1 .0 + 6
 
 abbrev factor-at : ℕ → In 3 factor-kinds.ps
 factor-at t = and 3 factor-kinds.ps (is 3 factor-kinds.ps μ-factor t) factor.Pre
@@ -135,7 +135,7 @@ timer-calls t = (expect-reads.Asked, expect-reads.Learnt, pass-length-reads.Aske
 
 -- past the byte b at the front of a factor, at x
 abbrev Factor-step : (t : ℕ) → factor-lts.Start (factor-calls t) (factor-at t) factor.Post → ℕ → Mark → Type 0
-Factor-step t s b x = paths.Step (take (s .args .bytes) (s .args .text .now)) (s .args .code .now) (markOf (s .args .m .now)) (s .args .deep) 2 t b x
+Factor-step t s b x = paths.Step (lent (s .args .text .now) (s .args .bytes)) (s .args .code .now) (markOf (s .args .m .now)) (s .args .deep) 2 t b x
 
 factor-add-move-to : (t : ℕ) → factor-lts.Need-add-move-to (factor-calls t) (factor-at t) factor.Post
 unfolding markOf
@@ -320,11 +320,6 @@ factor-expect-requires-4 t c κs =
     let move-to5′ = c .before .move-to5 in
     (lent-on (s .pre .1 .0) (move-to5′ .ensures .0), omega arith)
 
-factor-next-requires-2 : (t : ℕ) → factor-lts.Need-next-requires-2 (factor-calls t) (factor-at t) factor.Post
-factor-next-requires-2 t c κs =
-    let s = c .before .before .before .before .before .before .before .before .before .before .before .before .before .before in
-    (s .pre .1 .0 .whole, s .pre .1 .0 .first)
-
 factor-add-move-to-6 : (t : ℕ) → factor-lts.Need-add-move-to-6 (factor-calls t) (factor-at t) factor.Post
 unfolding markOf
 factor-add-move-to-6 t c =
@@ -502,7 +497,7 @@ products-add-move-to t c =
 
 -- past the byte b at the front of the rest of a chain, at x
 abbrev Products-step : (t : ℕ) → products-lts.Start (products-calls t) (products-at t) products.Post → ℕ → Mark → Type 0
-Products-step t s b x = paths.Step (take (s .args .bytes) (s .args .text .now)) (s .args .code .now) (markOf (s .args .m .now)) (s .args .deep) 1 t b x
+Products-step t s b x = paths.Step (lent (s .args .text .now) (s .args .bytes)) (s .args .code .now) (markOf (s .args .m .now)) (s .args .deep) 1 t b x
 
 times-step : (t : ℕ) (c : products-lts.After-move-to (products-calls t) (products-at t) products.Post) → Products-step t (c .before .before .before .before .before .before) 46 (markOf (c .move-to .last .0))
 unfolding markOf
@@ -578,7 +573,7 @@ sums-add-move-to t c =
 
 -- past the byte b at the front of the rest of a chain, at x
 abbrev Sums-step : (t : ℕ) → sums-lts.Start (sums-calls t) (sums-at t) sums.Post → ℕ → Mark → Type 0
-Sums-step t s b x = paths.Step (take (s .args .bytes) (s .args .text .now)) (s .args .code .now) (markOf (s .args .m .now)) (s .args .deep) 1 t b x
+Sums-step t s b x = paths.Step (lent (s .args .text .now) (s .args .bytes)) (s .args .code .now) (markOf (s .args .m .now)) (s .args .deep) 1 t b x
 
 plus-step : (t : ℕ) (c : sums-lts.After-move-to (sums-calls t) (sums-at t) sums.Post) → Sums-step t (c .before .before .before .before .before .before) 43 (markOf (c .move-to .last .0))
 unfolding markOf
@@ -631,22 +626,7 @@ timer-expect-requires : (t : ℕ) → timer-lts.Need-expect-requires (timer-call
 timer-expect-requires t c κs = (c .before .pre .1 .0 .0, omega arith)
 
 timer-pass-length-requires : (t : ℕ) → timer-lts.Need-pass-length-requires (timer-calls t) (timer-at t) timer.Post
-timer-pass-length-requires t c κs =
-    let s = c .before .before .before .before in
-    let expect′ = c .before .before .expect in
-    let o = paths.opened (s .args .deep) (s .pre .1 .0 .1) (expect′ .ensures .1) in
-    (lent-on (s .pre .1 .0 .0) (expect′ .ensures .0), omega (arith, o .within, text-long (s .pre .1 .0 .0)))
-
-timer-ticks-requires : (t : ℕ) → timer-lts.Need-ticks-requires (timer-calls t) (timer-at t) timer.Post
-unfolding markOf
-timer-ticks-requires t c κs =
-    let s = c .before .before .before .before .before .before in
-    let expect′ = c .before .before .before .before .expect in
-    let pass-length′ = c .before .pass-length in
-    let o = paths.opened (s .args .deep) (s .pre .1 .0 .1) (expect′ .ensures .1) in
-    let p = passed (take (s .args .bytes) (s .args .text .now)) (markOf (expect′ .last .1 .1 .0)) (o .within) in
-    let a = ap (λ (j : Mark). j .at) (pass-length′ .ensures .1) in
-    (s .pre .1 .0 .0 .whole, omega (arith, p .on, a), omega (arith, p .within, a, text-long (s .pre .1 .0 .0), s .pre .1 .0 .0 .first))
+timer-pass-length-requires t c κs = c .before .before .expect .ensures .0
 
 timer-expect-requires-2 : (t : ℕ) → timer-lts.Need-expect-requires-2 (timer-calls t) (timer-at t) timer.Post
 timer-expect-requires-2 t c κs =
@@ -713,14 +693,14 @@ timer-returns t c =
     let a = s .args in
     let g = s .pre .1 .0 .1 in
     let o = paths.opened (a .deep) g (expect′ .ensures .1) in
-    let p = passed (take (a .bytes) (a .text .now)) (markOf (expect′ .last .1 .1 .0)) (o .within) in
+    let p = passed (lent (a .text .now) (a .bytes)) (markOf (expect′ .last .1 .1 .0)) (o .within) in
     let q = ap (λ (j : Mark). j .at) (pass-length′ .ensures .1) in
-    let v = value-front (a .text .now) (a .bytes) (markOf (expect′ .last .1 .1 .0) .at) (markOf (pass-length′ .last .1 .1 .0) .at)
+    let v = number-lent (s .pre .1 .0 .0) (markOf (expect′ .last .1 .1 .0) .at) (markOf (pass-length′ .last .1 .1 .0) .at)
     (omega (arith, p .on, q)) (omega (arith, p .within, q, text-long (s .pre .1 .0 .0))) in (
       put′ .ensures .0 .0,
       paths.timer-path (a .deep) g (expect′ .ensures .1) (pass-length′ .ensures .1) (expect2′ .ensures .1)
           (sum′ .ensures .1)
-          (expect3′ .ensures .1) (a .part) _ (ticks′ .ensures ∙ ap capped (sym v)) (put′ .ensures .1) (put′ .ensures .0 .1),
+          (expect3′ .ensures .1) (a .part) _ (ticks′ .ensures ∙ ap capped v) (put′ .ensures .1) (put′ .ensures .0 .1),
     )
 
 pub +factor+latch+product+products+sum+sums+timer-spec : {M : Type 1} → statement M
@@ -731,7 +711,7 @@ pub +factor+latch+product+products+sum+sums+timer-spec : {M : Type 1} → statem
     (factor-add-move-to-2 t) (λ c κs. search needs) (factor-add-sum t) (factor-sum-requires t) (factor-expect-requires t) (factor-returns-2 t)
     (factor-add-move-to-3 t) (λ c κs. search needs) (factor-expect-requires-2 t) (factor-latch-requires t) (factor-returns-3 t)
     (factor-add-move-to-4 t) (λ c κs. search needs) (factor-expect-requires-3 t) (factor-latch-requires-2 t) (factor-returns-4 t)
-    (factor-add-move-to-5 t) (λ c κs. search needs) (factor-expect-requires-4 t) (factor-next-requires-2 t) (λ c. search needs)
+    (factor-add-move-to-5 t) (λ c κs. search needs) (factor-expect-requires-4 t) (λ c κs. search needs) (λ c. search needs)
     (factor-add-move-to-6 t) (factor-move-to-requires-6 t) (factor-timer-requires t) (factor-returns-5 t) (factor-expect-requires-5 t)
     (factor-timer-requires-2 t) (factor-returns-6 t) (factor-leaf-requires t) (factor-returns-7 t))
     (λ t. latch-lts.spec (latch-calls t) (latch-at t) latch.Post (latch-expect-requires t) (latch-add-sum t) (latch-sum-requires t)
@@ -745,5 +725,5 @@ pub +factor+latch+product+products+sum+sums+timer-spec : {M : Type 1} → statem
     (λ t. sums-lts.spec (sums-calls t) (sums-at t) sums.Post (λ c κs. search needs) (λ c. search needs) (sums-add-move-to t) (λ c κs. search needs)
     (sums-product-requires t) (sums-put-requires t) (sums-sums-requires t) (sums-returns t) (sums-returns-2 t))
     (λ t. timer-lts.spec (timer-calls t) (timer-at t) timer.Post (timer-expect-requires t) (λ c. search needs) (timer-pass-length-requires t)
-    (λ c. search needs) (timer-ticks-requires t) (timer-expect-requires-2 t) (timer-add-sum t) (timer-sum-requires t) (timer-expect-requires-3 t)
+    (λ c. search needs) (λ c κs. search needs) (timer-expect-requires-2 t) (timer-add-sum t) (timer-sum-requires t) (timer-expect-requires-3 t)
     (timer-mul-put t) (timer-add-put t) (timer-put-requires t) (timer-returns t))

@@ -1,0 +1,2 @@
+-- Lemmas on marks, runs of bytes and lengths.
+pub mod Marking

@@ -1,0 +1,2 @@
+-- Marks, and what stands at them.
+pub mod Marks
