@@ -40,7 +40,7 @@ unfolding dateOf
 not-late l h = down-of (changesAfterM l) (λ e. let w = late-of l e in omega (arith, w .2, h (w .0)))
 
 -- a name as a formula
-name-writes : (n : List ℕ) → isName n ≡ true → Sum n (leaf (name n)) 0
+name-writes : (n : List ℕ) → wellNamed n ≡ true → Sum n (leaf (name n)) 0
 name-writes n e = Sum.product (Product.factor (Factor.named e))
 
 -- a leaf has no length
@@ -122,14 +122,13 @@ unfolding workingFault wordsOn
 name-served sheet n small ok e =
     let l = listNamed n (signalsOn sheet) in
     let s = named-sound n (signalsOn sheet) (sheet-sound sheet ok) e in
-    let f = is-name n (s .0) in
-    let t : formulaTree n ≡ leaf (name n) = tree-of n (leaf (name n)) 0 (name-writes n f) in
+    let t : formulaTree n ≡ leaf (name n) = tree-of n (leaf (name n)) 0 (name-writes n (s .0)) in
     let x : exactOn sheet (leaf (name n)) ≡ l = name-exact sheet n (s .1) in
     let z = name-fine sheet n small ok e in
     record {
       clear = record {
         sheet-ok = ok;
-        text-ok = text-clear sheet n (name-fault n (s .0) f) t e;
+        text-ok = text-clear sheet n (name-fault n (s .0)) t e;
         parts-ok = rw t (name-parts sheet n z);
       };
       same-words = rw t x;
