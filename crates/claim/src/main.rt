@@ -10,7 +10,7 @@ enum Input {
 }
 
 // Reads until the input ends, the buffer is full or a read fails.
-fn read_input(buffer: &mut [u8; report::BYTES]) -> Input {
+fn read_input(buffer: &mut [u8; claim_line::BYTES]) -> Input {
     let space: &mut [u8] = buffer;
     let mut done: usize = 0;
     while done < space.len() {
@@ -28,8 +28,8 @@ fn read_input(buffer: &mut [u8; report::BYTES]) -> Input {
 }
 
 // Writes the line of what was read.
-fn print(input: &[u8; report::BYTES], n: usize) {
-    let line = report::report(input, n);
+fn print(input: &[u8; claim_line::BYTES], n: usize) {
+    let line = claim_line::line_of(input, n);
     let bytes = line.bytes;
     let count = line.count;
     if !io::write_all(STDOUT_FILENO, &bytes[..count]) {
@@ -38,7 +38,7 @@ fn print(input: &[u8; report::BYTES], n: usize) {
 }
 
 fn main() {
-    let mut input = report::buffer();
+    let mut input = claim_line::buffer();
     match read_input(&mut input) {
         Input::Bytes(n) => print(&input, n),
         Input::Failed => {

@@ -13,9 +13,9 @@ fn fill(buffer: &mut [u8], input: &[u8]) {
 
 // The report of an input.
 fn reported(label: &[u8], input: &[u8]) {
-    let mut buffer = report::buffer();
+    let mut buffer = claim_line::buffer();
     fill(&mut buffer, input);
-    let line = report::report(&buffer, input.len());
+    let line = claim_line::line_of(&buffer, input.len());
     let bytes = line.bytes;
     let count = line.count;
     io::write_all(STDOUT_FILENO, label);

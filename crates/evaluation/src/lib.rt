@@ -25,7 +25,7 @@ use signals::Verdict;
 use signals::Written;
 
 // The work words that a call needs.
-const WORK_WORDS: usize = 8192;
+pub const WORK_WORDS: usize = 8192;
 
 // What working one part out gives: its fault or 0, the height of the stack after it and the word count of the list on top.
 struct Next {

@@ -1,0 +1,32 @@
+-- Document 01: "It prints one line: holds, fails at k, fails after k, or refused n." How long it can be, where it ends, which n can come.
+use Prim.Native.Nat.{ℕ, _^_, _≤_, _<_}
+use mathlib.Core.Path.{_≡_}
+use mathlib.Core.List.{List, [], _∷_, _++_}
+use lib.ListN.{length, getD}
+use Rattle.signals.specs.Moment.{M}
+use Rattle.signals.specs.declared.Verdict.{Verdict}
+use Rattle.signals.specs.declared.Verdict.the-variants.{Holds, FailsAt, FailsAfter, Refused}
+use Rattle.claim_line.specs.Line.{lineOf}
+use Rattle.claim_line.specs.Printing.{longest, claimOf, printed}
+
+-- the number of an answer that has one
+abbrev pub numberIn : Verdict → ℕ
+numberIn Holds = 0
+numberIn (FailsAt k) = k
+numberIn (FailsAfter k) = k
+numberIn (Refused n) = n
+
+pub record OneLine : Type 0 where
+  -- no line is longer, and one is as long
+  pub fits : (input : List ℕ) → length (printed input) ≤ longest
+  pub reached : length (lineOf (FailsAfter M)) ≡ longest
+  -- its last byte is the line feed, which is 10, and no other is
+  pub ends : (input : List ℕ)
+      → (text : List ℕ) × (printed input ≡ text ++ (10 ∷ [])) × ((i : ℕ) → i < length text → getD text i 0 ≡ 10 → ⊥)
+  -- a claim has no 7, and the work words suffice
+  pub no7 : (input : List ℕ) → claimOf input ≡ Refused 7 → ⊥
+  pub no18 : (input : List ℕ) → claimOf input ≡ Refused 18 → ⊥
+  -- a refusal is 5, 6, 8 or one of 10 to 17
+  pub refusals : (input : List ℕ) (n : ℕ) → claimOf input ≡ Refused n → (5 ≤ n) × (n ≤ 17) × (n ≡ 7 → ⊥) × (n ≡ 9 → ⊥)
+  -- the line tells the answer: two with numbers of 32 bits and the same line are the same
+  pub tells : (v w : Verdict) → numberIn v < 2 ^ 32 → numberIn w < 2 ^ 32 → lineOf v ≡ lineOf w → v ≡ w

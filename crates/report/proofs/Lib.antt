@@ -1,9 +1,0 @@
--- What the proofs of the functions cite.
-pub mod Splitting
-pub mod Digits
-pub mod DecimalRight
-pub mod Filling
-pub mod Telling
-pub mod Refusals
-pub mod Reading
-pub mod OneLine

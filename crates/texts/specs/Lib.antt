@@ -1,0 +1,4 @@
+-- Numbers and lines in texts, as definitions.
+pub mod Lengths
+pub mod Decimal
+pub mod LineFeeds
