@@ -14,16 +14,15 @@ use Rattle.operations.specs.Calls.{changesAfterM}
 use Rattle.grammar.specs.Tree as tree
 use Rattle.grammar.specs.Tree.{Tree}
 use Rattle.names.specs.Names.{digit, allOf, letter, nameByte, wellNamed}
-use Rattle.grammar.specs.Lengths.{isLength, value}
+use Rattle.texts.specs.Lengths.{isLength, value}
 use Rattle.grammar.specs.Grammar.{Writes, Sum, Product, Factor}
-use Rattle.grammar.specs.Lengths as lengths
+use Rattle.texts.specs.Lengths as lengths
 use Rattle.grammar.specs.Reader.{run, next, bad, stepped, expect, put, passLength, valueBetween, prefixKind, leafAt, timed, sumAt, sumsAt, productAt, productsAt, factorAt, latchAt, timerAt, readText}
 use Rattle.grammar.specs.Formula.{timedPart, nameAt, accepted, partsOf, depthOf, longestOf, formulaFault}
 use Rattle.grammar.proofs.Reading.{tree-of}
 use Rattle.grammar.specs.Parts.{parts}
 use Rattle.slices.specs.Bytes.{low16, low32, wordsIn}
 use Rattle.slices.specs.Slices.{before}
-use Rattle.names.specs.Names.{letter, digit, allOf, nameByte, wellNamed}
 use Rattle.format.specs.Names.{zeros, fieldFits, same, among}
 use Rattle.format.specs.Reading as reading
 use Rattle.format.specs.Reading.{wordCount, signalSize, laterWordsFault, sheetWordsFault, signalFault, signalsFault, frontFault, countOn, sheetFault, signalsFrom, signalsOn, names, listNamed, environmentOn}

@@ -8,7 +8,6 @@ use lib.ListN.{getD, drop}
 use borrow.Author.Tests.{eqb-false}
 use Rattle.signals.specs.declared.Verdict.{Verdict}
 use Rattle.signals.specs.declared.Verdict.the-variants.{Holds, FailsAt, FailsAfter, Refused}
-use Rattle.grammar.specs.Lengths.{valueFrom, value}
 use Rattle.texts.specs.Lengths.{valueFrom, value}
 use Rattle.texts.specs.Decimal.{decimal}
 use Rattle.claim_line.specs.Line.{line, lineOf, holdsText, failsAtText, failsAfterText, refusedText}

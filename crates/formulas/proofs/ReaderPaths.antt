@@ -8,7 +8,8 @@ use lib.Dec.{eqb}
 use lib.ListN.{length}
 use borrow.Author.Tests.{lt-ltb, le-ltb}
 use Rattle.grammar.specs.Reader.{State, next, stepped, expect, passLength, valueBetween, prefixKind, timed, sumAt, factorAt, latchAt, timerAt}
-use Rattle.grammar.specs.Formula.{coded, capped, timerWord}
+use Rattle.grammar.specs.Formula.{coded, timerWord}
+use Rattle.texts.specs.Lengths.{capped}
 use Rattle.marks.specs.Marks.{Mark, nextMark}
 use Rattle.formulas.specs.Readers.{viewOf, movedMark, expectMark, lengthMark, putMark, putCode, Ready, Done, LeafRead, SumRead, FactorRead, LatchRead, TimerRead}
 use Rattle.marks.proofs.Marking.{inside}

@@ -13,7 +13,8 @@ use Rattle.signals.specs.Moment.{M}
 use Rattle.signals.specs.Answers.{writtenOf}
 use Rattle.signals.specs.declared.Written.the-variants as written
 use Rattle.grammar.specs.Reader.{State, readText}
-use Rattle.grammar.specs.Formula.{spelled, coded, capped, partOf, accepted, partsOf, depthOf, longestOf, formulaFault, codeOf, codeAfter}
+use Rattle.texts.specs.Lengths.{capped}
+use Rattle.grammar.specs.Formula.{spelled, coded, partOf, accepted, partsOf, depthOf, longestOf, formulaFault, codeOf, codeAfter}
 use Rattle.marks.specs.Marks.{Mark, markOf, markFault, lent}
 use Rattle.formulas.specs.Readers.{viewOf, Ready, SumRead, Begun}
 use Rattle.grammar.proofs.Coding.{coded-run, cutPart}

@@ -15,7 +15,8 @@ use Rattle.grammar.specs.Tree.{Tree, Unary, leaf, unary, binary, down, u
 use Rattle.grammar.specs.Code.{Part, operand, one, two, code, longest, ticksOf}
 use Rattle.grammar.specs.Kinds as kinds
 use Rattle.grammar.specs.Reader.{State, Emission, readText}
-use Rattle.grammar.specs.Formula.{Kind, plainKinds, partIn, plainPart, timedPart, nameAt, nameWord, timerWord, capped, spelled, coded}
+use Rattle.texts.specs.Lengths.{capped}
+use Rattle.grammar.specs.Formula.{Kind, plainKinds, partIn, plainPart, timedPart, nameAt, nameWord, timerWord, spelled, coded}
 use Rattle.grammar.specs.Formula.{partOf, accepted, formulaTree, partsOf, codeOf}
 use Rattle.grammar.specs.Exactness.{CodeExact, AcceptedCode, Breaks11, Breaks12}
 use Rattle.grammar.specs.Grammar.{Sum}

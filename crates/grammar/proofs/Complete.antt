@@ -11,7 +11,7 @@ use borrow.Author.Tests.{leb-true, le-leb, eq-eqb}
 use Rattle.grammar.specs.Tree.{Tree, Unary, Binary, leaf, unary, binary, invert, rise, fall, ton, tof, and, or, sr, rs, name, down, up}
 use Rattle.grammar.specs.Code.{Part, code, longest, one, two, ticksOf}
 use Rattle.names.specs.Names.{digit, allOf, letter, nameByte, wellNamed}
-use Rattle.grammar.specs.Lengths.{isLength, value}
+use Rattle.texts.specs.Lengths.{isLength, value}
 use Rattle.grammar.specs.Grammar.{Sum, Product, Factor}
 use Rattle.grammar.specs.Kinds as kinds
 use Rattle.grammar.specs.Reader.{State, next, stepped, put, passLength, valueBetween, prefixKind, leafAt, timed, sumAt, sumsAt, productAt, productsAt, factorAt, latchAt, timerAt}

@@ -11,7 +11,7 @@ use lib.Seq.{drop-cons}
 use borrow.Author.Tests.{eqb-true, ne-eqb}
 use Rattle.grammar.specs.Tree.{Tree, Unary, Binary, unary, binary}
 use Rattle.grammar.specs.Code.{Part, longest, operand, one, ticksOf}
-use Rattle.grammar.specs.Lengths.{isLength, value}
+use Rattle.texts.specs.Lengths.{isLength, value}
 use Rattle.grammar.specs.Grammar.{Sum}
 use Rattle.grammar.specs.Reader.{State, next, bad, expect, put}
 use Rattle.grammar.specs.Formula.{timedPart, spelled}

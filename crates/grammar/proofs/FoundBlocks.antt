@@ -7,7 +7,7 @@ use lib.ListN.{length}
 use lib.Seq.{take-append-seam}
 use Rattle.grammar.specs.Tree.{Binary}
 use Rattle.grammar.specs.Code.{Part, operand, two}
-use Rattle.grammar.specs.Lengths.{value}
+use Rattle.texts.specs.Lengths.{value}
 use Rattle.grammar.specs.Grammar.{Sum}
 use Rattle.grammar.specs.Reader.{State, stepped, expect, put, valueBetween, timed}
 use Rattle.grammar.specs.Formula.{plainPart, spelled}

@@ -11,7 +11,7 @@ use borrow.Author.Tests.{eqb-true, leb-true, le-leb}
 use Rattle.grammar.specs.Tree.{Leaf, leaf, name, down, up}
 use Rattle.grammar.specs.Code.{Part, code, longest, operand, one}
 use Rattle.names.specs.Names.{digit, allOf, letter, nameByte, wellNamed}
-use Rattle.grammar.specs.Lengths.{isLength}
+use Rattle.texts.specs.Lengths.{isLength}
 use Rattle.grammar.specs.Grammar.{Factor}
 use Rattle.grammar.specs.Reader.{State, run, next, bad, stepped, put, passLength, leafAt}
 use Rattle.grammar.specs.Formula.{nameAt, spelled}

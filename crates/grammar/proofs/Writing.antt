@@ -10,7 +10,7 @@ use lib.ListN.{length}
 use borrow.Author.Tests.{ne-eqb, le-leb}
 use Rattle.grammar.specs.Tree.{Tree, leaf, unary, binary, invert, rise, fall, ton, tof, and, or, sr, rs, name, down, up}
 use Rattle.names.specs.Names.{digit, allOf}
-use Rattle.grammar.specs.Lengths.{isLength, value, valueFrom}
+use Rattle.texts.specs.Lengths.{isLength, value, valueFrom}
 use Rattle.grammar.specs.Grammar.{Sum, Product, Factor}
 use Rattle.grammar.specs.Exactness.{Writable, EveryTreeWritten}
 use Rattle.grammar.proofs.Bytes.{and-both}

@@ -6,6 +6,7 @@ use lib.Dec.{ltb, eqb}
 use lib.ListN.{length, take, drop}
 use lib.Seq.{sets}
 use Rattle.signals.specs.Moment.{M}
+use Rattle.texts.specs.Lengths.{capped}
 use Rattle.grammar.specs.Tree.{Tree, down, up, name, invert, rise, fall, ton, tof, and, or, sr, rs}
 use Rattle.grammar.specs.Kinds as kinds
 use Rattle.grammar.specs.Code.{Part, operand, one, two, treeOf}
@@ -53,9 +54,6 @@ spelled text =
 -- of its bytes in four bits and above it its place in the text.
 unfoldable pub nameWord : ℕ → ℕ → ℕ
 nameWord place count = (place * 16 + count) * 16 + kinds.NAME
-
-unfoldable pub capped : ℕ → ℕ
-capped n = min n (M + 1)
 
 unfoldable pub timerWord : ℕ → ℕ → ℕ
 timerWord kind n = capped n * 16 + kind

@@ -4,7 +4,7 @@ use mathlib.Core.Path.{_≡_}
 use mathlib.Core.Bool.{true}
 use mathlib.Core.List.{List, [], _∷_, _++_}
 use Rattle.names.specs.Names.{wellNamed}
-use Rattle.grammar.specs.Lengths.{isLength, value}
+use Rattle.texts.specs.Lengths.{isLength, value}
 use Rattle.grammar.specs.Tree.{Tree}
 use Rattle.grammar.specs.Tree as tree
 

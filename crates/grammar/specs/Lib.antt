@@ -1,6 +1,5 @@
 -- Document 01, "Formulas", as definitions.
 pub mod Tree
-pub mod Lengths
 pub mod Grammar
 pub mod Code
 pub mod Parts

@@ -6,7 +6,7 @@ use lib.Dec.{leb, ltb, eqb}
 use lib.ListN.{length, getD, take, drop}
 use Rattle.grammar.specs.Kinds as kinds
 use Rattle.names.specs.Names.{digit, letter, nameByte}
-use Rattle.grammar.specs.Lengths.{value}
+use Rattle.texts.specs.Lengths.{value}
 
 -- where a reader is: whether all is well, the bytes passed, the parts put out, the largest depth and length of one
 pub record State (X : Type 0) : Type 0 where

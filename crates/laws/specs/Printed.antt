@@ -8,7 +8,7 @@ use mathlib.Core.List.{List, [], _∷_, _++_}
 use lib.Dec.{eqb}
 use lib.ListN.{length, getD}
 use Rattle.grammar.specs.Tree.{leaf, name}
-use Rattle.grammar.specs.Lengths.{isLength, value}
+use Rattle.texts.specs.Lengths.{isLength, value}
 use Rattle.grammar.specs.Grammar.{Factor, Writes}
 use Rattle.grammar.specs.Exactness.{Writable}
 use Rattle.laws.specs.Scheme.{Letter, f, g, h, s, r, p, LengthTerm, d, e, d+e, larger, smaller}

@@ -10,9 +10,9 @@ use lib.ListN.{length, getD, take, drop, List·getD-eq-default, drop-of-length-l
 use lib.Seq.{drop-cons, take-suc, getD-drop, getD-take}
 use Rattle.signals.specs.Moment.{M}
 use Rattle.names.specs.Names.{letter, digit, nameByte}
-use Rattle.grammar.specs.Lengths.{value, valueFrom}
+use Rattle.texts.specs.Lengths.{value, valueFrom}
 use Rattle.grammar.specs.Reader.{run, valueBetween}
-use Rattle.grammar.specs.Formula.{capped}
+use Rattle.texts.specs.Lengths.{capped}
 use Rattle.marks.specs.Marks.{Mark, lent, classOf, nextMark, numberAt}
 use Rattle.grammar.proofs.Bytes.{never}
 use Rattle.grammar.proofs.Writing.{value-more}

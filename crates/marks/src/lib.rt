@@ -7,7 +7,7 @@ ghost use mathlib.Core.Path.{_≡_};
 ghost use Prim.Native.Nat.{_+_, _-_, _<_, min, max};
 ghost use lib.ListN.{drop};
 ghost use Rattle.grammar.specs.Reader.{run, prefixKind};
-ghost use Rattle.grammar.specs.Formula.{capped};
+ghost use Rattle.texts.specs.Lengths.{capped};
 ghost use Rattle.marks.specs.Marks.{markOf, lent, classOf, nextMark, lengthEnd, leafEnd, numberAt, markFault};
 
 // The words of a mark: 1 if all is well and 0 if not, the bytes passed, the parts put out, and the largest depth and length of a part.

@@ -9,10 +9,8 @@ use lib.Dec.{leb, eqb}
 use lib.ListN.{length}
 use borrow.Author.Tests.{ne-eqb, eq-eqb, le-leb, eqb-true, eqb-false}
 use Rattle.names.proofs.Truth.{and-left, and-right}
-use Rattle.grammar.specs.Lengths.{isLength, valueFrom, value}
 use Rattle.names.specs.Names.{digit as isDigit, allOf}
-use Rattle.texts.proofs.Truth.{and-left, and-right}
-use Rattle.texts.specs.Lengths.{isDigit, allOf, isLength, valueFrom, value}
+use Rattle.texts.specs.Lengths.{isLength, valueFrom, value}
 use Rattle.texts.specs.Decimal.{digit, leading, decimal, DecimalRight}
 
 -- one digit more

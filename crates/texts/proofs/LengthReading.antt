@@ -9,7 +9,8 @@ use lib.ListN.{length, getD, drop}
 use borrow.Author.Tests.{ne-eqb, eq-eqb, lt-ltb, le-ltb, le-leb, lt-leb}
 use Rattle.slices.proofs.Steps.{drop-step, drop-end}
 use Rattle.signals.specs.Moment.{M}
-use Rattle.texts.specs.Lengths.{isDigit, allOf, isLength, valueFrom, value, capped, lengthRead}
+use Rattle.texts.specs.Lengths.{isLength, valueFrom, value, capped, lengthRead}
+use Rattle.names.specs.Names.{digit as isDigit, allOf}
 use Rattle.texts.specs.declared.Read.{Read}
 use Rattle.texts.specs.declared.Read.the-variants as read
 

@@ -1,5 +1,4 @@
 -- What the proofs of the functions cite.
-pub mod Truth
 pub mod Digits
 pub mod DecimalRight
 pub mod LengthReading

@@ -1,23 +1,18 @@
--- Document 01: "Lengths are decimal, without needless leading zeros." What a text that should be a length is read as.
+-- Decimal lengths as bytes, and what a text that should be a length is read as.
 use Prim.Native.Nat.{ℕ, _+_, _*_, _-_, min}
-use mathlib.Core.Bool.{Bool, true, false, not, cond, _&&_, _||_}
+use mathlib.Core.Bool.{Bool, false, not, cond, _&&_, _||_}
 use mathlib.Core.List.{List, [], _∷_}
-use lib.Dec.{leb, ltb, eqb}
+use lib.Dec.{ltb, eqb}
 use lib.ListN.{length}
+use Rattle.names.specs.Names.{digit, allOf}
 use Rattle.signals.specs.Moment.{M}
 use Rattle.texts.specs.declared.Read.{Read}
 use Rattle.texts.specs.declared.Read.the-variants as read
 
-unfoldable pub isDigit : ℕ → Bool
-isDigit b = leb 48 b && leb b 57
-
-unfoldable pub allOf : (ℕ → Bool) → List ℕ → Bool
-allOf p [] = true
-allOf p (b ∷ bs) = p b && allOf p bs
-
+-- Lengths are decimal, without needless leading zeros.
 unfoldable pub isLength : List ℕ → Bool
 isLength [] = false
-isLength (b ∷ bs) = isDigit b && (allOf isDigit bs && (eqb (length bs) 0 || not (eqb b 48)))
+isLength (b ∷ bs) = digit b && (allOf digit bs && (eqb (length bs) 0 || not (eqb b 48)))
 
 -- the number that digits write, after those that wrote `before`
 unfoldable pub valueFrom : ℕ → List ℕ → ℕ

@@ -2,9 +2,10 @@
 ghost use mathlib.Core.Path.{_≡_};
 ghost use Prim.Native.Nat.{_+_, _*_, _-_, _≤_, _<_};
 ghost use lib.ListN.{length, drop};
+ghost use Rattle.names.specs.Names.{digit, allOf};
 ghost use Rattle.signals.specs.Moment.{M as Moment·M};
 ghost use Rattle.texts.specs.Decimal.{decimal as Decimal·decimal, PutNumber};
-ghost use Rattle.texts.specs.Lengths.{isDigit, allOf, isLength, value, capped, lengthRead};
+ghost use Rattle.texts.specs.Lengths.{isLength, value, capped, lengthRead};
 ghost use Rattle.texts.specs.LineFeeds.{toLineFeed, pastLineFeed};
 use signals::Length;
 use signals::M;
@@ -59,21 +60,12 @@ pub fn put_number(out: &mut [u8], at: usize, n: u32) -> usize
     10 - from
 }
 
-fn is_digit(b: u8) -> bool
-    ensures { λ r. ⌜ r ≡ isDigit b ⌝ }
-{
-    if b < b'0' {
-        return false;
-    }
-    b <= b'9'
-}
-
 fn all_digits(text: &[u8]) -> bool
-    ensures { λ r. ⌜ r ≡ allOf isDigit (now (text .entry)) ⌝ }
+    ensures { λ r. ⌜ r ≡ allOf digit (now (text .entry)) ⌝ }
 {
     let mut i = 0;
     while i < text.len() {
-        if is_digit(text[i]) {
+        if names::is_digit(text[i]) {
             i += 1;
         } else {
             return false;

@@ -132,11 +132,11 @@ operations-CallFaults-NeverMet = Rattle.operations.proofs.NeverMet.neverMet
 pub operations-OperationsGive-OperationsGive : Rattle.operations.specs.OperationsGive.OperationsGive
 operations-OperationsGive-OperationsGive = Rattle.operations.proofs.OperationsGive.operationsGive
 
-pub report-Decimal-DecimalRight : Rattle.report.specs.Decimal.DecimalRight
-report-Decimal-DecimalRight = Rattle.report.proofs.DecimalRight.decimal-right
+pub report-Decimal-DecimalRight : Rattle.texts.specs.Decimal.DecimalRight
+report-Decimal-DecimalRight = Rattle.texts.proofs.DecimalRight.decimal-right
 
-pub report-OneLine-OneLine : Rattle.report.specs.OneLine.OneLine
-report-OneLine-OneLine = Rattle.report.proofs.OneLine.one-line
+pub report-OneLine-OneLine : Rattle.claim_line.specs.OneLine.OneLine
+report-OneLine-OneLine = Rattle.claim_line.proofs.OneLine.one-line
 
 pub sheets-LookupPlace-LookupPlace : Rattle.format.specs.LookupPlace.LookupPlace
 sheets-LookupPlace-LookupPlace = Rattle.format.proofs.LookupPlace.lookup-place

@@ -4,7 +4,7 @@ use native.Mathlib.Omega.{arith}
 use borrow.Author.Needs.{needs}
 use mathlib.Core.Path.{_≡_, sym, ap, _∙_}
 use mathlib.Core.Logic.{⊎-elim}
-use Rattle.grammar.specs.Formula.{capped}
+use Rattle.texts.specs.Lengths.{capped}
 use Rattle.marks.specs.Marks.{numberAt}
 use Rattle.marks.proofs.Marking.{number-next, number-none, capped-next, capped-over, capped-under, capped-most}
 use Rattle.marks.proofs.ticks.Statement.{statement}

@@ -5,7 +5,7 @@ use Prim.Native.Nat.{_-_, _≤_}
 use denote.Ref.{now}
 use mathlib.Core.Path.{_≡_, refl, sym, _∙_}
 use lib.ListN.{length, drop}
-use Rattle.texts.specs.Lengths.{isDigit, allOf}
+use Rattle.names.specs.Names.{digit as isDigit, allOf}
 use Rattle.texts.proofs.LengthReading.{all-passed, all-broken, all-ended}
 use Rattle.texts.proofs.all_digits.Statement.{statement}
 use Rattle.texts.proofs.all_digits.Tie as tie

@@ -6,7 +6,7 @@ use borrow.Author.Tests.{ne-eqb}
 use mathlib.Core.Path.{sym, ap, _∙_}
 use lib.ListN.{length}
 use borrow.Author.Needs.{needs}
-use Rattle.grammar.specs.Formula.{capped}
+use Rattle.texts.specs.Lengths.{capped}
 use Rattle.marks.specs.Marks.{Mark, markOf, lent}
 use Rattle.marks.proofs.Marking.{capped-most}
 use Rattle.formulas.proofs.Lending.{lent-on, text-long, number-lent}
