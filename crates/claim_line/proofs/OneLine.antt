@@ -11,7 +11,7 @@ use borrow.Author.Tests.{eqb-false}
 use Rattle.signals.specs.Moment.{M}
 use Rattle.signals.specs.declared.Verdict.{Verdict}
 use Rattle.signals.specs.declared.Verdict.the-variants.{Holds, FailsAt, FailsAfter, Refused}
-use Rattle.sheets.proofs.Truth.{and-left, and-right}
+use Rattle.names.proofs.Truth.{and-left, and-right}
 use Rattle.claim_line.specs.Input.{formulaF, formulaG, sheetIn}
 use Rattle.claim_line.specs.Line.{line, lineOf, holdsText, failsAtText, failsAfterText, refusedText}
 use Rattle.texts.specs.Decimal.{digit, leading, decimal}
