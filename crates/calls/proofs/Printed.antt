@@ -10,7 +10,7 @@ use Rattle.signals.specs.Signal.{every, TON, refuted}
 use Rattle.signals.specs.Words.{word, dateOf, valueAt, valueAfter, headValue, changesNothing, valueFrom, signalOf, lastFrom, lastDate, wordsOf, listOf}
 use Rattle.signals.specs.Implication.{earliest, failsIn, firstFailing}
 use Rattle.signals.specs.declared.Verdict.the-variants.{FailsAt}
-use Rattle.operations.specs.Calls.{changesAfterM}
+use Rattle.operations.specs.Calls.{changesAfterM, partFault}
 use Rattle.formulas.specs.Tree as tree
 use Rattle.formulas.specs.Tree.{Tree}
 use Rattle.formulas.specs.Grammar.{Writes, Sum, Product, Factor, isLower, isDigit, isNameByte, allOf, isName, isLength, value}
@@ -25,7 +25,7 @@ use Rattle.sheets.specs.Names.{letter, digit, lettersOrDigits, wellNamed, zeros
 use Rattle.sheets.specs.Reading as reading
 use Rattle.sheets.specs.Reading.{wordCount, signalSize, laterWordsFault, sheetWordsFault, signalFault, signalsFault, frontFault, countOn, sheetFault, signalsFrom, signalsOn, names, listNamed, environmentOn}
 use Rattle.calls.specs.OnSheet.{settlingDate, exactOn, namesFound}
-use Rattle.calls.specs.Calls.{neededWork, partFault, partsFault, wordsOn, claimFails, claimVerdict}
+use Rattle.calls.specs.Calls.{neededWork, partsFault, wordsOn, claimFails, claimVerdict}
 use Rattle.calls.specs.Engine.{defined}
 use Rattle.calls.specs.Demand2.{Delivered}
 use Rattle.calls.specs.Printed.{printedSheet, printedF, printedG, Printed}

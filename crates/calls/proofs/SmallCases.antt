@@ -9,7 +9,7 @@ use Rattle.signals.specs.Signal.{constant, NOT, refuted}
 use Rattle.signals.specs.Words.{dateOf, wordsOf, listOf}
 use Rattle.signals.specs.Implication.{earliest, failsIn, firstFailing}
 use Rattle.signals.specs.declared.Verdict.the-variants.{FailsAfter}
-use Rattle.operations.specs.Calls.{changesAfterM}
+use Rattle.operations.specs.Calls.{changesAfterM, partFault}
 use Rattle.formulas.specs.Tree as tree
 use Rattle.formulas.specs.Tree.{Tree}
 use Rattle.formulas.specs.Grammar.{Writes, Sum, Product, Factor, isLower, isDigit, isNameByte}
@@ -21,7 +21,7 @@ use Rattle.sheets.specs.Bytes.{low16}
 use Rattle.sheets.specs.Names.{same}
 use Rattle.sheets.specs.Reading.{signalsFault, frontFault, countOn, sheetFault}
 use Rattle.calls.specs.OnSheet.{settlingDate, exactOn, namesFound}
-use Rattle.calls.specs.Calls.{neededWork, readingFault, partFault, partsFault, workingFault, wordsOn, claimFails, claimVerdict}
+use Rattle.calls.specs.Calls.{neededWork, readingFault, partsFault, workingFault, wordsOn, claimFails, claimVerdict}
 use Rattle.calls.specs.Answered.{Answered, Enough}
 use Rattle.calls.proofs.NotRefused.{Clear, clear-answered}
 use Rattle.signals.specs.Answers.{firstOf}

@@ -14,7 +14,9 @@ use Rattle.formulas.specs.Formula.{formulaFault, formulaTree, accepted, longest
 use Rattle.laws.specs.Rewriting.{parts}
 use Rattle.sheets.specs.Reading.{sheetFault}
 use Rattle.calls.specs.OnSheet.{exactOn, namesFound}
-use Rattle.calls.specs.Calls.{neededWork, readingFault, workFault, partFault, partsFault, workingFault, wordsOn, roomFault, callFault, callAnswer, claimFault, claimAnswer}
+use Rattle.calls.specs.Calls.{neededWork, readingFault, workFault, partsFault, workingFault, wordsOn, callFault, callAnswer, claimFault, claimAnswer}
+use Rattle.operations.specs.Calls.{roomFault}
+use Rattle.operations.specs.Calls.{partFault}
 use Rattle.calls.proofs.FirstFault.{passed}
 use Rattle.calls.proofs.PartFaults.{whole-none}
 use Rattle.capi.specs.Packing.{SmallWritten, SmallVerdict}

@@ -145,7 +145,7 @@ pub extern "C" fn sgl_implies(a: &[u32], b: &[u32]) -> u64
 pub extern "C" fn sgl_not(a: &[u32], out: &mut [u32]) -> u32
     ensures { λ r. ⌜ ExportedOne NOT (now (a .entry)) (now (out .entry)) r (now (out .exit)) ⌝ }
 {
-    pack_written(operations::not(a, out))
+    pack_written(merging::not(a, out))
 }
 
 // A connective by its table.
@@ -153,7 +153,7 @@ pub extern "C" fn sgl_not(a: &[u32], out: &mut [u32]) -> u32
 pub extern "C" fn sgl_connective(table: u32, a: &[u32], b: &[u32], out: &mut [u32]) -> u32
     ensures { λ r. ⌜ ExportedTwo (connective (tableIn table)) (now (a .entry)) (now (b .entry)) (now (out .entry)) r (now (out .exit)) ⌝ }
 {
-    pack_written(operations::connective(table_in(table), a, b, out))
+    pack_written(merging::connective(table_in(table), a, b, out))
 }
 
 // Rising edges.
@@ -161,7 +161,7 @@ pub extern "C" fn sgl_connective(table: u32, a: &[u32], b: &[u32], out: &mut [u3
 pub extern "C" fn sgl_rising(a: &[u32], out: &mut [u32]) -> u32
     ensures { λ r. ⌜ ExportedOne rising (now (a .entry)) (now (out .entry)) r (now (out .exit)) ⌝ }
 {
-    pack_written(operations::rising(a, out))
+    pack_written(merging::rising(a, out))
 }
 
 // Falling edges.
@@ -169,7 +169,7 @@ pub extern "C" fn sgl_rising(a: &[u32], out: &mut [u32]) -> u32
 pub extern "C" fn sgl_falling(a: &[u32], out: &mut [u32]) -> u32
     ensures { λ r. ⌜ ExportedOne falling (now (a .entry)) (now (out .entry)) r (now (out .exit)) ⌝ }
 {
-    pack_written(operations::falling(a, out))
+    pack_written(merging::falling(a, out))
 }
 
 // The latch in which set wins.
@@ -177,7 +177,7 @@ pub extern "C" fn sgl_falling(a: &[u32], out: &mut [u32]) -> u32
 pub extern "C" fn sgl_sr(s: &[u32], r: &[u32], out: &mut [u32]) -> u32
     ensures { λ v. ⌜ ExportedTwo SR (now (s .entry)) (now (r .entry)) (now (out .entry)) v (now (out .exit)) ⌝ }
 {
-    pack_written(operations::sr(s, r, out))
+    pack_written(merging::sr(s, r, out))
 }
 
 // The latch in which reset wins.
@@ -185,7 +185,7 @@ pub extern "C" fn sgl_sr(s: &[u32], r: &[u32], out: &mut [u32]) -> u32
 pub extern "C" fn sgl_rs(s: &[u32], r: &[u32], out: &mut [u32]) -> u32
     ensures { λ v. ⌜ ExportedTwo RS (now (s .entry)) (now (r .entry)) (now (out .entry)) v (now (out .exit)) ⌝ }
 {
-    pack_written(operations::rs(s, r, out))
+    pack_written(merging::rs(s, r, out))
 }
 
 // TON(d,f), the on-delay.
@@ -193,7 +193,7 @@ pub extern "C" fn sgl_rs(s: &[u32], r: &[u32], out: &mut [u32]) -> u32
 pub extern "C" fn sgl_ton(d: u32, f: &[u32], out: &mut [u32]) -> u32
     ensures { λ r. ⌜ ExportedDelay (TON d) d (now (f .entry)) (now (out .entry)) r (now (out .exit)) ⌝ }
 {
-    pack_written(operations::delay::ton(Length(d), f, out))
+    pack_written(delays::ton(Length(d), f, out))
 }
 
 // TOF(d,f), the off-delay.
@@ -201,7 +201,7 @@ pub extern "C" fn sgl_ton(d: u32, f: &[u32], out: &mut [u32]) -> u32
 pub extern "C" fn sgl_tof(d: u32, f: &[u32], out: &mut [u32]) -> u32
     ensures { λ r. ⌜ ExportedDelay (TOF d) d (now (f .entry)) (now (out .entry)) r (now (out .exit)) ⌝ }
 {
-    pack_written(operations::delay::tof(Length(d), f, out))
+    pack_written(delays::tof(Length(d), f, out))
 }
 
 // Begins a sheet.

@@ -17,7 +17,7 @@ use Rattle.formulas.specs.Tree.{Tree, Unary, Binary, unary, binary, invert, ris
 use Rattle.laws.proofs.Consequences.{one-list}
 use Rattle.sheets.specs.Reading.{sheetFault}
 use Rattle.calls.specs.OnSheet.{signalOn, settlingDate, exactOn}
-use Rattle.calls.specs.Calls.{partFault}
+use Rattle.operations.specs.Calls.{partFault}
 use Rattle.calls.proofs.Settles.{settles, exact-for}
 use Rattle.evaluation.specs.Machine.{unaryExact, binaryExact, AND-table, OR-table}
 

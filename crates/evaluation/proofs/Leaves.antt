@@ -14,7 +14,7 @@ use Rattle.signals.specs.Signal.{constant, num}
 use Rattle.signals.specs.Words.{listOf, wordsOf, listFault, signalOf, lastDate, dateOf}
 use Rattle.signals.proofs.WordFacts.{date-le}
 use Rattle.operations.specs.Calls.{changesAfterM}
-use Rattle.calls.specs.Calls.{partFault}
+use Rattle.operations.specs.Calls.{partFault}
 use Rattle.signals.proofs.Normal.{readBack, acceptedNormal}
 use Rattle.sheets.specs.Bytes.{Bytes, wordsIn}
 use Rattle.sheets.specs.Names.{wellNamed, among}

@@ -14,16 +14,18 @@ use Rattle.signals.specs.Moment.{M}
 use Rattle.signals.specs.Signal.{Table, tableOf, NOT, rising, falling, SR, RS, TON, TOF, connective}
 use Rattle.signals.specs.Words.{listFault}
 use Rattle.operations.specs.Calls.{exactOfOne, exactOfTwo, exactOfDelay}
-use Rattle.operations.specs.Slots.{builtAnswer}
-use Rattle.operations.specs.declared.SlotAnswer.{SlotAnswer}
-use Rattle.operations.specs.declared.SlotAnswer.the-variants.{Stands, TooLong, TooLate, NotBegun}
+use Rattle.building.specs.Slots.{builtAnswer}
+use Rattle.building.specs.declared.SlotAnswer.{SlotAnswer}
+use Rattle.building.specs.declared.SlotAnswer.the-variants.{Stands, TooLong, TooLate, NotBegun}
 use Rattle.formulas.specs.Tree.{Tree, Leaf, Unary, Binary, leaf, unary, binary, down, up, name, invert, rise, fall, ton, tof, and, or, sr, rs}
 use Rattle.formulas.specs.Code.{Part, operand, one, two, ticksOf, top, code}
 use Rattle.formulas.specs.Formula.{nameAt, partOf, codeOf, formulaTree}
 use Rattle.sheets.specs.Names.{wellNamed, among}
 use Rattle.sheets.specs.Reading.{signalsOn, names}
 use Rattle.calls.specs.OnSheet.{exactOn, leafFound}
-use Rattle.calls.specs.Calls.{partFault, partsFault, readingFault, workFault, workingFault, roomFault, wordsOn, claimFails}
+use Rattle.calls.specs.Calls.{partsFault, readingFault, workFault, workingFault, wordsOn, claimFails}
+use Rattle.operations.specs.Calls.{roomFault}
+use Rattle.operations.specs.Calls.{partFault}
 use Rattle.laws.specs.Rewriting.{parts}
 use Rattle.evaluation.specs.declared.Next.{Next}
 use Rattle.signals.specs.Answers.{firstOf}

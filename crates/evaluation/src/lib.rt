@@ -14,12 +14,13 @@ ghost use Rattle.formulas.specs.Code.{ticksOf, operand, one, two, code};
 ghost use Rattle.evaluation.specs.Machine.{leafOf, unaryOf, binaryOf, leafKnown, Loaded, Given, partAnswer, unaryExact, binaryExact, Room, Ready, Steps, Plan, partsIn, WorkedOut, partFound, allFound, Prepared, Coded, runFault, judgeFault, InSlot, ClaimOn};
 ghost use Rattle.evaluation.specs.Work.{firstFault, firstClaimFault};
 ghost use Rattle.signals.specs.Answers.{writtenOf, outputOf, verdictFor};
-ghost use Rattle.calls.specs.Calls.{roomFault, wordsOn, callAnswer, callOutput, claimFails, claimAnswer};
+ghost use Rattle.calls.specs.Calls.{wordsOn, callAnswer, callOutput, claimFails, claimAnswer};
+ghost use Rattle.operations.specs.Calls.{roomFault};
 ghost use Rattle.formulas.specs.Formula.{formulaTree};
 ghost use Rattle.laws.specs.Rewriting.{parts};
 ghost use Rattle.calls.specs.OnSheet.{exactOn};
 ghost use Rattle.calls.specs.Calls.{partsFault, workingFault};
-use operations::SlotAnswer;
+use building::SlotAnswer;
 use signals::Length;
 use signals::Verdict;
 use signals::Written;
@@ -133,19 +134,19 @@ fn apply_unary(code: u64, a: &[u32], buffer: &mut [u32]) -> SlotAnswer
 {
     let kind = code % 16;
     if kind == formulas::kind::NOT {
-        return operations::not_in(a, buffer);
+        return merging::not_in(a, buffer);
     }
     if kind == formulas::kind::RISING {
-        return operations::rising_in(a, buffer);
+        return merging::rising_in(a, buffer);
     }
     if kind == formulas::kind::FALLING {
-        return operations::falling_in(a, buffer);
+        return merging::falling_in(a, buffer);
     }
     let ticks = (code / 16 % 4294967296) as u32;
     if kind == formulas::kind::TON {
-        return operations::delay::ton_in(Length(ticks), a, buffer);
+        return delays::ton_in(Length(ticks), a, buffer);
     }
-    operations::delay::tof_in(Length(ticks), a, buffer)
+    delays::tof_in(Length(ticks), a, buffer)
 }
 
 // A part of two operands, worked out in a buffer.
@@ -155,15 +156,15 @@ fn apply_binary(code: u64, a: &[u32], b: &[u32], buffer: &mut [u32]) -> SlotAnsw
 {
     let kind = code % 16;
     if kind == formulas::kind::AND {
-        return operations::connective_in(AND, a, b, buffer);
+        return merging::connective_in(AND, a, b, buffer);
     }
     if kind == formulas::kind::OR {
-        return operations::connective_in(OR, a, b, buffer);
+        return merging::connective_in(OR, a, b, buffer);
     }
     if kind == formulas::kind::SR {
-        return operations::sr_in(a, b, buffer);
+        return merging::sr_in(a, b, buffer);
     }
-    operations::rs_in(a, b, buffer)
+    merging::rs_in(a, b, buffer)
 }
 
 // A part's answer from what its call in the buffer gives: 5, 6, or its word count. The calls made here all begin.

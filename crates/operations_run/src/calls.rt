@@ -3,7 +3,7 @@ use super::list;
 use super::print;
 use super::show;
 use super::word;
-use operations::SlotAnswer;
+use building::SlotAnswer;
 use signals::Length;
 use signals::Written;
 
@@ -76,14 +76,14 @@ fn show_call(operation: u32, d: u32, a: &[u32], b: &[u32]) {
 
 fn given_in(operation: u32, d: u32, a: &[u32], b: &[u32], out: &mut [u32]) -> SlotAnswer {
     match operation {
-        NOT_IN => operations::not_in(a, out),
-        RISING_IN => operations::rising_in(a, out),
-        FALLING_IN => operations::falling_in(a, out),
-        OR_IN => operations::connective_in(OR_TABLE, a, b, out),
-        SR_IN => operations::sr_in(a, b, out),
-        RS_IN => operations::rs_in(a, b, out),
-        TON_IN => operations::delay::ton_in(Length(d), a, out),
-        _ => operations::delay::tof_in(Length(d), a, out),
+        NOT_IN => merging::not_in(a, out),
+        RISING_IN => merging::rising_in(a, out),
+        FALLING_IN => merging::falling_in(a, out),
+        OR_IN => merging::connective_in(OR_TABLE, a, b, out),
+        SR_IN => merging::sr_in(a, b, out),
+        RS_IN => merging::rs_in(a, b, out),
+        TON_IN => delays::ton_in(Length(d), a, out),
+        _ => delays::tof_in(Length(d), a, out),
     }
 }
 
@@ -99,14 +99,14 @@ fn shown_as(answer: SlotAnswer) -> Written {
 
 fn answer(operation: u32, d: u32, a: &[u32], b: &[u32], out: &mut [u32]) -> Written {
     match operation {
-        NOT => operations::not(a, out),
-        RISING => operations::rising(a, out),
-        FALLING => operations::falling(a, out),
-        OR => operations::connective(OR_TABLE, a, b, out),
-        SR => operations::sr(a, b, out),
-        RS => operations::rs(a, b, out),
-        TON => operations::delay::ton(Length(d), a, out),
-        TOF => operations::delay::tof(Length(d), a, out),
+        NOT => merging::not(a, out),
+        RISING => merging::rising(a, out),
+        FALLING => merging::falling(a, out),
+        OR => merging::connective(OR_TABLE, a, b, out),
+        SR => merging::sr(a, b, out),
+        RS => merging::rs(a, b, out),
+        TON => delays::ton(Length(d), a, out),
+        TOF => delays::tof(Length(d), a, out),
         _ => shown_as(given_in(operation, d, a, b, out)),
     }
 }

@@ -15,7 +15,7 @@ fn table(n: u32, a: &[u32], b: &[u32]) {
     word(n);
     list(a);
     list(b);
-    let answer = operations::connective(table, a, b, &mut out);
+    let answer = merging::connective(table, a, b, &mut out);
     show(answer, &out);
 }
 
