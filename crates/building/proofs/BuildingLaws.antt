@@ -137,7 +137,7 @@ pub record Advanced (exact old rest : List ℕ) (slot : List ℕ) (made : Made) 
   pub left : drop (made .count) exact ≡ rest
 
 module _ (exact old slot rest : List ℕ) (made : Made) (date : ℕ) (at after : Bool) (b : Building exact old slot made)
-    (small : length exact ≤ 18446744073709551615)
+    (small : length exact < 4294967296)
   where
     advance-idle : idle (made .value) at after ≡ true → drop (made .count) exact ≡ rest
         → Advanced exact old rest (emittedIn slot made date at after) (emitted made date at after)
@@ -152,7 +152,7 @@ module _ (exact old slot rest : List ℕ) (made : Made) (date : ℕ) (at after :
           building = record {
             counted = omega (arith, length-next exact (made .count) w rest left);
             late = now-late;
-            slot-is = placed (made .late) (leb date M) (ltb (made .count) (length slot)) refl refl refl;
+            slot-is = placed (made .late) (ltb M date) (ltb (made .count) (length slot)) refl refl refl;
           };
           left = drop-next exact (made .count) w rest left;
         })
@@ -178,17 +178,19 @@ module _ (exact old slot rest : List ℕ) (made : Made) (date : ℕ) (at after :
         now-late : (made .late || ltb M date) ≡ changesAfterM (take (made .count + 1) exact)
         now-late = rw (next, late-snoc sofar w, dateOf-word date at after, b .late)
 
-        placed : (t u v : Bool) → made .late ≡ t → leb date M ≡ u → ltb (made .count) (length slot) ≡ v
-            → cond ((not t && u) && v) (set slot (made .count) w) slot ≡ slotWith (take (made .count + 1) exact) old
+        placed : (t u v : Bool) → made .late ≡ t → ltb M date ≡ u → ltb (made .count) (length slot) ≡ v
+            → cond (not (t || u) && v) (set slot (made .count) w) slot ≡ slotWith (take (made .count + 1) exact) old
         placed true u v lt le lv = rw next (b .slot-is ∙ sym (slot-late sofar old w (sym (b .late) ∙ lt)))
-        placed false false v lt le lv =
-            rw next (b .slot-is ∙ sym (slot-past-M sofar old w (sym (b .late) ∙ lt) (rw dateOf-word (leb-false date M le))))
-        placed false true false lt le lv =
-            rw next (b .slot-is ∙ sym (slot-full sofar old w (sym (b .late) ∙ lt) (rw dateOf-word (leb-true date M le)) (rw (long, ← same) (ltb-false (made .count) (length slot) lv))))
-        placed false true true lt le lv =
+        placed false true v lt le lv =
+            rw next (b .slot-is ∙ sym (slot-past-M sofar old w (sym (b .late) ∙ lt) (rw dateOf-word (ltb-true M date le))))
+        placed false false false lt le lv =
+            let full : length old ≤ length sofar = omega (arith, long, same, ltb-false (made .count) (length slot) lv) in
+            rw next (b .slot-is ∙ sym (slot-full sofar old w (sym (b .late) ∙ lt) (rw dateOf-word (ltb-false M date le)) full))
+        placed false false true lt le lv =
+            let place : length sofar < length old = omega (arith, long, same, ltb-true (made .count) (length slot) lv) in
             rw (next, b .slot-is)
             (ap (λ i. set (slotWith sofar old) i w) (sym long)
-            ∙ sym (slot-stored sofar old w (sym (b .late) ∙ lt) (rw dateOf-word (leb-true date M le)) (rw (long, ← same) (ltb-true (made .count) (length slot) lv))))
+            ∙ sym (slot-stored sofar old w (sym (b .late) ∙ lt) (rw dateOf-word (ltb-false M date le)) place))
 
     pub advance : drop (made .count) exact ≡ entry (made .value) date at after ++ rest
         → Advanced exact old rest (emittedIn slot made date at after) (emitted made date at after)

@@ -11,7 +11,7 @@ use Rattle.signals.specs.Moment.{M, gap, instant}
 use Rattle.signals.specs.Signal.{Signal, num}
 use Rattle.signals.specs.Words.{wordsOf, listOf, word, dateOf}
 use Rattle.signals.proofs.Scan.{Held, scan-to, scan-settled}
-use Rattle.building.specs.Building.{idle, oneMore, emitted, emittedIn, begun, Built, slotWith, fitting, upToM}
+use Rattle.building.specs.Building.{idle, oneMore, lateWith, emitted, emittedIn, begun, Built, slotWith, fitting, upToM}
 use Rattle.building.specs.declared.Made.{Made}
 use Rattle.building.proofs.BuildingLaws.{Building, building-begin, Advanced, advance}
 
@@ -25,7 +25,7 @@ emitted-value : (made : Made) (date : ℕ) (at after : Bool) → after ≡ (emit
 unfolding emitted idle
 emitted-value made date at after = go (made .value) at after refl
   where
-    go : (v a b : Bool) → made .value ≡ v → b ≡ (cond (Bool·beq a v && Bool·beq b v) made (record { value = b; count = oneMore (made .count); late = made .late || ltb M date })) .value
+    go : (v a b : Bool) → made .value ≡ v → b ≡ (cond (Bool·beq a v && Bool·beq b v) made (record { count = oneMore (made .count); value = b; late = lateWith (made .late) date })) .value
     go true true true e = sym e
     go true true false e = refl
     go true false b e = refl
@@ -57,7 +57,7 @@ module _ (F : Signal) (n : ℕ) (old : List ℕ) where
       zero-left = omega arith
 
   -- a date at which, or after which, F may change
-  pub scanning-emit : (k d : ℕ) (v a b : Bool) (slot : List ℕ) (made : Made) → Scanning F n k old slot made → Held F k d v a b → d ≤ n → n < 18446744073709551615
+  pub scanning-emit : (k d : ℕ) (v a b : Bool) (slot : List ℕ) (made : Made) → Scanning F n k old slot made → Held F k d v a b → d ≤ n → n + 1 < 4294967296
       → Scanning F n d old (emittedIn slot made d a b) (emitted made d a b)
   scanning-emit k d v a b slot made s h le small =
       record { building = next .building; left = next .left; value-is = h .after ∙ emitted-value made d a b }

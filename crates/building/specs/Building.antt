@@ -1,9 +1,9 @@
 -- Definitions that only mirror the code, not to be believed: how an answer is built word by word in a slot, and handed over.
-use Prim.Native.Nat.{ℕ, _+_, min}
+use Prim.Native.Nat.{ℕ, _+_, _%_}
 use mathlib.Core.Path.{_≡_}
 use mathlib.Core.Bool.{Bool, false, not, cond, Bool·beq, _&&_, _||_}
 use mathlib.Core.List.{List, [], _∷_, _++_}
-use lib.Dec.{leb, ltb}
+use lib.Dec.{ltb}
 use lib.ListN.{length, take, drop, set}
 use Rattle.signals.specs.Moment.{M}
 use Rattle.signals.specs.Signal.{num}
@@ -17,20 +17,24 @@ use Rattle.building.specs.declared.Made.{Made}
 unfoldable pub idle : Bool → Bool → Bool → Bool
 idle before at after = Bool·beq at before && Bool·beq after before
 
--- a count stays in 64 bits
+-- a count goes round at 2^32
 abbrev pub oneMore : ℕ → ℕ
-oneMore count = min (count + 1) 18446744073709551615
+oneMore count = (count + 1) % 4294967296
 
--- what a word adds to the answer being built: counted always, late when dated after M
+-- late from a word dated after M on
+abbrev pub lateWith : Bool → ℕ → Bool
+lateWith late date = late || ltb M date
+
+-- what a word adds to the answer being built: counted always
 unfoldable pub emitted : Made → ℕ → Bool → Bool → Made
 emitted made date at after =
     cond (idle (made .value) at after)
     made
-    (record { value = after; count = oneMore (made .count); late = made .late || ltb M date })
+    (record { value = after; count = oneMore (made .count); late = lateWith (made .late) date })
 
 -- where it is stored: in the slot's next place, if it has one, and not when late
 unfoldable pub stores : List ℕ → Made → ℕ → Bool
-stores slot made date = (not (made .late) && leb date M) && ltb (made .count) (length slot)
+stores slot made date = not (lateWith (made .late) date) && ltb (made .count) (length slot)
 
 unfoldable pub emittedIn : List ℕ → Made → ℕ → Bool → Bool → List ℕ
 emittedIn slot made date at after =

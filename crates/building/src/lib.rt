@@ -12,13 +12,10 @@ use signals::Written;
 // The most words that an answer has.
 pub const WORDS: usize = 256;
 
-// The most that a count says, far above the words of any answer.
-const MOST: usize = 18446744073709551615;
-
 // The answer being built in a slot: the value after its last word, its words counted, and whether one is dated after M.
 pub struct Made {
     pub value: bool,
-    pub count: usize,
+    pub count: u32,
     pub late: bool,
 }
 
@@ -33,10 +30,11 @@ fn idle_word(before: bool, at: bool, after: bool) -> bool
     }
 }
 
-fn one_more(count: usize) -> usize
+// A count goes round at 2^32, above the words of any answer.
+fn one_more(count: u32) -> u32
     ensures { λ r. ⌜ r ≡ oneMore count ⌝ }
 {
-    if count < MOST { count + 1 } else { count }
+    ((count as u64 + 1) % 4294967296) as u32
 }
 
 // The first word of an answer.
@@ -65,33 +63,29 @@ pub fn emit(slot: &mut [u32], made: Made, date: Date, at: bool, after: bool) -> 
     if idle_word(made.value, at, after) {
         return made;
     }
-    let count = made.count;
+    let count = one_more(made.count);
     let on = date.0;
     if made.late {
         return Made {
             value: after,
-            count: one_more(count),
+            count,
             late: true,
         };
     }
     if M < on {
         return Made {
             value: after,
-            count: one_more(count),
+            count,
             late: true,
         };
     }
-    if count < slot.len() {
-        slot[count] = signals::word_of(date, at, after) as u32;
-        return Made {
-            value: after,
-            count: count + 1,
-            late: false,
-        };
+    let place = made.count as usize;
+    if place < slot.len() {
+        slot[place] = signals::word_of(date, at, after) as u32;
     }
     Made {
         value: after,
-        count: one_more(count),
+        count,
         late: false,
     }
 }
@@ -112,7 +106,7 @@ fn copy_words(slot: &[u32], count: usize, out: &mut [u32])
 pub fn deliver(slot: &[u32], made: Made, out: &mut [u32]) -> Written
     ensures { λ r. ⌜ Delivers made (now (slot .entry)) (now (out .entry)) r (now (out .exit)) ⌝ }
 {
-    let count = made.count;
+    let count = made.count as usize;
     if WORDS < count {
         return Written::Refused(5);
     }
@@ -142,7 +136,7 @@ pub enum SlotAnswer {
 pub fn finish(made: Made) -> SlotAnswer
     ensures { λ r. ⌜ r ≡ madeAnswer made ⌝ }
 {
-    let count = made.count;
+    let count = made.count as usize;
     if WORDS < count {
         return SlotAnswer::TooLong;
     }

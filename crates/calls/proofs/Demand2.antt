@@ -19,7 +19,7 @@ use Rattle.signals.proofs.Normal.{accepted-normal}
 use Rattle.signals.proofs.Implication.{verdict-judged}
 use Rattle.signals.proofs.Settling.{settled-later}
 use Rattle.signals.proofs.Truth.{not-both}
-use Rattle.operations.specs.Calls.{changesAfterM}
+use Rattle.operations.specs.Calls.{changesAfterM, partFault}
 use Rattle.grammar.specs.Tree.{Tree}
 use Rattle.grammar.specs.Grammar.{Writes}
 use Rattle.grammar.proofs.Reading.{tree-of}
@@ -33,7 +33,7 @@ use Rattle.format.proofs.Named.{among-snoc, named-new}
 use Rattle.format.proofs.Appending.{appends}
 use Rattle.format.proofs.Theorems.{append-keeps-sheet}
 use Rattle.calls.specs.OnSheet.{signalOn, settlingDate, exactOn}
-use Rattle.calls.specs.Calls.{neededWork, partFault, workingFault, wordsOn, callFault, callAnswer, callOutput, claimFault, claimFails, claimVerdict, claimAnswer}
+use Rattle.calls.specs.Calls.{neededWork, workingFault, wordsOn, callFault, callAnswer, callOutput, claimFault, claimFails, claimVerdict, claimAnswer}
 use Rattle.calls.specs.NormalLists.{ListFor, TheList, JudgedAs}
 use Rattle.calls.specs.Engine.{Engine, defined}
 use Rattle.calls.specs.Tabled.{CallFaultIs}

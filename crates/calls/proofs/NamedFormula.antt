@@ -12,7 +12,7 @@ use Rattle.signals.specs.Signal.{constant}
 use Rattle.signals.specs.Words.{dateOf, listFault, wordsOf, listOf}
 use Rattle.signals.proofs.Truth.{and-left, down-of, not-both}
 use Rattle.signals.proofs.Normal.{accepted-normal, read-back}
-use Rattle.operations.specs.Calls.{changesAfterM}
+use Rattle.operations.specs.Calls.{changesAfterM, partFault}
 use Rattle.grammar.specs.Tree.{Tree, Leaf, leaf, unary, binary, down, up, name}
 use Rattle.grammar.specs.Code.{code}
 use Rattle.grammar.specs.Grammar.{Sum, Product, Factor}
@@ -28,7 +28,7 @@ use Rattle.format.specs.Reading.{sheetFault, signalsOn, names, listNamed, envir
 use Rattle.calls.specs.OnSheet.{settlingDate, exactOn, leafFound, namesFound}
 use Rattle.calls.specs.TreesOnSheets.{TreesOnSheets}
 use Rattle.calls.proofs.Settles.{settles, exact-for}
-use Rattle.calls.specs.Calls.{readingFault, partFault, partsFault, workingFault, wordsOn}
+use Rattle.calls.specs.Calls.{readingFault, partsFault, workingFault, wordsOn}
 use Rattle.format.proofs.SheetLists.{sheet-sound, named-sound, named-words}
 use Rattle.calls.proofs.PartFaults.{late-of}
 use Rattle.calls.proofs.NotRefused.{Clear}

@@ -17,7 +17,8 @@ use Rattle.signals.specs.declared.Verdict.the-variants as verdict
 use Rattle.grammar.specs.Tree.{Tree}
 use Rattle.grammar.specs.Formula.{formulaTree}
 use Rattle.format.specs.Reading.{sheetFault}
-use Rattle.calls.specs.Calls.{neededWork, readingFault, workFault, workingFault, wordsOn, roomFault, callFault, callAnswer, claimFault, claimFails, claimVerdict, claimAnswer}
+use Rattle.calls.specs.Calls.{neededWork, readingFault, workFault, workingFault, wordsOn, callFault, callAnswer, claimFault, claimFails, claimVerdict, claimAnswer}
+use Rattle.operations.specs.Calls.{roomFault}
 use Rattle.calls.specs.Answered.{Answered, Enough}
 use Rattle.calls.specs.NotRefused.{NotRefused}
 use Rattle.calls.proofs.FirstFault.{passed}

@@ -12,12 +12,12 @@ use Rattle.signals.specs.Moment.{M}
 use Rattle.signals.specs.Signal.{Signal}
 use Rattle.signals.specs.Words.{dateOf}
 use Rattle.signals.proofs.Truth.{or-cases, or-left, or-right, not-both}
-use Rattle.operations.specs.Calls.{changesAfterM}
+use Rattle.operations.specs.Calls.{changesAfterM, partFault}
 use Rattle.grammar.specs.Tree.{Tree, leaf, unary, binary}
 use Rattle.grammar.specs.Parts.{parts}
 use Rattle.format.specs.Reading.{sheetFault}
 use Rattle.calls.specs.OnSheet.{signalOn, exactOn}
-use Rattle.calls.specs.Calls.{partFault, partsFault}
+use Rattle.calls.specs.Calls.{partsFault}
 use Rattle.calls.specs.NormalLists.{ListFor}
 use Rattle.calls.specs.Tabled.{Meets5, Meets6}
 use Rattle.signals.specs.Checks.{Check, NoFault}

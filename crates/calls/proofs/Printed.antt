@@ -10,7 +10,7 @@ use Rattle.signals.specs.Signal.{every, TON, refuted}
 use Rattle.signals.specs.Words.{word, dateOf, valueAt, valueAfter, headValue, changesNothing, valueFrom, signalOf, lastFrom, lastDate, wordsOf, listOf}
 use Rattle.signals.specs.Implication.{earliest, failsIn, firstFailing}
 use Rattle.signals.specs.declared.Verdict.the-variants.{FailsAt}
-use Rattle.operations.specs.Calls.{changesAfterM}
+use Rattle.operations.specs.Calls.{changesAfterM, partFault}
 use Rattle.grammar.specs.Tree as tree
 use Rattle.grammar.specs.Tree.{Tree}
 use Rattle.names.specs.Names.{digit, allOf, letter, nameByte, wellNamed}
@@ -27,7 +27,7 @@ use Rattle.format.specs.Names.{zeros, fieldFits, same, among}
 use Rattle.format.specs.Reading as reading
 use Rattle.format.specs.Reading.{wordCount, signalSize, laterWordsFault, sheetWordsFault, signalFault, signalsFault, frontFault, countOn, sheetFault, signalsFrom, signalsOn, names, listNamed, environmentOn}
 use Rattle.calls.specs.OnSheet.{settlingDate, exactOn, namesFound}
-use Rattle.calls.specs.Calls.{neededWork, partFault, partsFault, wordsOn, claimFails, claimVerdict}
+use Rattle.calls.specs.Calls.{neededWork, partsFault, wordsOn, claimFails, claimVerdict}
 use Rattle.calls.specs.Engine.{defined}
 use Rattle.calls.specs.Demand2.{Delivered}
 use Rattle.calls.specs.Printed.{printedSheet, printedF, printedG, Printed}

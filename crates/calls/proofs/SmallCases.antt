@@ -9,7 +9,7 @@ use Rattle.signals.specs.Signal.{constant, NOT, refuted}
 use Rattle.signals.specs.Words.{dateOf, wordsOf, listOf}
 use Rattle.signals.specs.Implication.{earliest, failsIn, firstFailing}
 use Rattle.signals.specs.declared.Verdict.the-variants.{FailsAfter}
-use Rattle.operations.specs.Calls.{changesAfterM}
+use Rattle.operations.specs.Calls.{changesAfterM, partFault}
 use Rattle.grammar.specs.Tree as tree
 use Rattle.grammar.specs.Tree.{Tree}
 use Rattle.names.specs.Names.{letter, digit, nameByte}
@@ -22,7 +22,7 @@ use Rattle.slices.specs.Bytes.{low16}
 use Rattle.format.specs.Names.{same}
 use Rattle.format.specs.Reading.{signalsFault, frontFault, countOn, sheetFault}
 use Rattle.calls.specs.OnSheet.{settlingDate, exactOn, namesFound}
-use Rattle.calls.specs.Calls.{neededWork, readingFault, partFault, partsFault, workingFault, wordsOn, claimFails, claimVerdict}
+use Rattle.calls.specs.Calls.{neededWork, readingFault, partsFault, workingFault, wordsOn, claimFails, claimVerdict}
 use Rattle.calls.specs.Answered.{Answered, Enough}
 use Rattle.calls.proofs.NotRefused.{Clear, clear-answered}
 use Rattle.signals.specs.Answers.{firstOf}

@@ -10,7 +10,8 @@ use Rattle.signals.specs.declared.Written.the-variants as written
 use Rattle.signals.specs.declared.Verdict.the-variants as verdict
 use Rattle.grammar.specs.Tree as tree
 use Rattle.grammar.proofs.Reading.{tree-of}
-use Rattle.calls.specs.Calls.{neededWork, wordsOn, roomFault, callFault, callAnswer, callOutput, claimFault, claimAnswer}
+use Rattle.calls.specs.Calls.{neededWork, wordsOn, callFault, callAnswer, callOutput, claimFault, claimAnswer}
+use Rattle.operations.specs.Calls.{roomFault}
 use Rattle.calls.specs.Engine.{Engine}
 use Rattle.calls.specs.OneEngine.{AgreesWhereAnswered}
 use Rattle.calls.specs.WrongEngines.{zeroOutput, givesZero, trueClaim, claimsTrue, faultsAs5, leavesOld, operandWords, copyFault, copyOutput, copiesOperand, oneMore, inventsCount, shortClaim, holdsWhenShort, ShutOut, SevenShutOut}

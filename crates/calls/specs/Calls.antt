@@ -9,11 +9,11 @@ use Rattle.signals.specs.Answers.{writtenOf, outputOf, judgedBy, verdictFor}
 use Rattle.signals.specs.Implication.{firstFailing}
 use Rattle.signals.specs.declared.Written.{Written}
 use Rattle.signals.specs.declared.Verdict.{Verdict}
-use Rattle.operations.specs.Calls.{changesAfterM}
 use Rattle.grammar.specs.Tree.{Tree}
 use Rattle.grammar.specs.Formula.{formulaFault, formulaTree}
 use Rattle.grammar.specs.Parts.{parts}
 use Rattle.format.specs.Reading.{sheetFault}
+use Rattle.operations.specs.Calls.{partFault, roomFault}
 use Rattle.calls.specs.OnSheet.{signalOn, settlingDate, exactOn, namesFound}
 use Rattle.signals.specs.Answers.{firstOf}
 
@@ -29,11 +29,7 @@ readingFault sheet formula = firstOf (formulaFault formula) (cond (namesFound sh
 unfoldable pub workFault : List ℕ → ℕ → ℕ
 workFault sheet work = cond (ltb work (neededWork sheet)) 18 0
 
--- 5 or 6, 5 where both apply, of a part by its normal list
-unfoldable pub partFault : List ℕ → ℕ
-partFault exact = cond (ltb 256 (length exact)) 5 (cond (changesAfterM exact) 6 0)
-
--- the first part worked out that meets one
+-- 5 or 6 at the first part worked out that meets one
 unfoldable pub partsFault : List ℕ → List Tree → ℕ
 partsFault sheet [] = 0
 partsFault sheet (t ∷ ts) = firstOf (partFault (exactOn sheet t)) (partsFault sheet ts)
@@ -44,10 +40,6 @@ workingFault sheet formula = partsFault sheet (parts (formulaTree formula))
 -- the formula's words: the normal list of its signal
 unfoldable pub wordsOn : List ℕ → List ℕ → List ℕ
 wordsOn sheet formula = exactOn sheet (formulaTree formula)
-
--- 7: output, of so many words, shorter than the answer
-unfoldable pub roomFault : List ℕ → ℕ → ℕ
-roomFault exact room = cond (ltb room (length exact)) 7 0
 
 -- A formula call takes sheet, formula 10, 11, 8, 12, 13, 18, then 5 or 6 at the first part worked out that meets one, then 7.
 unfoldable pub callFault : List ℕ → List ℕ → ℕ → ℕ → ℕ

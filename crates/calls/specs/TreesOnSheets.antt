@@ -8,7 +8,7 @@ use Rattle.grammar.specs.Tree.{Tree, Leaf, leaf}
 use Rattle.slices.specs.Bytes.{Bytes}
 use Rattle.format.specs.Reading.{sheetFault}
 use Rattle.calls.specs.OnSheet.{signalOn, settlingDate, exactOn, leafFound}
-use Rattle.calls.specs.Calls.{partFault}
+use Rattle.operations.specs.Calls.{partFault}
 use Rattle.calls.specs.NormalLists.{ListFor}
 
 pub record TreesOnSheets : Type 0 where

@@ -14,7 +14,8 @@ use Rattle.grammar.specs.Grammar.{Writes}
 use Rattle.grammar.specs.Formula.{formulaTree}
 use Rattle.laws.specs.Rewriting.{Rewrites}
 use Rattle.calls.specs.OnSheet.{exactOn}
-use Rattle.calls.specs.Calls.{callFault, roomFault, claimFault, callAnswer, callOutput, claimAnswer}
+use Rattle.calls.specs.Calls.{callFault, claimFault, callAnswer, callOutput, claimAnswer}
+use Rattle.operations.specs.Calls.{roomFault}
 use Rattle.calls.specs.Engine.{Engine}
 use Rattle.calls.specs.Demand2.{Demand2}
 use Rattle.calls.specs.Answered.{Answered}

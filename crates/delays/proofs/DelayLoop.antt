@@ -20,14 +20,15 @@ use Rattle.lists.specs.Reading.{NEVER, stepPast}
 use Rattle.lists.specs.declared.Step.{Step}
 use Rattle.operations.specs.Calls.{exactOfDelay}
 use Rattle.building.specs.Building.{emitted, emittedIn, begun, Built}
-use Rattle.delays.specs.Delay.{timerNext, firstTimer, upcomingDate, onLevel, levelOf, delayed, delayOf}
+use Rattle.timing.specs.Delay.{timerNext, firstTimer, onLevel, levelOf, delayed, delayOf}
+use Rattle.delays.specs.Upcoming.{upcomingDate}
 use Rattle.building.specs.declared.Made.{Made}
-use Rattle.delays.specs.declared.Timer.{Timer}
+use Rattle.timing.specs.declared.Timer.{Timer}
 use Rattle.building.proofs.Scanning.{Scanning, scanning-begin, scanning-emit, scanning-done, built-over}
-use Rattle.delays.proofs.DelaySignals.{delayed-down}
-use Rattle.delays.proofs.DelayTiming.{Timed, timed-value, timed-still, timed-first}
+use Rattle.timing.proofs.DelaySignals.{delayed-down}
+use Rattle.timing.proofs.DelayTiming.{Timed, timed-value, timed-still, timed-first}
 use Rattle.delays.proofs.DelayUpcoming.{Upcoming, upcoming-is}
-use Rattle.delays.proofs.DelayTurn.{timed-after, delay-held}
+use Rattle.timing.proofs.DelayTurn.{timed-after, delay-held}
 
 -- the answer up to date k is in the slot, k's word is passed, and the delay's state is that in gap k
 pub record Delaying (level waits : Bool) (d : ℕ) (l old slot : List ℕ) (passed : ℕ) (s : Timer) (made : Made) (date : ℕ) : Type 0 where

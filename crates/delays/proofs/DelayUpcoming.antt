@@ -16,10 +16,23 @@ use Rattle.signals.proofs.Truth.{not-both}
 use Rattle.signals.proofs.Operand.{At, next-later, words-left}
 use Rattle.signals.proofs.Normal.{last-le}
 use Rattle.lists.specs.Reading.{NEVER, nextDate}
-use Rattle.delays.specs.Delay.{upcomingDate}
-use Rattle.delays.specs.declared.Timer.{Timer}
-use Rattle.delays.proofs.DelayCases.{upcoming-due, upcoming-word, upcoming-none}
-use Rattle.delays.proofs.DelayTiming.{momentOf, Timed, timed-ahead}
+use Rattle.delays.specs.Upcoming.{upcomingDate}
+use Rattle.timing.specs.declared.Timer.{Timer}
+use Rattle.timing.proofs.DelayTiming.{momentOf, Timed, timed-ahead}
+
+-- the tests that the code makes
+module _ (l : List ℕ) (p : ℕ) (s : Timer) where
+  pub upcoming-due : s .waiting ≡ true → s .due .0 < nextDate l p → upcomingDate l p s ≡ s .due .0
+  unfolding upcomingDate
+  upcoming-due w h = rw (w, lt-ltb (s .due .0) (nextDate l p) h)
+
+  pub upcoming-word : s .waiting ≡ true → nextDate l p ≤ s .due .0 → upcomingDate l p s ≡ nextDate l p
+  unfolding upcomingDate
+  upcoming-word w h = rw (w, le-ltb (s .due .0) (nextDate l p) h)
+
+  pub upcoming-none : s .waiting ≡ false → upcomingDate l p s ≡ nextDate l p
+  unfolding upcomingDate
+  upcoming-none w = rw w
 
 -- the next word's date is at most the last
 last-drop : (x y j : ℕ) (ws : List ℕ) → j < length ws → lastFrom x ws ≡ lastFrom y (drop j ws)

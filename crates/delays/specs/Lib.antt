@@ -1,2 +1,2 @@
--- Definitions that mirror a delay.
-pub mod Delay
+-- A definition that mirrors the loop of the delays.
+pub mod Upcoming

@@ -8,119 +8,16 @@ ghost use Rattle.signals.specs.Answers.{firstOf};
 ghost use Rattle.operations.specs.Calls.{lengthFault, exactOfDelay, CallOfDelay};
 ghost use Rattle.building.specs.Building.{Built};
 ghost use Rattle.building.specs.Slots.{SlotOfDelay};
-ghost use Rattle.delays.specs.Delay.{dateIn, pending, reached, risen, timerNext, firstTimer, upcomingDate, onLevel, delayOf};
+ghost use Rattle.timing.specs.Delay.{delayOf};
+ghost use Rattle.delays.specs.Upcoming.{upcomingDate};
 use building::Made;
 use building::SlotAnswer;
 use building::WORDS;
 use signals::Date;
 use signals::Length;
 use signals::M;
-use signals::Sum;
 use signals::Written;
-
-// A delay's state: its level now, and the pending change if there is one: its date, and whether it comes at the instant
-// or after it.
-struct Timer {
-    level: bool,
-    waiting: bool,
-    due: Date,
-    at: bool,
-}
-
-// The date of a sum, past M too.
-fn date_in(sum: Sum) -> Date
-    ensures { λ r. ⌜ r .0 ≡ dateIn sum ⌝ }
-{
-    match sum {
-        Sum::On(date) => date,
-        Sum::PastM(date) => Date(date),
-        Sum::Refused(_) => Date(lists::NEVER),
-    }
-}
-
-// A delay that waits for its length from the instant of a date, or from the gap after it.
-fn pending_from(date: Date, at: bool, d: Length) -> Timer
-    ensures { λ r. ⌜ r ≡ pending (date .0) at (d .0) ⌝ }
-{
-    let sum = signals::date_plus_length(date, d);
-    Timer {
-        level: false,
-        waiting: true,
-        due: date_in(sum),
-        at,
-    }
-}
-
-// The pending change has come by the instant of the date, or by the gap after it.
-fn has_come(timer: Timer, date: Date, at: bool) -> bool
-    ensures { λ r. ⌜ r ≡ reached timer (date .0) at ⌝ }
-{
-    let due = timer.due;
-    if due.0 == date.0 {
-        if at { timer.at } else { true }
-    } else {
-        false
-    }
-}
-
-// The delay with its pending change made if it has come.
-fn rise(timer: Timer, date: Date, at: bool) -> Timer
-    ensures { λ r. ⌜ r ≡ risen timer (date .0) at ⌝ }
-{
-    if has_come(timer, date, at) {
-        return Timer {
-            level: true,
-            waiting: false,
-            due: date,
-            at,
-        };
-    }
-    timer
-}
-
-// The delay at the next moment, the instant of the date or the gap after it, where its input has the value.
-fn follow(timer: Timer, d: Length, date: Date, at: bool, value: bool) -> Timer
-    ensures { λ r. ⌜ r ≡ timerNext timer (d .0) (date .0) at value ⌝ }
-{
-    if value {
-        if timer.level {
-            return timer;
-        }
-        if timer.waiting {
-            return rise(timer, date, at);
-        }
-        return rise(pending_from(date, at, d), date, at);
-    }
-    Timer {
-        level: false,
-        waiting: false,
-        due: date,
-        at,
-    }
-}
-
-// The delay in gap 0: a run from there on waits for the length, or does not.
-fn first(d: Length, waits: bool, value: bool) -> Timer
-    ensures { λ r. ⌜ r ≡ firstTimer waits (d .0) value ⌝ }
-{
-    if value {
-        if waits {
-            return rise(pending_from(Date(0), true, d), Date(0), false);
-        }
-        return Timer {
-            level: true,
-            waiting: false,
-            due: Date(0),
-            at: true,
-        };
-    }
-    Timer {
-        level: false,
-        waiting: false,
-        due: Date(0),
-        at: true,
-    }
-}
+use timing::Timer;
 
 // The next date to look at: that of the next word or of the pending change.
 fn upcoming(words: &[u32], passed: usize, timer: Timer) -> Date
@@ -136,32 +33,25 @@ fn upcoming(words: &[u32], passed: usize, timer: Timer) -> Date
     next
 }
 
-// Whether a value is the level; and the value that is or is not the level.
-fn on_level(level: bool, value: bool) -> bool
-    ensures { λ r. ⌜ r ≡ onLevel level value ⌝ }
-{
-    if level { value } else { !value }
-}
-
 // The delay of one level of an accepted list, built in a slot.
 fn run(level: bool, waits: bool, d: Length, words: &[u32], slot: &mut [u32]) -> Made
     requires { ⌜ (listFault (now words) ≡ 0) × (d .0 ≤ M) ⌝ }
     ensures { λ r. ⌜ Built (exactOfDelay (delayOf level waits (d .0)) (d .0) (now (words .entry))) (now (slot .entry)) (now (slot .exit)) r ⌝ }
 {
     let mut passed: usize = 1;
-    let mut timer = first(d, waits, on_level(level, lists::held_value(words, 1)));
-    let mut made = building::begin(slot, on_level(level, timer.level));
+    let mut timer = timing::first(d, waits, timing::on_level(level, lists::held_value(words, 1)));
+    let mut made = building::begin(slot, timing::on_level(level, timer.level));
     let mut date = upcoming(words, passed, timer);
     while date.0 < lists::NEVER {
         let step = lists::past(words, passed, date);
-        let now_at = follow(timer, d, date, true, on_level(level, step.at));
-        let now_after = follow(now_at, d, date, false, on_level(level, step.after));
+        let now_at = timing::follow(timer, d, date, true, timing::on_level(level, step.at));
+        let now_after = timing::follow(now_at, d, date, false, timing::on_level(level, step.after));
         made = building::emit(
             slot,
             made,
             date,
-            on_level(level, now_at.level),
-            on_level(level, now_after.level),
+            timing::on_level(level, now_at.level),
+            timing::on_level(level, now_after.level),
         );
         timer = now_after;
         passed = step.passed;

@@ -22,7 +22,7 @@ use Rattle.building.specs.Building.{slotWith}
 use Rattle.building.proofs.BuildingLaws.{slot-short}
 use Rattle.grammar.specs.Tree.{Unary, Binary, invert, rise, fall, ton, tof, and, or, sr, rs}
 use Rattle.grammar.specs.Code.{ticksOf}
-use Rattle.calls.specs.Calls.{partFault}
+use Rattle.operations.specs.Calls.{partFault}
 use Rattle.evaluation.specs.Machine.{Given, partAnswer, unaryOf, binaryOf, unaryExact, binaryExact, AND-table, OR-table}
 use Rattle.signals.specs.Answers.{firstOf}
 use Rattle.signals.proofs.FirstFault.{next-is}
@@ -50,7 +50,7 @@ applied judged exact slot answer after z room h =
       stands = λ p.
           let q = part-none exact p in
           let e : after ≡ slotWith exact slot = rw (z, le-leb 256 (length slot) room) at (h .1) in
-          rw (e, slot-short exact slot (q .1) (q .0)) (take-at exact (drop (length exact) slot) (length exact) refl);
+          rw (e, slot-short exact slot (q .1) (omega (arith, q .0))) (take-at exact (drop (length exact) slot) (length exact) refl);
     }
 
 -- the operation's answer as the part's: 5 is given for an answer that is too long, 6 for one that is too late

@@ -17,7 +17,7 @@ use Rattle.grammar.specs.Tree.{Tree, Unary, Binary, unary, binary, invert, rise
 use Rattle.signals.proofs.AnyDate.{one-list}
 use Rattle.format.specs.Reading.{sheetFault}
 use Rattle.calls.specs.OnSheet.{signalOn, settlingDate, exactOn}
-use Rattle.calls.specs.Calls.{partFault}
+use Rattle.operations.specs.Calls.{partFault}
 use Rattle.calls.proofs.Settles.{settles, exact-for}
 use Rattle.evaluation.specs.Machine.{unaryExact, binaryExact, AND-table, OR-table}
 

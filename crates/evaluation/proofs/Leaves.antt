@@ -14,7 +14,6 @@ use Rattle.signals.specs.Signal.{constant, num}
 use Rattle.signals.specs.Words.{listOf, wordsOf, listFault, signalOf, lastDate, dateOf}
 use Rattle.signals.proofs.WordFacts.{date-le}
 use Rattle.operations.specs.Calls.{changesAfterM}
-use Rattle.calls.specs.Calls.{partFault}
 use Rattle.slices.specs.Bytes.{Bytes, wordsIn}
 use Rattle.names.specs.Names.{wellNamed}
 use Rattle.grammar.specs.Tree.{Leaf, leaf, down, up, name}
@@ -28,6 +27,7 @@ use Rattle.format.proofs.Digits.{bytes-drop, wordsIn-below}
 use Rattle.format.specs.Theorems.{decoded, PartIsList}
 use Rattle.format.proofs.Theorems.{lookup-gives-the-list}
 use Rattle.signals.proofs.Normal.{read-back, accepted-normal}
+use Rattle.operations.specs.Calls.{partFault}
 use Rattle.calls.specs.OnSheet.{exactOn, settlingDate, signalOn}
 use Rattle.evaluation.specs.Machine.{leafOf, leafKnown, Loaded}
 use Rattle.evaluation.proofs.SlotFacts.{short}

@@ -19,7 +19,8 @@ use Rattle.grammar.proofs.Working.{code-determines}
 use Rattle.grammar.specs.Parts.{parts}
 use Rattle.format.specs.Reading.{sheetFault}
 use Rattle.calls.specs.OnSheet.{exactOn}
-use Rattle.calls.specs.Calls.{partFault, partsFault}
+use Rattle.calls.specs.Calls.{partsFault}
+use Rattle.operations.specs.Calls.{partFault}
 use Rattle.evaluation.specs.declared.Next.{Next}
 use Rattle.evaluation.specs.Machine.{InSlot, Stacked, Enough, Known, AllKnown, Stepped, Steps, Ready, worked, trace, partsIn, Plan, WorkedOut}
 use Rattle.evaluation.proofs.Tracing.{trace-code, work-all, work-step, low-enough, grows-by-one}

@@ -17,7 +17,7 @@ use Rattle.grammar.specs.Tree.{Tree, Leaf, Unary, Binary, leaf, unary, binary}
 use Rattle.grammar.specs.Code.{Part, operand, one, two, ticksOf, top}
 use Rattle.format.specs.Reading.{sheetFault}
 use Rattle.calls.specs.OnSheet.{exactOn}
-use Rattle.calls.specs.Calls.{partFault}
+use Rattle.operations.specs.Calls.{partFault}
 use Rattle.evaluation.specs.declared.Next.{Next}
 use Rattle.evaluation.specs.Machine.{InSlot, Stacked, Enough, Known, Stepped, Ready, Room, Loaded, unaryExact, binaryExact, worked}
 use Rattle.evaluation.proofs.SlotFacts.{short, push-slot, below}

@@ -24,8 +24,9 @@ use Rattle.names.specs.Names.{wellNamed}
 use Rattle.format.specs.Names.{among}
 use Rattle.format.specs.Reading.{signalsOn, names}
 use Rattle.calls.specs.OnSheet.{exactOn, leafFound}
-use Rattle.calls.specs.Calls.{partFault, partsFault, readingFault, workFault, workingFault, roomFault, wordsOn, claimFails}
+use Rattle.calls.specs.Calls.{partsFault, readingFault, workFault, workingFault, wordsOn, claimFails}
 use Rattle.grammar.specs.Parts.{parts}
+use Rattle.operations.specs.Calls.{roomFault, partFault}
 use Rattle.evaluation.specs.declared.Next.{Next}
 use Rattle.signals.specs.Answers.{firstOf}
 

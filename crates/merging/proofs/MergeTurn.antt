@@ -22,12 +22,12 @@ use Rattle.lists.specs.Reading.{nextDate, NEVER, stepPast}
 use Rattle.lists.specs.declared.Step.{Step}
 use Rattle.operations.specs.Calls.{exactOfTwo}
 use Rattle.building.specs.Building.{emitted, emittedIn, begun, Built}
-use Rattle.merging.specs.Merging.{merged, bitOf, firstShown, dateShown}
+use Rattle.showing.specs.Showing.{merged, bitOf, firstShown, dateShown}
 use Rattle.building.specs.declared.Made.{Made}
-use Rattle.merging.specs.declared.Operation.{Operation}
-use Rattle.merging.specs.declared.Shown.{Shown}
+use Rattle.showing.specs.declared.Operation.{Operation}
+use Rattle.showing.specs.declared.Shown.{Shown}
 use Rattle.building.proofs.Scanning.{Scanning, scanning-begin, scanning-emit, scanning-done, built-over}
-use Rattle.merging.proofs.MergeHeld.{heldBy, Turned, turned, first, still-for-good}
+use Rattle.showing.proofs.ShownHeld.{heldBy, Turned, turned, first, still-for-good}
 
 -- no word of the list is dated after n
 abbrev pub Dates : List ℕ → ℕ → Type 0

@@ -6,28 +6,26 @@ use mathlib.Core.Bool.{Bool, true, false, cond}
 use mathlib.Core.List.{List}
 use lib.Dec.{eqb, ltb}
 use lib.ListN.{length}
-use borrow.Author.Tests.{ltb-false}
 use Rattle.signals.specs.Moment.{M}
 use Rattle.signals.specs.Signal.{Signal}
 use Rattle.signals.specs.Words.{listFault}
 use Rattle.signals.specs.Answers.{writtenOf}
-use Rattle.operations.specs.Calls.{changesAfterM, answerFault, lengthFault, pairFault}
-use Rattle.operations.specs.Calls.{faultOfOne, exactOfOne, faultOfTwo, exactOfTwo, faultOfDelay, exactOfDelay}
-use Rattle.calls.proofs.FirstFault.{passed}
+use Rattle.operations.specs.Calls.{changesAfterM, answerFault, lengthFault, pairFault, faultOfOne, exactOfOne, faultOfTwo, exactOfTwo, faultOfDelay, exactOfDelay, partFault, roomFault}
 use Rattle.packing.proofs.SmallAnswers.{SmallWritten, choice, first-small, list-small, written-small}
+use Rattle.operations.proofs.JudgedCalls.{part-none}
 use Rattle.signals.specs.Answers.{firstOf}
 use Rattle.signals.proofs.FirstFault.{both-none}
 
 answer-small : (exact : List ℕ) (n : ℕ) → answerFault exact n < 65536
-unfolding answerFault
+unfolding answerFault partFault roomFault
 answer-small exact n =
-    choice (ltb 256 (length exact)) 5 _ (omega arith)
-    (choice (changesAfterM exact) 6 _ (omega arith) (choice (ltb n (length exact)) 7 0 (omega arith) (omega arith)))
+    first-small (partFault exact) (roomFault exact n)
+    (choice (ltb 256 (length exact)) 5 _ (omega arith) (choice (changesAfterM exact) 6 0 (omega arith) (omega arith)))
+    (choice (ltb n (length exact)) 7 0 (omega arith) (omega arith))
 
 answer-short : (exact : List ℕ) (n : ℕ) → answerFault exact n ≡ 0 → length exact < 65536
 unfolding answerFault
-answer-short exact n z =
-    omega (arith, ltb-false 256 (length exact) (passed (ltb 256 (length exact)) 5 _ (omega arith) z .0))
+answer-short exact n z = omega (arith, part-none exact (both-none (partFault exact) (roomFault exact n) z .0) .0)
 
 pub one-small : (operation : Signal → Signal) (a : List ℕ) (n : ℕ)
     → SmallWritten (writtenOf (faultOfOne operation a n) (exactOfOne operation a))

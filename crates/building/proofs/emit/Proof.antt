@@ -2,7 +2,7 @@
 use native.Mathlib.Omega.{arith}
 use mathlib.Core.Path.{_≡_, refl, sym, _∙_}
 use Rattle.signals.proofs.WordFacts.{word-lt}
-use Rattle.building.proofs.Emitting.{emit-idle, emit-late, emit-past-M, emit-stored, emit-counted}
+use Rattle.building.proofs.Emitting.{emit-idle, emit-late, emit-past-M, emit-stored, emit-full}
 use borrow.Author.Needs.{needs}
 use Rattle.building.proofs.emit.Statement.{statement}
 use Rattle.building.proofs.emit.Tie as tie
@@ -19,23 +19,23 @@ one-more-requires c κs = search needs
 returns-2 : tie.Need-returns-2
 returns-2 c =
     let at = c .before .before in
-    emit-late _ _ _ _ _ (sym (at .before .idle-word .ensures) ∙ at .if1 .left) _ (c .one-more .ensures) (c .before .if2 .taken)
-
-one-more-requires-2 : tie.Need-one-more-requires-2
-one-more-requires-2 c κs = search needs
+    emit-late _ _ _ _ _ (sym (at .before .idle-word .ensures) ∙ at .if1 .left) _ (c .before .one-more .ensures) (c .if2 .taken)
 
 returns-3 : tie.Need-returns-3
 returns-3 c =
     let at = c .before .before .before in
-    emit-past-M _ _ _ _ _ (sym (at .before .idle-word .ensures) ∙ at .if1 .left) _ (c .one-more2 .ensures) (c .before .before .if2 .left) (c .before .if3 .taken)
+    emit-past-M _ _ _ _ _ (sym (at .before .idle-word .ensures) ∙ at .if1 .left) _ (c .before .before .one-more .ensures) (c .before .if2 .left) (c .if3 .taken)
+
+cast-place : tie.Need-cast-place
+cast-place c = search needs
 
 word-of-requires : tie.Need-word-of-requires
 word-of-requires c κs = search needs
 
 cast-slot : tie.Need-cast-slot
 cast-slot c =
-    let args = c .before .before .before .before .before .before .before .args in
-    omega (arith, word-lt (args .date .0) (args .at) (args .after) (c .before .before .if3 .left))
+    let args = c .before .before .before .before .before .before .before .before .before .args in
+    omega (arith, word-lt (args .date .0) (args .at) (args .after) (c .before .before .before .if3 .left))
 
 mul-slot : tie.Need-mul-slot
 mul-slot c = search needs
@@ -43,24 +43,18 @@ mul-slot c = search needs
 slice-write-slot : tie.Need-slice-write-slot
 slice-write-slot c = search needs
 
-add-t15 : tie.Need-add-t15
-add-t15 c = search needs
-
 same-length : tie.Need-same-length
 same-length c = search needs
 
 returns-4 : tie.Need-returns-4
 returns-4 c =
-    let at = c .before .before .before .before in
-    emit-stored _ _ _ _ _ (sym (at .before .idle-word .ensures) ∙ at .if1 .left) _ (omega arith) (c .before .before .before .if2 .left) (c .before .before .if3 .left) (c .before .if4 .taken) _ (c .word-of .ensures)
-
-one-more-requires-3 : tie.Need-one-more-requires-3
-one-more-requires-3 c κs = search needs
+    let at = c .before .before .before .before .before .before in
+    emit-stored _ _ _ _ _ (sym (at .before .idle-word .ensures) ∙ at .if1 .left) _ (c .before .before .before .before .before .one-more .ensures) (c .before .before .before .before .if2 .left) (c .before .before .before .if3 .left) (c .before .if4 .taken) _ (c .word-of .ensures)
 
 returns-5 : tie.Need-returns-5
 returns-5 c =
-    let at = c .before .before .before .before in
-    emit-counted _ _ _ _ _ (sym (at .before .idle-word .ensures) ∙ at .if1 .left) _ (c .one-more3 .ensures) (c .before .before .before .if2 .left) (c .before .before .if3 .left) (c .before .if4 .left)
+    let at = c .before .before .before .before .before in
+    emit-full _ _ _ _ _ (sym (at .before .idle-word .ensures) ∙ at .if1 .left) _ (c .before .before .before .before .one-more .ensures) (c .before .before .before .if2 .left) (c .before .before .if3 .left) (c .if4 .left)
 
 pub emit-spec : {M : Type 1} → statement M
 emit-spec =
@@ -70,14 +64,12 @@ emit-spec =
     returns
     one-more-requires
     returns-2
-    one-more-requires-2
     returns-3
+    cast-place
     word-of-requires
     cast-slot
     mul-slot
     slice-write-slot
-    add-t15
     same-length
     returns-4
-    one-more-requires-3
     returns-5)

@@ -5,7 +5,7 @@ use native.Mathlib.Omega.{arith}
 use mathlib.Core.Path.{_≡_, refl, sym, _∙_, ap}
 use lib.ListN.{length}
 use Rattle.lists.specs.Reading.{NEVER}
-use Rattle.delays.specs.Delay.{onLevel}
+use Rattle.timing.specs.Delay.{onLevel}
 use Rattle.operations.proofs.NeverMet.{last-32}
 use Rattle.delays.proofs.DelayLoop.{Delaying, delaying-begin, delaying-turn, delaying-end, first-word, next}
 use Rattle.delays.proofs.run.Statement.{statement}

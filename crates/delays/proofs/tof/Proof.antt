@@ -1,5 +1,5 @@
 -- `delays::tof` is the engine's delay of its level.
-use Rattle.delays.proofs.DelaySignals.{tof-delay}
+use Rattle.timing.proofs.DelaySignals.{tof-delay}
 use borrow.Author.Needs.{needs}
 use Rattle.delays.proofs.tof.Statement.{statement}
 use Rattle.delays.proofs.tof.Tie as tie

@@ -1,5 +1,5 @@
 -- `delays::tof_in` is the engine's delay of its level.
-use Rattle.delays.proofs.DelaySignals.{tof-delay}
+use Rattle.timing.proofs.DelaySignals.{tof-delay}
 use borrow.Author.Needs.{needs}
 use Rattle.delays.proofs.tof_in.Statement.{statement}
 use Rattle.delays.proofs.tof_in.Tie as tie

@@ -1,5 +1,5 @@
 -- `delays::ton` is the engine's delay of its level.
-use Rattle.delays.proofs.DelaySignals.{ton-delay}
+use Rattle.timing.proofs.DelaySignals.{ton-delay}
 use borrow.Author.Needs.{needs}
 use Rattle.delays.proofs.ton.Statement.{statement}
 use Rattle.delays.proofs.ton.Tie as tie

@@ -1,6 +1,6 @@
 -- `delays::upcoming` is the earlier of the next word's date and the pending one.
 use mathlib.Core.Path.{_≡_, refl, sym, _∙_, ap}
-use Rattle.delays.proofs.DelayCases.{upcoming-due, upcoming-word, upcoming-none}
+use Rattle.delays.proofs.DelayUpcoming.{upcoming-due, upcoming-word, upcoming-none}
 use borrow.Author.Needs.{needs}
 use Rattle.delays.proofs.upcoming.Statement.{statement}
 use Rattle.delays.proofs.upcoming.Tie as tie

@@ -1,2 +1,0 @@
--- Definitions that mirror the merge.
-pub mod Merging

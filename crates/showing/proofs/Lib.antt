@@ -1,0 +1,3 @@
+-- What is shown is what the merge's signal does.
+pub mod ShownCases
+pub mod ShownHeld

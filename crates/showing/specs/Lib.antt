@@ -1,0 +1,2 @@
+-- Definitions that mirror what the merge shows.
+pub mod Showing

@@ -1,0 +1,2 @@
+-- Definitions that mirror a delay.
+pub mod Delay
