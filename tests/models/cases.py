@@ -62,7 +62,7 @@ def shown(words):
 
 def shown_bytes(data):
     if len(data) <= 128:
-        return shown(list(data))
+        return bytes(data).hex() or "-"
     fold = 0
     for byte in data:
         fold = fold % 4294967291 * 65599 + byte
@@ -156,7 +156,7 @@ def appended(sheet, name, words, room):
 
 def looked_up(sheet, name):
     part = sheets.lookup(sheet, name)[1]
-    return "%d, %s" % (len(part), shown(words_of(part)))
+    return "%d, %s" % (len(part), shown_bytes(part))
 
 
 def located(sheet, name):
@@ -275,8 +275,8 @@ def lines(text):
             kept = given[0]
             result = len(kept)
         elif name == "grow":
-            result = appended(kept, given[0], w(given[1]), 65536)
-            kept = sheets.append(kept, given[0], w(given[1]), 65536)[1] or kept
+            result = CALLS["append"](*given)
+            kept = sheets.append(given[0], given[1], w(given[2]), n(given[3]))[1]
         else:
             result = CALLS[name](*given) if name in CALLS else operation(name, given)
         yield "%s = %s" % (line.decode("latin-1"), result)

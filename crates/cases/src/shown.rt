@@ -1,112 +1,86 @@
-// What came out, in the notation of the arguments.
+// What came out, in the notation of the arguments; bytes in hexadecimal.
+use crate::answers::Answer;
+use crate::answers::PLAIN;
+use crate::answers::YES;
 use fields::byte_at;
-use fields::notation::first;
-use signals::Told;
-use signals::Verdict;
-use signals::Written;
+use fields::notation::name;
 
 pub fn number(n: u64) {
     io::write_all(1, b" ");
     io::print_decimal(1, n);
 }
 
-fn said(word: &[u8], n: u64) {
-    io::write_all(1, word);
-    number(n);
+fn text(k: usize) {
+    if k == PLAIN {
+        return;
+    }
+    io::write_all(1, b" ");
+    io::write_all(
+        1,
+        name(
+            b",past M,refused,fails at,fails after,yes,no,holds,too long,too late,not begun,",
+            k,
+        ),
+    );
 }
 
-pub fn refused(fault: u32) {
-    said(b" refused", fault as u64);
-}
-
-pub fn told(answer: Told) {
-    match answer {
-        Told::Yes => {
-            io::write_all(1, b" yes");
-        }
-        Told::No => {
-            io::write_all(1, b" no");
-        }
-        Told::Refused(fault) => {
-            refused(fault);
-        }
+pub fn answer(answer: Answer) {
+    text(answer.text);
+    if answer.text < YES {
+        number(answer.number);
     }
 }
 
-pub fn verdict(answer: Verdict) {
-    match answer {
-        Verdict::Holds => {
-            io::write_all(1, b" holds");
-        }
-        Verdict::FailsAt(k) => {
-            said(b" fails at", k as u64);
-        }
-        Verdict::FailsAfter(k) => {
-            said(b" fails after", k as u64);
-        }
-        Verdict::Refused(fault) => {
-            refused(fault);
-        }
+// An answer, and the output where it has one.
+pub fn with_words(shown: Answer, out: &[u32]) {
+    answer(shown);
+    if shown.output {
+        io::write_all(1, b",");
+        words(out);
     }
-}
-
-pub fn written(answer: Written) {
-    match answer {
-        Written::Count(count) => {
-            number(count as u64);
-        }
-        Written::Refused(fault) => {
-            refused(fault);
-        }
-    }
-    io::write_all(1, b",");
 }
 
 fn word_at(list: &[u32], i: usize) -> u32 {
     if i < list.len() { list[i] } else { 0 }
 }
 
-// By how much the word at i is above the one before it.
+// By how much the word after i is above it.
 fn rise(list: &[u32], i: usize) -> u32 {
-    if i == 0 {
-        return 0;
-    }
-    std::num::wrapping_sub_u32(word_at(list, i), word_at(list, i - 1))
+    std::num::wrapping_sub_u32(word_at(list, i % 65536 + 1), word_at(list, i))
 }
 
-// How many words from i on rise by the same.
+// The end of the words from i on that rise by the same.
 fn run(list: &[u32], i: usize) -> usize {
-    let start = i % 65536;
-    let by = rise(list, start + 1);
-    let mut j = start + 1;
+    let by = rise(list, i);
+    let mut j = i % 65536 + 1;
     while j < list.len() {
-        if rise(list, j) != by {
-            return j - start;
+        if rise(list, j - 1) != by {
+            return j;
         }
         j += 1;
     }
-    j - start
+    j
 }
 
-fn rising(by: u32) {
-    if 0 < by {
-        io::write_all(1, b"+");
-        io::print_decimal(1, by as u64);
+// The words from i on to j.
+fn piece(list: &[u32], i: usize, j: usize) {
+    io::print_decimal(1, word_at(list, i) as u64);
+    let by = rise(list, i);
+    if i % 65536 + 1 < j {
+        if 0 < by {
+            io::write_all(1, b"+");
+            io::print_decimal(1, by as u64);
+        }
+        io::write_all(1, b"*");
+        io::print_decimal(1, (j - i % 65536) as u64);
     }
 }
 
-// The word at i, or the run from it on where that is of four words or more; the place after what is shown.
-fn piece(list: &[u32], i: usize) -> usize {
-    let start = i % 65536;
-    io::print_decimal(1, word_at(list, start) as u64);
-    let n = run(list, start) % 65536;
-    if n < 4 {
-        return start + 1;
-    }
-    rising(rise(list, start + 1));
-    io::write_all(1, b"*");
-    io::print_decimal(1, n as u64);
-    start + n
+// Where the piece from i on ends: a run has four words or more.
+fn piece_end(list: &[u32], i: usize) -> usize {
+    let one = i % 65536 + 1;
+    let end = run(list, i);
+    if one + 2 < end { end } else { one }
 }
 
 // Shows what begins at i, unless it is shown already; the place after what is shown.
@@ -114,15 +88,21 @@ fn shown_at(list: &[u32], i: usize, done: usize) -> usize {
     if i < done {
         return done;
     }
-    if i == 0 {
-        io::write_all(1, b" ");
-    } else {
+    if 0 < i {
         io::write_all(1, b",");
     }
-    piece(list, i)
+    let end = piece_end(list, i);
+    piece(list, i, end);
+    end
 }
 
-fn pieces(list: &[u32]) {
+// All words, - for none.
+fn words(list: &[u32]) {
+    if list.len() == 0 {
+        io::write_all(1, b" -");
+        return;
+    }
+    io::write_all(1, b" ");
     let mut done: usize = 0;
     let mut i: usize = 0;
     while i < list.len() {
@@ -131,51 +111,45 @@ fn pieces(list: &[u32]) {
     }
 }
 
-// All words, - for none.
-pub fn words(list: &[u32]) {
-    if list.len() == 0 {
-        io::write_all(1, b" -");
-    }
-    pieces(list);
-}
-
-fn set(list: &mut [u32], i: usize, w: u32) {
-    if i < list.len() {
-        list[i] = w;
-    }
-}
-
-fn widened(bytes: &[u8], list: &mut [u32]) {
-    let mut i: usize = 0;
-    while i < bytes.len() {
-        set(list, i, byte_at(bytes, i) as u32);
-        i += 1;
-    }
-}
-
-fn few(bytes: &[u8]) {
-    let mut list = [0u32; 128];
-    widened(bytes, &mut list);
-    words(first(&list, bytes.len()));
-}
-
-// A number made of all the bytes.
-fn fold(bytes: &[u8]) -> u64 {
+// A number made of all the bytes, which are written in hexadecimal too where they are few.
+fn fold(bytes: &[u8], few: bool) -> u64 {
     let mut sum: u64 = 0;
     let mut i: usize = 0;
     while i < bytes.len() {
-        sum = sum % 4294967291 * 65599 + byte_at(bytes, i) as u64;
+        sum = folded(sum, byte_at(bytes, i), few);
         i += 1;
     }
     sum
 }
 
-// All bytes; those of more than 128 as how many they are and their fold.
-pub fn bytes(out: &[u8]) {
-    if out.len() <= 128 {
-        few(out);
+fn folded(sum: u64, b: u8, few: bool) -> u64 {
+    if few {
+        io::print_hex(1, b as u64, 2);
+    }
+    sum % 4294967291 * 65599 + b as u64
+}
+
+// All bytes, - for none; those of more than 128 as how many they are and their fold.
+fn bytes(out: &[u8]) {
+    if out.len() == 0 {
+        io::write_all(1, b" -");
         return;
     }
-    number(out.len() as u64);
-    said(b" bytes:", fold(out));
+    io::write_all(1, b" ");
+    let few = out.len() <= 128;
+    let sum = fold(out, few);
+    if few {
+        return;
+    }
+    io::print_decimal(1, out.len() as u64);
+    io::write_all(1, b" bytes:");
+    number(sum);
+}
+
+pub fn with_bytes(shown: Answer, out: &[u8]) {
+    answer(shown);
+    if shown.output {
+        io::write_all(1, b",");
+        bytes(out);
+    }
 }

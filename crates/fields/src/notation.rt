@@ -206,15 +206,17 @@ fn set(ends: &mut [usize], i: usize, v: usize) {
     }
 }
 
-// After a comma, or a space, which ends the argument too.
+// After a comma, or a space, which ends the argument too; the next begins at a multiple of 4.
 fn ended(p: Piece, b: u8, text: &[u8], kept: &[u8], space: &mut [u8], ends: &mut [usize]) -> Piece {
     let k = p.ended % 64;
     let bytes = put_piece(p, text, kept, space);
     if b == b',' {
         return fresh(bytes, k);
     }
-    set(ends, k + 1, bytes);
-    fresh(bytes, k + 1)
+    let next = (bytes % 131072 + 3) / 4 * 4;
+    set(ends, 2 * k + 1, bytes);
+    set(ends, 2 * k + 2, next);
+    fresh(next, k + 1)
 }
 
 fn ends_piece(b: u8) -> bool {
@@ -242,7 +244,7 @@ fn step(
     moved(p, b, i)
 }
 
-// The arguments of a text, in the space; where the i-th ends, at i.
+// The arguments of a text, in the space: where the i-th begins, at 2i, and where it ends, at 2i + 1, counted from 0.
 pub fn arguments(text: &[u8], kept: &[u8], space: &mut [u8], ends: &mut [usize]) {
     let mut p = fresh(0, 0);
     let mut i: usize = 0;
@@ -257,26 +259,38 @@ fn end_at(ends: &[usize], i: usize) -> usize {
     if i < ends.len() { ends[i] } else { 0 }
 }
 
-// The i-th argument, counted from 1.
+// The i-th argument, counted from 0.
 pub fn argument<'a>(space: &'a [u8], ends: &[usize], i: usize) -> &'a [u8] {
-    if i == 0 {
-        return part(space, 0, 0);
-    }
-    part(space, end_at(ends, i - 1), end_at(ends, i))
+    let k = i % 64 * 2;
+    part(space, end_at(ends, k), end_at(ends, k + 1))
 }
 
-// How many bytes the i-th argument has, those that the space lacks counted.
-pub fn length(ends: &[usize], i: usize) -> usize {
-    if i == 0 {
-        return 0;
+// The i-th argument as words, of all the words of the space.
+pub fn list<'a>(words: &'a [u32], ends: &[usize], i: usize) -> &'a [u32] {
+    let k = i % 64 * 2;
+    let from = end_at(ends, k) / 4;
+    let to = end_at(ends, k + 1) / 4;
+    if to < from {
+        return words;
     }
-    let from = end_at(ends, i - 1);
-    let to = end_at(ends, i);
-    if from < to { to - from } else { 0 }
+    if words.len() < to {
+        return words;
+    }
+    &words[from..to]
+}
+
+// How many bytes the first argument has, those that the space lacks counted.
+pub fn length(ends: &[usize]) -> usize {
+    end_at(ends, 1)
+}
+
+// The first word, 0 of none.
+pub fn head(list: &[u32]) -> u32 {
+    if 0 < list.len() { list[0] } else { 0 }
 }
 
 // The i-th word of bytes, the low byte first.
-pub fn word_at(bytes: &[u8], i: usize) -> u32 {
+fn word_at(bytes: &[u8], i: usize) -> u32 {
     let at = 4 * (i % 65536);
     let low = byte_at(bytes, at) as u32 + 256 * byte_at(bytes, at + 1) as u32;
     low + 65536 * byte_at(bytes, at + 2) as u32 + 16777216 * byte_at(bytes, at + 3) as u32
@@ -288,12 +302,17 @@ fn set_word(words: &mut [u32], i: usize, w: u32) {
     }
 }
 
-// Fills the words from bytes.
-pub fn words(bytes: &[u8], list: &mut [u32]) {
-    let n = bytes.len() / 4;
+// The i-th argument as one number.
+pub fn number(space: &[u8], ends: &[usize], i: usize) -> u32 {
+    word_at(argument(space, ends, i), 0)
+}
+
+// Fills the list with the first words of the space.
+pub fn words(space: &[u8], list: &mut [u32]) {
+    let n = list.len();
     let mut i: usize = 0;
     while i < n {
-        set_word(list, i, word_at(bytes, i));
+        set_word(list, i, word_at(space, i));
         i += 1;
     }
 }
@@ -307,22 +326,7 @@ pub fn copied(bytes: &[u8], to: &mut [u8]) {
     }
 }
 
-// The first n words, all of them where there are fewer.
-pub fn first(list: &[u32], n: usize) -> &[u32] {
-    if n <= list.len() { &list[0..n] } else { list }
-}
-
-// The i-th argument as one number.
-pub fn number(space: &[u8], ends: &[usize], i: usize) -> u32 {
-    word_at(argument(space, ends, i), 0)
-}
-
-// How many words the i-th argument has.
-pub fn count(ends: &[usize], i: usize) -> usize {
-    length(ends, i) / 4
-}
-
-// The place of a name among names, each with a space after it; their number where it is none of them.
+// The place of a name among names, each with a comma after it; their number where it is none of them.
 pub fn place(names: &[u8], name: &[u8]) -> usize {
     let mut k: usize = 0;
     let mut i: usize = 0;
@@ -336,19 +340,37 @@ pub fn place(names: &[u8], name: &[u8]) -> usize {
     k
 }
 
+// The k-th of names, each with a comma after it.
+pub fn name(names: &[u8], k: usize) -> &[u8] {
+    let mut from: usize = 0;
+    let mut left = k;
+    let mut i: usize = 0;
+    while i < names.len() {
+        if byte_at(names, i) == b',' {
+            if left == 0 {
+                return part(names, from, i);
+            }
+            left -= 1;
+            from = i + 1;
+        }
+        i += 1;
+    }
+    part(names, 0, 0)
+}
+
 fn next(k: usize, b: u8) -> usize {
-    if b == b' ' { k % 256 + 1 } else { k }
+    if b == b',' { k % 256 + 1 } else { k }
 }
 
 fn named_at(names: &[u8], i: usize, name: &[u8]) -> bool {
     if 0 < i {
-        if byte_at(names, i - 1) != b' ' {
+        if byte_at(names, i - 1) != b',' {
             return false;
         }
     }
     let from = i % 65536;
     let n = name.len() % 65536;
-    if byte_at(names, from + n) != b' ' {
+    if byte_at(names, from + n) != b',' {
         return false;
     }
     same(part(names, from, from + n), name)

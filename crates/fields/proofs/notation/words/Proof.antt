@@ -7,10 +7,10 @@ use Rattle.fields.proofs.notation.words.Statement.{statement}
 use Rattle.fields.proofs.notation.words.Tie as tie
 
 abbrev Inv-loop : tie.InvT-loop
-Inv-loop bytes list₀ n i₀ list i = length list ≡ length list₀
+Inv-loop space list₀ n i₀ list i = length list ≡ length list₀
 
 abbrev μ-loop : tie.MeasureT-loop
-μ-loop bytes list₀ n i₀ list i = n - i
+μ-loop space list₀ n i₀ list i = n - i
 
 pub words-spec : {M : Type 1} → statement M
 words-spec =
