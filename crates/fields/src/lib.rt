@@ -1,4 +1,6 @@
-// Parts and bytes of a text, for the test programs that read their cases.
+// Parts and bytes of a text, and the notation of cases, for the test programs that read their cases.
+pub mod notation;
+
 ghost use mathlib.Core.Path.{_≡_};
 ghost use lib.ListN.{getD};
 ghost use Rattle.fields.specs.Parts.{partOf};

@@ -1,11 +1,13 @@
 // Each law of document 01 in both directions: random formulas and lengths for its letters, one side put in the place of a random
 // leaf of a random tree, the other side in the same place, and the words and verdicts of the two formulas compared.
-// Standard input has the laws in order, a line of 24 bytes each: the left side in the first 12, the right side in the rest.
+// Standard input has the texts of the law table in order, a line each.
 mod judged;
 mod sides;
 
 use crate::judged::judge;
 use crate::sides::sides;
+use fields::byte_at;
+use fields::part;
 use libc::STDIN_FILENO;
 use random_formulas::cells::NAMES;
 use random_formulas::cells::SEED;
@@ -18,6 +20,8 @@ use random_sheets::drawn::sheet;
 use random_sheets::drawn::signals;
 use random_sheets::engine::kept;
 use random_sheets::engine::slots;
+use slices::part_after;
+use slices::part_before;
 
 fn sheet_drawn(cells: &mut [u64], slots: &mut [u8]) {
     signals(cells);
@@ -71,27 +75,30 @@ fn law(cells: &mut [u64], slots: &mut [u8], number: u64, left: &[u8], right: &[u
     told(cells, number);
 }
 
-// The law of a line, counted from 0.
-fn law_at(cells: &mut [u64], slots: &mut [u8], text: &[u8], i: usize) {
-    let start = i % 64 * 24;
-    let middle = start + 12;
-    let end = start + 23;
-    if text.len() < end {
-        return;
+// The law whose line begins at i, where one does; how many laws then.
+fn law_at(cells: &mut [u64], slots: &mut [u8], text: &[u8], i: usize, before: u64) -> u64 {
+    if 0 < i {
+        if byte_at(text, i - 1) != b'\n' {
+            return before;
+        }
     }
+    let line = part_before(part(text, i, text.len()), b'\n');
+    let number = before % 64 + 1;
     law(
         cells,
         slots,
-        (i % 64 + 1) as u64,
-        &text[start..middle],
-        &text[middle..end],
+        number,
+        part_before(line, b'='),
+        part_after(line, b'='),
     );
+    number
 }
 
 fn run(cells: &mut [u64], slots: &mut [u8], text: &[u8]) {
+    let mut number: u64 = 0;
     let mut i: usize = 0;
-    while i < 55 {
-        law_at(cells, slots, text, i);
+    while i < text.len() {
+        number = law_at(cells, slots, text, i, number);
         i += 1;
     }
 }

@@ -1,7 +1,8 @@
 // The two sides of a law in the place of a leaf, and the tree around it, as formulas 1, 2 and 3.
-// A side is written operands first; d, e stand for the two lengths, j for their sum, x and i for the larger and the smaller, after
-// N for TON and F for TOF; S is SR and R is RS. The notes hold the two lengths.
+// A side is the text of the law table with a letter for a formula and words for a length. The notes hold the two lengths; with these in
+// the place of the words a side is a formula, and the formula reader gives its parts.
 use fields::byte_at;
+use fields::part;
 use random_formulas::cells::NOTES;
 use random_formulas::cells::TREE;
 use random_formulas::cells::TREES;
@@ -11,8 +12,8 @@ use random_formulas::cells::set;
 use random_formulas::texts::written;
 use random_formulas::trees::grow;
 use random_formulas::trees::operands;
-use random_formulas::trees::part;
 use random_sheets::engine::kept;
+use signals::Written;
 use slices::len_before;
 
 // The letters' trees: 32 words each, the number of parts first.
@@ -57,64 +58,121 @@ fn larger(d: u64, e: u64) -> u64 {
     if d < e { e } else { d }
 }
 
-// The length that a byte stands for.
-fn length(b: u8, d: u64, e: u64) -> u64 {
-    let sum = d % 16 + e % 16;
-    if b == b'd' {
-        return d;
-    }
-    if b == b'e' {
-        return e;
-    }
-    if b == b'j' {
-        return sum;
-    }
-    let most = larger(d % 16, e % 16);
-    if b == b'x' {
-        return most;
-    }
-    if most < sum { sum - most } else { 0 }
+fn smaller(d: u64, e: u64) -> u64 {
+    if d < e { d } else { e }
 }
 
-// Only TON and TOF have a length.
-fn sign(kind: u64, length: u64) -> u64 {
-    if kind == 6 {
-        return part(6, length);
+// The length that the words at the start of a text stand for: the larger, the smaller, d+e, e, d.
+fn length(words: &[u8], d: u64, e: u64) -> u64 {
+    let first = byte_at(words, 0);
+    if first == b't' {
+        if byte_at(words, 4) == b'l' {
+            return larger(d, e);
+        }
+        return smaller(d, e);
     }
-    if kind == 7 {
-        return part(7, length);
+    if byte_at(words, 1) == b'+' {
+        return d % 8 + e % 8;
     }
-    kind
+    if first == b'e' { e } else { d }
 }
 
-fn put_kind(cells: &mut [u64], n: usize, b: u8, after: u8) -> usize {
-    let kind = len_before(b"01a!^~NF.+SR", b) as u64;
-    let d = at(cells, NOTES);
-    let e = at(cells, NOTES + 1);
-    put(cells, n, sign(kind, length(after, d, e)))
+fn set_byte(out: &mut [u8], i: usize, b: u8) {
+    if i < out.len() {
+        out[i] = b;
+    }
 }
 
-// One sign of a side; a length follows N and F and is no sign.
-fn put_sign(cells: &mut [u64], n: usize, b: u8, after: u8) -> usize {
-    let q = len_before(b"fghsrp", b);
-    if q < 6 {
-        return put_letter(cells, n, q);
-    }
-    if len_before(b"dejxi ", b) < 6 {
-        return n;
-    }
-    put_kind(cells, n, b, after)
+fn put_byte(out: &mut [u8], n: usize, b: u8) -> usize {
+    let to = n % 256;
+    set_byte(out, to, b);
+    to + 1
 }
 
-fn put_side(cells: &mut [u64], n: usize, side: &[u8]) -> usize {
-    let mut to = n;
+// Whether a length begins (1) or goes on (2) after a byte and the one before it.
+fn inside(state: u8, before: u8, b: u8) -> u8 {
+    if b == b',' {
+        return 0;
+    }
+    if 0 < state {
+        return 2;
+    }
+    if b == b'(' {
+        if before == b'N' {
+            return 1;
+        }
+        if before == b'F' {
+            return 1;
+        }
+    }
+    0
+}
+
+// The byte at i of a side, or the length that begins there; none of the rest of a length's words.
+fn put_sign(out: &mut [u8], n: usize, state: u8, side: &[u8], i: usize, d: u64, e: u64) -> usize {
+    let b = byte_at(side, i);
+    if state == 1 {
+        let digit = length(part(side, i, side.len()), d, e) % 10;
+        return put_byte(out, n, 48 + digit as u8);
+    }
+    if state == 2 {
+        if b != b',' {
+            return n;
+        }
+    }
+    put_byte(out, n, b)
+}
+
+// A side with lengths for their words; how many bytes.
+fn with_lengths(side: &[u8], d: u64, e: u64, out: &mut [u8]) -> usize {
+    let mut n: usize = 0;
+    let mut state: u8 = 0;
+    let mut before: u8 = 0;
     let mut i: usize = 0;
     while i < side.len() {
         let b = byte_at(side, i);
+        n = put_sign(out, n, state, side, i, d, e);
+        state = inside(state, before, b);
+        before = b;
         i += 1;
-        to = put_sign(cells, to, b, byte_at(side, i));
+    }
+    n
+}
+
+// A part, or a letter's tree; a name's place stands from 256 on in its code word.
+fn put_part(cells: &mut [u64], n: usize, text: &[u8], word: u64) -> usize {
+    if word % 16 == 2 {
+        let letter = byte_at(text, (word / 256) as usize);
+        return put_letter(cells, n, len_before(b"fghsrp", letter));
+    }
+    put(cells, n, word)
+}
+
+fn put_parts(cells: &mut [u64], n: usize, text: &[u8], code: &[u64], count: usize) -> usize {
+    let mut to = n;
+    let mut i: usize = 0;
+    while i < count {
+        to = put_part(cells, to, text, at(code, i));
+        i += 1;
     }
     to
+}
+
+// Puts the parts of a formula after n parts; how many then.
+fn put_formula(cells: &mut [u64], n: usize, text: &[u8]) -> usize {
+    let mut code = [0u64; 32];
+    match formulas::read(text, &mut code) {
+        Written::Count(count) => put_parts(cells, n, text, &code, count),
+        Written::Refused(fault) => n,
+    }
+}
+
+fn put_side(cells: &mut [u64], n: usize, side: &[u8]) -> usize {
+    let mut text = [0u8; 64];
+    let d = at(cells, NOTES);
+    let e = at(cells, NOTES + 1);
+    let bytes = with_lengths(side, d, e, &mut text);
+    put_formula(cells, n, part(&text, 0, bytes))
 }
 
 // The part at i of the tree around, or the side in place of the leaf.

@@ -1,0 +1,18 @@
+-- The loop ends: what is left of the bytes grows less.
+use borrow.Author.Needs.{needs}
+use Prim.Native.Nat.{_-_, _≤_}
+use lib.ListN.{length}
+use Rattle.cases.proofs.shown.fold.Statement.{statement}
+use Rattle.cases.proofs.shown.fold.Tie as tie
+
+abbrev Inv-loop : tie.InvT-loop
+Inv-loop bytes few sum₀ i₀ sum i = 0 ≤ 0
+
+abbrev μ-loop : tie.MeasureT-loop
+μ-loop bytes few sum₀ i₀ sum i = length bytes - i
+
+pub fold-spec : {M : Type 1} → statement M
+fold-spec =
+    tie.close
+    (tie.spec Inv-loop μ-loop
+    (λ c. search needs) (λ c κs. search needs) (λ c κs. search needs) (λ c. search needs) (λ c. search needs) (λ c. search needs) (λ c. search needs))

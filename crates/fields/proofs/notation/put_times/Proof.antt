@@ -1,0 +1,19 @@
+-- The space keeps its length; the times left grow less.
+use borrow.Author.Needs.{needs}
+use Prim.Native.Nat.{_-_}
+use mathlib.Core.Path.{_≡_}
+use lib.ListN.{length}
+use Rattle.fields.proofs.notation.put_times.Statement.{statement}
+use Rattle.fields.proofs.notation.put_times.Tie as tie
+
+abbrev Inv-loop : tie.InvT-loop
+Inv-loop space₀ at bytes count to₀ i₀ space to i = length space ≡ length space₀
+
+abbrev μ-loop : tie.MeasureT-loop
+μ-loop space₀ at bytes count to₀ i₀ space to i = count - i
+
+pub put-times-spec : {M : Type 1} → statement M
+put-times-spec =
+    tie.close
+    (tie.spec Inv-loop μ-loop
+    (λ c. search needs) (λ c κs. search needs) (λ c. search needs) (λ c. search needs) (λ c. search needs) (λ c. search needs) (λ c. search needs))
