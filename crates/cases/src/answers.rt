@@ -1,5 +1,5 @@
 // What a call answers, as it is shown: one of the texts, the number that some of them have, and whether the output follows.
-use operations::SlotAnswer;
+use building::SlotAnswer;
 use signals::Sum;
 use signals::Told;
 use signals::Verdict;

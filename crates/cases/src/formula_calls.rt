@@ -92,9 +92,9 @@ fn claim(sheet: &[u8], f: &[u8], g: &[u8], n: usize) {
 
 // The line of an input, without the line feed.
 fn report(input: &[u8], n: usize) {
-    let mut buffer = report::buffer();
+    let mut buffer = claim_line::buffer();
     copied(input, &mut buffer);
-    let line = report::report(&buffer, n);
+    let line = claim_line::line_of(&buffer, n);
     let bytes = line.bytes;
     let count = line.count;
     io::write_all(1, b" ");

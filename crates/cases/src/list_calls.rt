@@ -13,12 +13,12 @@ use signals::Length;
 fn answer(call: usize, a: &[u32], b: &[u32], out: &mut [u32]) -> Answer {
     match call {
         0 => answers::number(lists::list_fault(a)),
-        1 => told(lists::value_at(a, head(b))),
-        2 => told(lists::value_in(a, head(b))),
-        3 => told(lists::equal(a, b)),
-        4 => answers::verdict(lists::implies(a, b)),
+        1 => told(asking::value_at(a, head(b))),
+        2 => told(asking::value_in(a, head(b))),
+        3 => told(comparing::equal(a, b)),
+        4 => answers::verdict(comparing::implies(a, b)),
         5 => answers::sum(signals::date_plus_length(Date(head(a)), Length(head(b)))),
-        _ => written(lists::tidy(a, out)),
+        _ => written(tidying::tidy(a, out)),
     }
 }
 
@@ -39,14 +39,14 @@ fn operation(
     out: &mut [u32],
 ) -> Answer {
     match call {
-        7 => written(operations::not(a, out)),
-        8 => written(operations::rising(a, out)),
-        9 => written(operations::falling(a, out)),
-        10 => written(operations::sr(a, b, out)),
-        11 => written(operations::rs(a, b, out)),
-        12 => written(operations::delay::ton(Length(head(a)), b, out)),
-        13 => written(operations::delay::tof(Length(head(a)), b, out)),
-        _ => written(operations::connective(table(digits), b, c, out)),
+        7 => written(merging::not(a, out)),
+        8 => written(merging::rising(a, out)),
+        9 => written(merging::falling(a, out)),
+        10 => written(merging::sr(a, b, out)),
+        11 => written(merging::rs(a, b, out)),
+        12 => written(delays::ton(Length(head(a)), b, out)),
+        13 => written(delays::tof(Length(head(a)), b, out)),
+        _ => written(merging::connective(table(digits), b, c, out)),
     }
 }
 
@@ -59,14 +59,14 @@ fn operation_in(
     out: &mut [u32],
 ) -> Answer {
     match call {
-        15 => slot(operations::not_in(a, out)),
-        16 => slot(operations::rising_in(a, out)),
-        17 => slot(operations::falling_in(a, out)),
-        18 => slot(operations::sr_in(a, b, out)),
-        19 => slot(operations::rs_in(a, b, out)),
-        20 => slot(operations::delay::ton_in(Length(head(a)), b, out)),
-        21 => slot(operations::delay::tof_in(Length(head(a)), b, out)),
-        _ => slot(operations::connective_in(table(digits), b, c, out)),
+        15 => slot(merging::not_in(a, out)),
+        16 => slot(merging::rising_in(a, out)),
+        17 => slot(merging::falling_in(a, out)),
+        18 => slot(merging::sr_in(a, b, out)),
+        19 => slot(merging::rs_in(a, b, out)),
+        20 => slot(delays::ton_in(Length(head(a)), b, out)),
+        21 => slot(delays::tof_in(Length(head(a)), b, out)),
+        _ => slot(merging::connective_in(table(digits), b, c, out)),
     }
 }
 

@@ -11,7 +11,7 @@ use crate::shown::answer;
 use crate::shown::with_bytes;
 use fields::notation::copied;
 use fields::part;
-use sheets::Place;
+use format::Place;
 use signals::Written;
 
 // An output of sevens, so that what a call leaves is seen.
@@ -46,12 +46,12 @@ fn question(call: usize, sheet: &[u8], name: &[u8]) {
         28 => answer(number(sheets::lookup_fault(sheet, name))),
         29 => looked_up(sheet, name),
         30 => place(sheets::locate(sheet, name)),
-        _ => answer(yes(sheets::well_named(sheet))),
+        _ => answer(yes(names::well_named(sheet))),
     }
 }
 
 fn begun(out: &mut [u8]) -> usize {
-    with_bytes(written(sheets::begin(out)), out);
+    with_bytes(written(appending::begin(out)), out);
     0
 }
 
@@ -64,7 +64,7 @@ fn count_of(answer: Written) -> usize {
 
 // How many bytes were written.
 fn appended(sheet: &[u8], name: &[u8], list: &[u32], out: &mut [u8]) -> usize {
-    let answer = sheets::append(sheet, name, list, out);
+    let answer = appending::append(sheet, name, list, out);
     with_bytes(written(answer), out);
     count_of(answer)
 }
