@@ -3,7 +3,7 @@ ghost use mathlib.Core.Path.{_≡_};
 ghost use Prim.Native.Nat.{_+_, _*_, _≤_, _<_};
 ghost use lib.ListN.{length, take, drop};
 ghost use Rattle.signals.specs.Words.{changesNothing};
-ghost use Rattle.format.specs.Names.{same, zeros, unpadded, fieldFits, among};
+ghost use Rattle.format.specs.Names.{among};
 ghost use Rattle.format.specs.Reading.{wordCount, signalSize, sheetWordsFault, signalFault, frontFault, sheetFault, signalsFrom, names};
 ghost use Rattle.format.specs.Calls.{placeFrom, placeOf, lookupFault};
 ghost use Rattle.format.specs.Walk.{Whole};
@@ -33,57 +33,6 @@ pub const WORD_COUNT_AT: usize = 8;
 pub const WORDS_AT: usize = 10;
 
 pub const WORD_BYTES: usize = 4;
-
-// Two byte strings are alike.
-fn alike(a: &[u8], b: &[u8]) -> bool
-    ensures { λ r. ⌜ r ≡ same (now (a .entry)) (now (b .entry)) ⌝ }
-{
-    if a.len() != b.len() {
-        return false;
-    }
-    let mut i = 0;
-    while i < a.len() {
-        if a[i] != b[i] {
-            return false;
-        }
-        i += 1;
-    }
-    true
-}
-
-// Every byte is zero.
-fn all_zero(s: &[u8]) -> bool
-    ensures { λ r. ⌜ r ≡ zeros (now (s .entry)) ⌝ }
-{
-    let mut i = 0;
-    while i < s.len() {
-        if s[i] != 0 {
-            return false;
-        }
-        i += 1;
-    }
-    true
-}
-
-// The name in a name field: the part before the first zero byte.
-fn name_in(field: &[u8]) -> &[u8]
-    ensures { λ r. ⌜ now r ≡ unpadded (now (field .entry)) ⌝ }
-{
-    slices::part_before(field, 0)
-}
-
-// A name field: a name, then zero bytes.
-fn field_fits(field: &[u8]) -> bool
-    ensures { λ r. ⌜ r ≡ fieldFits (now (field .entry)) ⌝ }
-{
-    let name = name_in(field);
-    let n = name.len();
-    if names::well_named(name) {
-        all_zero(&field[n..])
-    } else {
-        false
-    }
-}
 
 // The name field of the signal at a place.
 fn field_at(sheet: &[u8], at: usize) -> &[u8]
@@ -168,8 +117,8 @@ fn find(sheet: &[u8], count: usize, name: &[u8]) -> Place
     let mut at = FIRST_AT;
     let mut i: usize = 0;
     while i < count {
-        let held = name_in(field_at(sheet, at));
-        if alike(held, name) {
+        let held = name_fields::name_in(field_at(sheet, at));
+        if name_fields::alike(held, name) {
             return Place::At {
                 start: at + WORDS_AT,
                 count: WORD_BYTES * word_count(sheet, at),
@@ -203,8 +152,8 @@ fn signal_fault(sheet: &[u8], at: usize, count: usize) -> u32
         return 15;
     }
     let field = field_at(sheet, at);
-    if field_fits(field) {
-        if known(sheet, count, name_in(field)) {
+    if name_fields::field_fits(field) {
+        if known(sheet, count, name_fields::name_in(field)) {
             return 16;
         }
         if left < WORDS_AT {
@@ -230,7 +179,7 @@ fn front_fault(sheet: &[u8]) -> u32
     if sheet.len() < VERSION_AT {
         return 14;
     }
-    if alike(&sheet[..VERSION_AT], &MARK) {
+    if name_fields::alike(&sheet[..VERSION_AT], &MARK) {
         if sheet.len() < COUNT_AT {
             return 14;
         }

@@ -1,4 +1,4 @@
--- `sheets::all_zero` meets its contract: the bytes from the place on are zero when all are.
+-- `name_fields::all_zero` meets its contract: the bytes from the place on are zero when all are.
 use borrow.Author.Needs.{needs}
 use native.Mathlib.Omega.{arith}
 use Prim.Native.Nat.{_-_, _≤_}
@@ -7,8 +7,8 @@ use mathlib.Core.Path.{_≡_, refl, sym, _∙_}
 use lib.ListN.{length, drop}
 use Rattle.format.specs.Names.{zeros}
 use Rattle.format.proofs.Steps.{zeros-not, zeros-step, zeros-end}
-use Rattle.sheets.proofs.all_zero.Statement.{statement}
-use Rattle.sheets.proofs.all_zero.Tie as tie
+use Rattle.name_fields.proofs.all_zero.Statement.{statement}
+use Rattle.name_fields.proofs.all_zero.Tie as tie
 
 abbrev Inv-loop : tie.InvT-loop
 Inv-loop s i₀ i = (i ≤ length s) × (zeros (drop i s) ≡ zeros s)

@@ -1,9 +1,9 @@
--- `sheets::field_fits` meets its contract.
+-- `name_fields::field_fits` meets its contract.
 use borrow.Author.Needs.{needs}
 use denote.Ref.{now}
 use Rattle.format.proofs.Steps.{name-within, fits-if-zeros, fits-not}
-use Rattle.sheets.proofs.field_fits.Statement.{statement}
-use Rattle.sheets.proofs.field_fits.Tie as tie
+use Rattle.name_fields.proofs.field_fits.Statement.{statement}
+use Rattle.name_fields.proofs.field_fits.Tie as tie
 
 name-in-requires : tie.Need-name-in-requires
 name-in-requires c κs = search needs

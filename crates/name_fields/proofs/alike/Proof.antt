@@ -1,4 +1,4 @@
--- `sheets::alike` meets its contract: the strings from the place on are alike when the whole ones are.
+-- `name_fields::alike` meets its contract: the strings from the place on are alike when the whole ones are.
 use borrow.Author.Needs.{needs}
 use native.Mathlib.Omega.{arith}
 use Prim.Native.Nat.{_-_, _≤_}
@@ -7,8 +7,8 @@ use mathlib.Core.Path.{_≡_, refl, sym, _∙_}
 use lib.ListN.{length, drop}
 use Rattle.format.specs.Names.{same}
 use Rattle.format.proofs.Steps.{same-differ, same-agree, same-end, same-unequal}
-use Rattle.sheets.proofs.alike.Statement.{statement}
-use Rattle.sheets.proofs.alike.Tie as tie
+use Rattle.name_fields.proofs.alike.Statement.{statement}
+use Rattle.name_fields.proofs.alike.Tie as tie
 
 abbrev Inv-loop : tie.InvT-loop
 Inv-loop a b i₀ i = (i ≤ length a) × (same (drop i a) (drop i b) ≡ same a b)
