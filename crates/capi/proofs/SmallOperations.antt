@@ -10,7 +10,7 @@ use Rattle.signals.specs.Moment.{M}
 use Rattle.signals.specs.Signal.{Signal}
 use Rattle.signals.specs.Words.{listFault}
 use Rattle.signals.specs.Answers.{writtenOf}
-use Rattle.operations.proofs.JudgedCalls.{part-none}
+use Rattle.operations.proofs.CallFaults.{part-none}
 use Rattle.operations.specs.Calls.{changesAfterM, partFault, roomFault, answerFault, lengthFault, pairFault, faultOfOne, exactOfOne, faultOfTwo, exactOfTwo, faultOfDelay, exactOfDelay}
 use Rattle.capi.specs.Packing.{SmallWritten}
 use Rattle.capi.proofs.SmallAnswers.{choice, first-small, list-small, written-small}

@@ -63,6 +63,16 @@ answer-ways exact n = go (ltb 256 (length exact)) (changesAfterM exact) (ltb n (
     go false false false p q r =
         whole (rw (p, q, r)) (not-long p) (not-late q) (λ b. omega (arith, ltb-false n (length exact) r))
 
+-- an answer without 5 and 6
+pub part-none : (exact : List ℕ) → partFault exact ≡ 0 → (length exact ≤ 256) × (changesAfterM exact ≡ false)
+unfolding partFault
+part-none exact = go (ltb 256 (length exact)) (changesAfterM exact) refl
+  where
+    go : (b c : Bool) → ltb 256 (length exact) ≡ b → _≡_ {A = ℕ} (cond b 5 (cond c 6 0)) 0 → (length exact ≤ 256) × (c ≡ false)
+    go true c e z = absurd (omega arith)
+    go false true e z = absurd (omega arith)
+    go false false e z = (ltb-false 256 (length exact) e, refl)
+
 -- a judgement that comes first: sound exactly when it gives no fault, and it gives none of 5, 6, 7
 record First (judged : ℕ) (Sound : Type 0) : Type 0 where
   says : judged ≡ 0 → Sound
