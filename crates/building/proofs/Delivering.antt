@@ -13,7 +13,7 @@ use Rattle.signals.specs.Answers.{firstOf, writtenOf, outputOf}
 use Rattle.signals.specs.declared.Written.{Written}
 use Rattle.signals.specs.declared.Written.the-variants.{Count, Refused}
 use Rattle.signals.proofs.FirstFault.{both-none}
-use Rattle.operations.proofs.JudgedCalls.{part-none}
+use Rattle.operations.proofs.CallFaults.{part-none}
 use Rattle.operations.specs.Calls.{partFault, roomFault, answerFault, changesAfterM}
 use Rattle.building.specs.Building.{Built, madeFault, Delivers}
 use Rattle.building.specs.declared.Made.{Made}

@@ -23,11 +23,7 @@ pub struct Made {
 fn idle_word(before: bool, at: bool, after: bool) -> bool
     ensures { λ r. ⌜ r ≡ idle before at after ⌝ }
 {
-    if before {
-        if at { after } else { false }
-    } else {
-        if at { false } else { !after }
-    }
+    if at == before { after == before } else { false }
 }
 
 // A count goes round at 2^32, above the words of any answer.
@@ -63,29 +59,33 @@ pub fn emit(slot: &mut [u32], made: Made, date: Date, at: bool, after: bool) -> 
     if idle_word(made.value, at, after) {
         return made;
     }
-    let count = one_more(made.count);
     let on = date.0;
     if made.late {
         return Made {
             value: after,
-            count,
+            count: one_more(made.count),
             late: true,
         };
     }
     if M < on {
         return Made {
             value: after,
-            count,
+            count: one_more(made.count),
             late: true,
         };
     }
     let place = made.count as usize;
     if place < slot.len() {
         slot[place] = signals::word_of(date, at, after) as u32;
+        return Made {
+            value: after,
+            count: one_more(made.count),
+            late: false,
+        };
     }
     Made {
         value: after,
-        count,
+        count: one_more(made.count),
         late: false,
     }
 }

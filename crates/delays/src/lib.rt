@@ -39,7 +39,11 @@ fn run(level: bool, waits: bool, d: Length, words: &[u32], slot: &mut [u32]) -> 
     ensures { λ r. ⌜ Built (exactOfDelay (delayOf level waits (d .0)) (d .0) (now (words .entry))) (now (slot .entry)) (now (slot .exit)) r ⌝ }
 {
     let mut passed: usize = 1;
-    let mut timer = timing::first(d, waits, timing::on_level(level, lists::held_value(words, 1)));
+    let mut timer = timing::first(
+        d,
+        waits,
+        timing::on_level(level, lists::held_value(words, 1)),
+    );
     let mut made = building::begin(slot, timing::on_level(level, timer.level));
     let mut date = upcoming(words, passed, timer);
     while date.0 < lists::NEVER {

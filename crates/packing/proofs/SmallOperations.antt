@@ -12,7 +12,7 @@ use Rattle.signals.specs.Words.{listFault}
 use Rattle.signals.specs.Answers.{writtenOf}
 use Rattle.operations.specs.Calls.{changesAfterM, answerFault, lengthFault, pairFault, faultOfOne, exactOfOne, faultOfTwo, exactOfTwo, faultOfDelay, exactOfDelay, partFault, roomFault}
 use Rattle.packing.proofs.SmallAnswers.{SmallWritten, choice, first-small, list-small, written-small}
-use Rattle.operations.proofs.JudgedCalls.{part-none}
+use Rattle.operations.proofs.CallFaults.{part-none}
 use Rattle.signals.specs.Answers.{firstOf}
 use Rattle.signals.proofs.FirstFault.{both-none}
 

@@ -129,7 +129,13 @@ pub fn first_shown(operation: Operation, table: [[bool; 2]; 2], p: bool, q: bool
 }
 
 // What a date shows, from the bit carried before it and what passing it found of both operands.
-pub fn date_shown(operation: Operation, table: [[bool; 2]; 2], carried: bool, p: Step, q: Step) -> Shown
+pub fn date_shown(
+    operation: Operation,
+    table: [[bool; 2]; 2],
+    carried: bool,
+    p: Step,
+    q: Step,
+) -> Shown
     ensures { λ v. ⌜ v ≡ dateShown operation table carried (p .before) (p .at) (p .after) (q .at) (q .after) ⌝ }
 {
     match operation {
