@@ -11,7 +11,7 @@ ghost use Rattle.signals.specs.Moment.{M};
 ghost use Rattle.signals.specs.Words.{listFault};
 ghost use Rattle.formulas.specs.Tree.{Tree};
 ghost use Rattle.formulas.specs.Code.{ticksOf, operand, one, two, code};
-ghost use Rattle.evaluation.specs.Machine.{leafOf, unaryOf, binaryOf, leafKnown, Loaded, Given, partAnswer, unaryExact, binaryExact, Room, Ready, Steps, Plan, partsIn, WorkedOut, partFound, allFound, Prepared, Coded, runFault, judgeFault, InSlot, ClaimOn};
+ghost use Rattle.machine.specs.Machine.{leafOf, unaryOf, binaryOf, leafKnown, Loaded, Given, unaryExact, binaryExact, Room, Ready, Steps, Plan, partsIn, WorkedOut, partFound, allFound, Prepared, Coded, runFault, judgeFault, InSlot, ClaimOn};
 ghost use Rattle.calls.specs.Work.{CallOfFormula, CallOfClaim};
 ghost use Rattle.signals.specs.Answers.{writtenOf, outputOf, verdictFor};
 ghost use Rattle.calls.specs.Calls.{roomFault, wordsOn, callAnswer, callOutput, claimFails, claimAnswer};
@@ -19,6 +19,7 @@ ghost use Rattle.formulas.specs.Formula.{formulaTree};
 ghost use Rattle.laws.specs.Rewriting.{parts};
 ghost use Rattle.calls.specs.OnSheet.{exactOn};
 ghost use Rattle.calls.specs.Calls.{partsFault, workingFault};
+use machine::Next;
 use operations::SlotAnswer;
 use signals::Length;
 use signals::Verdict;
@@ -26,13 +27,6 @@ use signals::Written;
 
 // The work words that a call needs.
 pub const WORK_WORDS: usize = 8192;
-
-// What working one part out gives: its fault or 0, the height of the stack after it and the word count of the list on top.
-struct Next {
-    fault: u32,
-    height: usize,
-    count: usize,
-}
 
 // The first count words, put into the work area at a place.
 fn put_list(work: &mut [u32], at: usize, words: &[u32], count: usize)
@@ -166,18 +160,6 @@ fn apply_binary(code: u64, a: &[u32], b: &[u32], buffer: &mut [u32]) -> SlotAnsw
     operations::rs_in(a, b, buffer)
 }
 
-// A part's answer from what its call in the buffer gives: 5, 6, or its word count. The calls made here all begin.
-fn part_answer(given: SlotAnswer) -> Written
-    ensures { λ r. ⌜ r ≡ partAnswer given ⌝ }
-{
-    match given {
-        SlotAnswer::Stands(count) => Written::Count(count),
-        SlotAnswer::TooLong => Written::Refused(5),
-        SlotAnswer::TooLate => Written::Refused(6),
-        SlotAnswer::NotBegun => Written::Refused(5),
-    }
-}
-
 // A leaf's list pushed onto the stack.
 fn push_leaf(
     sheet: &[u8],
@@ -217,7 +199,7 @@ fn on_one(
     let top = height - 1;
     let at = (base + top) * 256;
     let end = at + counts[top];
-    let answer = part_answer(apply_unary(code, &work[at..end], buffer));
+    let answer = machine::part_answer(apply_unary(code, &work[at..end], buffer));
     match answer {
         Written::Count(count) => {
             put_list(work, at, buffer, count);
@@ -255,7 +237,7 @@ fn on_two(
     let above = (base + second) * 256;
     let last = above + counts[second];
     let w = &work[..];
-    let answer = part_answer(apply_binary(code, &w[at..end], &w[above..last], buffer));
+    let answer = machine::part_answer(apply_binary(code, &w[at..end], &w[above..last], buffer));
     match answer {
         Written::Count(total) => {
             put_list(work, at, buffer, total);

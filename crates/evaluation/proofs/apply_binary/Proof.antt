@@ -1,5 +1,5 @@
 -- `evaluation::apply_binary` meets its contract: by the kind, the operator's call in the buffer.
-use Rattle.evaluation.proofs.Applying.{did-and, did-or, did-sr, did-rs, binary-8, binary-9, binary-10, binary-11}
+use Rattle.machine.proofs.Applying.{did-and, did-or, did-sr, did-rs, binary-8, binary-9, binary-10, binary-11}
 use borrow.Author.Needs.{needs}
 use Rattle.evaluation.proofs.apply_binary.Statement.{statement}
 use Rattle.evaluation.proofs.apply_binary.Tie as tie

@@ -1,6 +1,6 @@
 -- `evaluation::apply_unary` meets its contract: by the kind, the operator's call in the buffer.
 use mathlib.Core.Path.{refl}
-use Rattle.evaluation.proofs.Applying.{did-not, did-rise, did-fall, did-ton, did-tof, unary-3, unary-4, unary-5, unary-6, unary-7}
+use Rattle.machine.proofs.Applying.{did-not, did-rise, did-fall, did-ton, did-tof, unary-3, unary-4, unary-5, unary-6, unary-7}
 use borrow.Author.Needs.{needs}
 use Rattle.evaluation.proofs.apply_unary.Statement.{statement}
 use Rattle.evaluation.proofs.apply_unary.Tie as tie

@@ -1,8 +1,8 @@
 -- `evaluation::claim` meets its contract: each return is the first fault in document 01's order, or the verdict.
 use native.Mathlib.Omega.{arith}
 use mathlib.Core.Path.{_≡_, refl, sym, _∙_, ap}
-use Rattle.evaluation.proofs.Calling.{coded, read-fine, read-refused}
-use Rattle.evaluation.proofs.Claiming.{claim-sheet, claim-reading, claim-goes-on}
+use Rattle.machine.proofs.Calling.{coded, read-fine, read-refused}
+use Rattle.machine.proofs.Claiming.{claim-sheet, claim-reading, claim-goes-on}
 use borrow.Author.Needs.{needs}
 use Rattle.evaluation.proofs.claim.Statement.{statement}
 use Rattle.evaluation.proofs.claim.Tie as tie

@@ -1,5 +1,5 @@
 -- `evaluation::found` looks a part's name up on the sheet.
-use Rattle.evaluation.proofs.Preparing.{found-name, found-other}
+use Rattle.machine.proofs.Preparing.{found-name, found-other}
 use borrow.Author.Needs.{needs}
 use Rattle.evaluation.proofs.found.Statement.{statement}
 use Rattle.evaluation.proofs.found.Tie as tie

@@ -1,5 +1,5 @@
 -- `evaluation::hand_over` meets its contract: 7, or the words at the front of the output.
-use Rattle.evaluation.proofs.Calling.{no-room, handed}
+use Rattle.machine.proofs.Calling.{no-room, handed}
 use borrow.Author.Needs.{needs}
 use Rattle.evaluation.proofs.hand_over.Statement.{statement}
 use Rattle.evaluation.proofs.hand_over.Tie as tie

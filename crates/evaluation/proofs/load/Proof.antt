@@ -1,6 +1,6 @@
 -- `evaluation::load` meets its contract: by the kind, a name's list from the sheet or a constant's.
 use native.Mathlib.Omega.{arith}
-use Rattle.evaluation.proofs.Leaves.{loaded-name, name-fits, loaded-up, loaded-down}
+use Rattle.machine.proofs.Leaves.{loaded-name, name-fits, loaded-up, loaded-down}
 use borrow.Author.Needs.{needs}
 use Rattle.evaluation.proofs.load.Statement.{statement}
 use Rattle.evaluation.proofs.load.Tie as tie

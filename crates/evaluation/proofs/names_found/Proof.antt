@@ -4,9 +4,9 @@ use Prim.Native.Nat.{_≤_, _-_}
 use native.Mathlib.Omega.{arith}
 use mathlib.Core.Path.{_≡_, refl, sym, _∙_, ap}
 use mathlib.Core.Bool.{_&&_}
-use Rattle.evaluation.specs.Machine.{allFound, partsIn}
-use Rattle.evaluation.proofs.Looping.{rest}
-use Rattle.evaluation.proofs.Preparing.{all-of, next-true, next-false, none-left}
+use Rattle.machine.specs.Machine.{allFound, partsIn}
+use Rattle.machine.proofs.Looping.{rest}
+use Rattle.machine.proofs.Preparing.{all-of, next-true, next-false, none-left}
 use Rattle.evaluation.proofs.names_found.Statement.{statement}
 use Rattle.evaluation.proofs.names_found.Tie as tie
 

@@ -1,8 +1,8 @@
 -- `evaluation::on_one` meets its contract: the operator's answer takes the place of its operand's list.
 use native.Mathlib.Omega.{arith}
 use mathlib.Core.Path.{_≡_, refl, sym, _∙_}
-use Rattle.evaluation.proofs.Stepping.{OneTop, one-top, one-fits, one-accepted, answer-short, one-counted, one-refused}
-use Rattle.evaluation.proofs.Applying.{part-done}
+use Rattle.machine.proofs.Stepping.{OneTop, one-top, one-fits, one-accepted, answer-short, one-counted, one-refused}
+use Rattle.machine.proofs.Applying.{part-done}
 use borrow.Author.Needs.{needs}
 use Rattle.evaluation.proofs.on_one.Statement.{statement}
 use Rattle.evaluation.proofs.on_one.Tie as tie

@@ -3,7 +3,7 @@ use native.Mathlib.Omega.{arith}
 use lib.ListN.{length}
 use mathlib.Core.Path.{_≡_, refl, sym, _∙_, ap}
 use Rattle.formulas.proofs.Storing.{code-after-length}
-use Rattle.evaluation.proofs.Preparing.{prepare-refused, prepare-found, prepare-lacking, count-short}
+use Rattle.machine.proofs.Preparing.{prepare-refused, prepare-found, prepare-lacking, count-short}
 use borrow.Author.Needs.{needs}
 use Rattle.evaluation.proofs.prepare.Statement.{statement}
 use Rattle.evaluation.proofs.prepare.Tie as tie

@@ -1,8 +1,8 @@
 -- `evaluation::push_leaf` meets its contract: the leaf's list is loaded into the slot above the stack.
 use native.Mathlib.Omega.{arith}
 use mathlib.Core.Path.{refl}
-use Rattle.evaluation.proofs.Leaves.{leaf-fault}
-use Rattle.evaluation.proofs.Stepping.{leaf-pushed}
+use Rattle.machine.proofs.Leaves.{leaf-fault}
+use Rattle.machine.proofs.Stepping.{leaf-pushed}
 use borrow.Author.Needs.{needs}
 use Rattle.evaluation.proofs.push_leaf.Statement.{statement}
 use Rattle.evaluation.proofs.push_leaf.Tie as tie

@@ -5,7 +5,7 @@ use native.Mathlib.Omega.{arith}
 use mathlib.Core.Path.{_≡_, refl, sym, _∙_, ap}
 use lib.ListN.{length, length-set}
 use lib.Seq.{paste, paste-zero}
-use Rattle.evaluation.proofs.Putting.{put-next}
+use Rattle.machine.proofs.Putting.{put-next}
 use Rattle.evaluation.proofs.put_list.Statement.{statement}
 use Rattle.evaluation.proofs.put_list.Tie as tie
 

@@ -6,7 +6,7 @@ use mathlib.Core.Path.{_≡_, refl, sym, _∙_, ap}
 use lib.ListN.{length, length-set}
 use lib.Seq.{paste, paste-zero}
 use Rattle.sheets.specs.Bytes.{wordsIn}
-use Rattle.evaluation.proofs.Putting.{put-word}
+use Rattle.machine.proofs.Putting.{put-word}
 use Rattle.evaluation.proofs.put_part.Statement.{statement}
 use Rattle.evaluation.proofs.put_part.Tie as tie
 

@@ -6,8 +6,8 @@ use mathlib.Core.Path.{_≡_, refl, sym, _∙_, ap}
 use lib.ListN.{length, length-set, length-replicate}
 use Rattle.formulas.specs.Tree.{Tree}
 use Rattle.formulas.specs.Code.{code}
-use Rattle.evaluation.specs.Machine.{partsIn}
-use Rattle.evaluation.proofs.Looping.{Going, start, height-small, ready, stopped, gone-on, finished}
+use Rattle.machine.specs.Machine.{partsIn}
+use Rattle.machine.proofs.Looping.{Going, start, height-small, ready, stopped, gone-on, finished}
 use Rattle.evaluation.proofs.work_out.Statement.{statement}
 use Rattle.evaluation.proofs.work_out.Tie as tie
 

@@ -9,7 +9,7 @@ use Rattle.signals.specs.Words.{listFault}
 use Rattle.signals.proofs.Normal.{acceptedNormal}
 use Rattle.formulas.specs.Tree.{Tree}
 use Rattle.calls.specs.OnSheet.{exactOn}
-use Rattle.evaluation.specs.Machine.{InSlot, Stacked}
+use Rattle.machine.specs.Machine.{InSlot, Stacked}
 
 -- what stands before a place does not depend on what stands after it
 front : (p x y : List ℕ) (j c : ℕ) → j + c ≤ length p → take c (drop j (p ++ x)) ≡ take c (drop j (p ++ y))

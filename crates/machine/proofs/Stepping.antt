@@ -18,11 +18,11 @@ use Rattle.formulas.specs.Code.{Part, operand, one, two, ticksOf, top}
 use Rattle.sheets.specs.Reading.{sheetFault}
 use Rattle.calls.specs.OnSheet.{exactOn}
 use Rattle.calls.specs.Calls.{partFault}
-use Rattle.evaluation.specs.declared.Next.{Next}
-use Rattle.evaluation.specs.Machine.{InSlot, Stacked, Enough, Known, Stepped, Ready, Room, Loaded, unaryExact, binaryExact, worked}
-use Rattle.evaluation.proofs.SlotFacts.{short, push-slot, below}
-use Rattle.evaluation.proofs.Exact.{unary-exact, binary-exact, accepted-part}
-use Rattle.evaluation.proofs.Applying.{Applied, part-none}
+use Rattle.machine.specs.declared.Next.{Next}
+use Rattle.machine.specs.Machine.{InSlot, Stacked, Enough, Known, Stepped, Ready, Room, Loaded, unaryExact, binaryExact, worked}
+use Rattle.machine.proofs.SlotFacts.{short, push-slot, below}
+use Rattle.machine.proofs.Exact.{unary-exact, binary-exact, accepted-part}
+use Rattle.machine.proofs.Applying.{Applied, part-none}
 
 -- what an answer says
 pub counted : (f : ℕ) (l : List ℕ) (n : ℕ) → writtenOf f l ≡ Count n → (f ≡ 0) × (n ≡ length l)

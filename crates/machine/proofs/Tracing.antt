@@ -8,7 +8,7 @@ use Rattle.formulas.specs.Tree.{Tree, Leaf, Unary, Binary, leaf, unary, binary}
 use Rattle.formulas.specs.Code.{Part, operand, one, two, code, work, top}
 use Rattle.formulas.proofs.Working.{worked as work-code}
 use Rattle.laws.specs.Rewriting.{parts}
-use Rattle.evaluation.specs.Machine.{worked, Enough, trace}
+use Rattle.machine.specs.Machine.{worked, Enough, trace}
 
 pub traced : (t : Tree) (ps : List Part) (st : List Tree) → trace (code t ++ ps) st ≡ parts t ++ trace ps (t ∷ st)
 unfolding trace code parts

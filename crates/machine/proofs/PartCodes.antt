@@ -9,7 +9,7 @@ use borrow.Author.Tests.{lt-ltb, le-ltb, le-leb, lt-leb}
 use Rattle.formulas.specs.Tree.{Tree, Leaf, Unary, Binary, down, up, name}
 use Rattle.formulas.specs.Code.{Part, operand, one, two}
 use Rattle.formulas.specs.Formula.{partOf, plainPart, timedPart, nameAt}
-use Rattle.evaluation.specs.Machine.{leafOf, unaryOf, binaryOf}
+use Rattle.machine.specs.Machine.{leafOf, unaryOf, binaryOf}
 
 -- a kind is below 16: what holds of each holds of all
 below16 : (P : ℕ → Type 0) → P 0 → P 1 → P 2 → P 3 → P 4 → P 5 → P 6 → P 7 → P 8 → P 9 → P 10 → P 11 → P 12 → P 13 → P 14 → P 15 → (k : ℕ) → k < 16 → P k

@@ -28,9 +28,9 @@ use Rattle.sheets.proofs.Theorems.{lookup-gives-the-list}
 use Rattle.formulas.specs.Tree.{Leaf, leaf, down, up, name}
 use Rattle.formulas.specs.Formula.{nameAt}
 use Rattle.calls.specs.OnSheet.{exactOn, settlingDate, signalOn}
-use Rattle.evaluation.specs.Machine.{leafOf, leafKnown, Loaded}
-use Rattle.evaluation.proofs.SlotFacts.{short}
-use Rattle.evaluation.proofs.Putting.{words-length}
+use Rattle.machine.specs.Machine.{leafOf, leafKnown, Loaded}
+use Rattle.machine.proofs.SlotFacts.{short}
+use Rattle.machine.proofs.Putting.{words-length}
 use Rattle.signals.specs.Answers.{firstOf}
 
 pub paste-one : (d : List ℕ) (at w : ℕ) → at < length d → set d at w ≡ paste d at (w ∷ []) 1

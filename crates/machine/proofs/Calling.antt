@@ -28,11 +28,11 @@ use Rattle.calls.specs.OnSheet.{exactOn, signalOn, settlingDate}
 use Rattle.calls.specs.Calls.{readingFault, workFault, neededWork, partsFault, workingFault, wordsOn, roomFault, callFault, callAnswer, callOutput, claimFault, claimVerdict, claimAnswer}
 use Rattle.calls.proofs.Settles.{settles}
 use Rattle.calls.proofs.NotRefused.{work-ok, work-short}
-use Rattle.evaluation.specs.Machine.{InSlot, Plan, WorkedOut, Prepared, Coded, runFault, partsIn}
+use Rattle.machine.specs.Machine.{InSlot, Plan, WorkedOut, Prepared, Coded, runFault, partsIn}
 use Rattle.calls.specs.Work.{firstFault, firstClaimFault}
-use Rattle.evaluation.proofs.Exact.{signal-is, settled-at}
-use Rattle.evaluation.proofs.Stepping.{counted, refused-by}
-use Rattle.evaluation.proofs.SlotFacts.{short}
+use Rattle.machine.proofs.Exact.{signal-is, settled-at}
+use Rattle.machine.proofs.Stepping.{counted, refused-by}
+use Rattle.machine.proofs.SlotFacts.{short}
 use Rattle.signals.specs.Answers.{firstOf}
 use Rattle.signals.proofs.FirstFault.{next-is}
 

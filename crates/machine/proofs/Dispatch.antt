@@ -4,8 +4,8 @@ use mathlib.Core.Path.{_≡_, refl, sym, _∙_, ap}
 use mathlib.Core.List.{List}
 use Rattle.formulas.specs.Tree.{Leaf}
 use Rattle.formulas.specs.Code.{Part, operand}
-use Rattle.evaluation.specs.declared.Next.{Next}
-use Rattle.evaluation.specs.Machine.{Ready, Steps, leafKnown}
+use Rattle.machine.specs.declared.Next.{Next}
+use Rattle.machine.specs.Machine.{Ready, Steps, leafKnown}
 
 module _ (sheet work counts : List ℕ) (base height : ℕ) (p q : Part) (e : p ≡ q) where
   pub ready-as : Ready sheet work counts base height p → Ready sheet work counts base height q

@@ -20,9 +20,9 @@ use Rattle.laws.specs.Rewriting.{parts}
 use Rattle.sheets.specs.Reading.{sheetFault}
 use Rattle.calls.specs.OnSheet.{exactOn}
 use Rattle.calls.specs.Calls.{partFault, partsFault}
-use Rattle.evaluation.specs.declared.Next.{Next}
-use Rattle.evaluation.specs.Machine.{InSlot, Stacked, Enough, Known, AllKnown, Stepped, Steps, Ready, worked, trace, partsIn, Plan, WorkedOut}
-use Rattle.evaluation.proofs.Tracing.{trace-code, work-all, work-step, low-enough, grows-by-one}
+use Rattle.machine.specs.declared.Next.{Next}
+use Rattle.machine.specs.Machine.{InSlot, Stacked, Enough, Known, AllKnown, Stepped, Steps, Ready, worked, trace, partsIn, Plan, WorkedOut}
+use Rattle.machine.proofs.Tracing.{trace-code, work-all, work-step, low-enough, grows-by-one}
 use Rattle.signals.specs.Answers.{firstOf}
 use Rattle.signals.proofs.FirstFault.{first-is, next-is}
 

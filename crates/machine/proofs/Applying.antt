@@ -23,7 +23,7 @@ use Rattle.operations.proofs.BuildingLaws.{slot-short}
 use Rattle.formulas.specs.Tree.{Unary, Binary, invert, rise, fall, ton, tof, and, or, sr, rs}
 use Rattle.formulas.specs.Code.{ticksOf}
 use Rattle.calls.specs.Calls.{partFault}
-use Rattle.evaluation.specs.Machine.{Given, partAnswer, unaryOf, binaryOf, unaryExact, binaryExact, AND-table, OR-table}
+use Rattle.machine.specs.Machine.{Given, partAnswer, unaryOf, binaryOf, unaryExact, binaryExact, AND-table, OR-table}
 use Rattle.signals.specs.Answers.{firstOf}
 use Rattle.signals.proofs.FirstFault.{next-is}
 

@@ -29,11 +29,11 @@ use Rattle.calls.specs.Calls.{readingFault}
 use Rattle.calls.proofs.FirstFault.{passed, missed}
 use Rattle.calls.proofs.ReadingFaults.{derived}
 use Rattle.calls.proofs.SheetLists.{Sound, AllSound, sheet-sound}
-use Rattle.evaluation.specs.Machine.{leafOf, leafKnown, Known, AllKnown, partsIn, partFound, allFound, Prepared}
-use Rattle.evaluation.proofs.Leaves.{leaf-name, leaf-up, leaf-down}
-use Rattle.evaluation.proofs.PartCodes.{part-leaf-low, part-leaf-high, part-unary, part-binary}
-use Rattle.evaluation.proofs.Stepping.{counted, refused-by}
-use Rattle.evaluation.proofs.Looping.{rest, rest-next, rest-none}
+use Rattle.machine.specs.Machine.{leafOf, leafKnown, Known, AllKnown, partsIn, partFound, allFound, Prepared}
+use Rattle.machine.proofs.Leaves.{leaf-name, leaf-up, leaf-down}
+use Rattle.machine.proofs.PartCodes.{part-leaf-low, part-leaf-high, part-unary, part-binary}
+use Rattle.machine.proofs.Stepping.{counted, refused-by}
+use Rattle.machine.proofs.Looping.{rest, rest-next, rest-none}
 use Rattle.signals.specs.Answers.{firstOf}
 use Rattle.signals.proofs.FirstFault.{first-is, next-is}
 

@@ -25,7 +25,7 @@ use Rattle.sheets.specs.Reading.{signalsOn, names}
 use Rattle.calls.specs.OnSheet.{exactOn, leafFound}
 use Rattle.calls.specs.Calls.{partFault, partsFault, readingFault, workFault, workingFault, roomFault, wordsOn, claimFails}
 use Rattle.laws.specs.Rewriting.{parts}
-use Rattle.evaluation.specs.declared.Next.{Next}
+use Rattle.machine.specs.declared.Next.{Next}
 use Rattle.signals.specs.Answers.{firstOf}
 
 -- the part that a code word stands for, by its kind in the low four bits: an operand below 3 and from 12 on, of one operand from 3 to 7,

@@ -19,7 +19,7 @@ use Rattle.sheets.specs.Reading.{sheetFault}
 use Rattle.calls.specs.OnSheet.{signalOn, settlingDate, exactOn}
 use Rattle.calls.specs.Calls.{partFault}
 use Rattle.calls.proofs.Settles.{settles, exact-for}
-use Rattle.evaluation.specs.Machine.{unaryExact, binaryExact, AND-table, OR-table}
+use Rattle.machine.specs.Machine.{unaryExact, binaryExact, AND-table, OR-table}
 
 and-cell : (f g : Signal) (t : ℕ) → connective AND-table f g t ≡ AND f g t
 unfolding connective cell AND
