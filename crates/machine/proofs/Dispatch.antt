@@ -11,8 +11,10 @@ module _ (sheet work counts : List ℕ) (base height : ℕ) (p q : Part) (e : p 
   pub ready-as : Ready sheet work counts base height p → Ready sheet work counts base height q
   ready-as r = rw e at r
 
-  pub steps-as : (after : List ℕ) (next : Next) → Steps sheet work after counts base height q next → Steps sheet work after counts base height p next
+  pub steps-as : (after : List ℕ) (next : Next) → Steps sheet work after counts base height q next
+      → Steps sheet work after counts base height p next
   steps-as after next s = rw e s
 
-pub ready-leaf : (sheet work counts : List ℕ) (base height : ℕ) (p : Part) (l : Leaf) → p ≡ operand l → Ready sheet work counts base height p → leafKnown sheet l
+pub ready-leaf : (sheet work counts : List ℕ) (base height : ℕ) (p : Part) (l : Leaf) → p ≡ operand l
+    → Ready sheet work counts base height p → leafKnown sheet l
 ready-leaf sheet work counts base height p l e r = (ready-as sheet work counts base height p (operand l) e r) .known

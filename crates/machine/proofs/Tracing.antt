@@ -33,7 +33,8 @@ unfolding work
 work-all t = ap (λ l. work l []) (sym (append-nil (code t))) ∙ work-code t [] []
 
 -- one part
-pub work-step : (p : Part) (ps : List Part) (st : List Tree) (t : Tree) → work (p ∷ ps) st ≡ t ∷ [] → Enough p st × (work ps (worked p st) ≡ t ∷ [])
+pub work-step : (p : Part) (ps : List Part) (st : List Tree) (t : Tree) → work (p ∷ ps) st ≡ t ∷ [] → Enough p st ×
+    (work ps (worked p st) ≡ t ∷ [])
 unfolding work
 work-step (operand l) ps st t e = (tt, e)
 work-step (one o) ps [] t e = absurd (let z : _≡_ {A = ℕ} 0 1 = ap length e in omega arith)

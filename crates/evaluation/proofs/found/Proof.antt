@@ -11,7 +11,8 @@ lookup-fault-requires : tie.Need-lookup-fault-requires
 lookup-fault-requires c κs = search needs
 
 returns : tie.Need-returns
-returns c = found-name _ _ _ _ _ (c .before .before .before .before .before .pre) (c .before .before .if1 .taken) (c .before .name-of .ensures) (c .lookup-fault .ensures)
+returns c = found-name _ _ _ _ _ (c .before .before .before .before .before .pre) (c .before .before .if1 .taken)
+    (c .before .name-of .ensures) (c .lookup-fault .ensures)
 
 returns-2 : tie.Need-returns-2
 returns-2 c = found-other _ _ _ (c .if1 .left)

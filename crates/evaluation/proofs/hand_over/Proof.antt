@@ -14,7 +14,10 @@ same-length : tie.Need-same-length
 same-length c = search needs
 
 returns-2 : tie.Need-returns-2
-returns-2 c = handed (c .before .before .before .before .before .before .before .args .work .now) (c .before .before .before .before .before .before .before .args .out .now) _ (c .before .before .before .before .before .before .before .pre) (c .before .before .before .before .if1 .left) _ (c .before .before .put-list .ensures)
+returns-2 c = handed (c .before .before .before .before .before .before .before .args .work .now)
+    (c .before .before .before .before .before .before .before .args .out .now) _
+    (c .before .before .before .before .before .before .before .pre) (c .before .before .before .before .if1 .left) _
+    (c .before .before .put-list .ensures)
 
 pub hand-over-spec : {M : Type 1} → statement M
 hand-over-spec = tie.close (tie.spec returns put-list-requires same-length returns-2)

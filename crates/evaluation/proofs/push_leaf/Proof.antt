@@ -25,8 +25,14 @@ same-length c = search needs
 returns : tie.Need-returns
 returns c =
     λ counts counted stack tall stacked enough known.
-    leaf-pushed _ (c .before .before .before .before .before .before .before .pre .1 .0) (c .before .before .before .before .before .before .before .args .work .now) _ counts _ _ _ _ _ (c .before .before .before .before .before .before .before .pre .0 .0) (c .before .before .before .before .before .before .before .pre .0 .1) (c .before .before .before .before .before .before .before .pre .0 .2) counted
-    (leaf-fault _ _ (c .before .before .before .before .before .before .before .pre .1 .0) (λ i. c .before .before .before .before .before .before .shared-slice-known .given i .fits) known) refl (c .before .before .load .ensures) stack tall stacked
+    leaf-pushed _ (c .before .before .before .before .before .before .before .pre .1 .0)
+    (c .before .before .before .before .before .before .before .args .work .now) _ counts _ _ _ _ _
+    (c .before .before .before .before .before .before .before .pre .0 .0)
+    (c .before .before .before .before .before .before .before .pre .0 .1)
+    (c .before .before .before .before .before .before .before .pre .0 .2) counted
+    (leaf-fault _ _ (c .before .before .before .before .before .before .before .pre .1 .0)
+    (λ i. c .before .before .before .before .before .before .shared-slice-known .given i .fits) known) refl
+    (c .before .before .load .ensures) stack tall stacked
 
 pub push-leaf-spec : {M : Type 1} → statement M
 push-leaf-spec = tie.close (tie.spec add-at mul-at load-requires add-t9 same-length returns)
