@@ -100,6 +100,8 @@ refused-given sheet F G n e = go (eqb fault 0) refl e (only-claim sheet F G faul
     v = claimVerdict sheet (formulaTree F) (formulaTree G)
 
     go : (b : Bool) → eqb fault 0 ≡ b → cond b v (Refused fault) ≡ Refused n → (fault ≡ 0) ⊎ Given fault → Given n
-    go true q r h = let z : _≡_ {A = ℕ} 0 1 = sym (judging (claimFails sheet (formulaTree F) (formulaTree G))) ∙ ap refusing r in absurd (omega arith)
+    go true q r h =
+        let z : _≡_ {A = ℕ} 0 1 = sym (judging (claimFails sheet (formulaTree F) (formulaTree G))) ∙ ap refusing r in
+        absurd (omega arith)
     go false q r (inl z) = absurd (eqb-false fault 0 q z)
     go false q r (inr h) = given fault n h (sym (ap faultOfVerdict r))

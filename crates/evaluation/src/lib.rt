@@ -11,7 +11,7 @@ ghost use Rattle.signals.specs.Moment.{M};
 ghost use Rattle.signals.specs.Words.{listFault};
 ghost use Rattle.grammar.specs.Tree.{Tree};
 ghost use Rattle.grammar.specs.Code.{ticksOf, operand, one, two, code};
-ghost use Rattle.evaluation.specs.Machine.{leafOf, unaryOf, binaryOf, leafKnown, Loaded, Given, partAnswer, unaryExact, binaryExact, Room, Ready, Steps, Plan, partsIn, WorkedOut, partFound, allFound, Prepared, Coded, runFault, judgeFault, InSlot, ClaimOn};
+ghost use Rattle.machine.specs.Machine.{listWords, workWords, leafOf, unaryOf, binaryOf, leafKnown, Loaded, Given, unaryExact, binaryExact, Room, Ready, Steps, Plan, partsIn, WorkedOut, partFound, allFound, Prepared, Coded, runFault, judgeFault, InSlot, ClaimOn};
 ghost use Rattle.calls.specs.Work.{CallOfFormula, CallOfClaim};
 ghost use Rattle.signals.specs.Answers.{writtenOf, outputOf, verdictFor};
 ghost use Rattle.calls.specs.Calls.{roomFault, wordsOn, callAnswer, callOutput, claimFails, claimAnswer};
@@ -20,6 +20,7 @@ ghost use Rattle.grammar.specs.Parts.{parts};
 ghost use Rattle.calls.specs.OnSheet.{exactOn};
 ghost use Rattle.calls.specs.Calls.{partsFault, workingFault};
 use building::SlotAnswer;
+use machine::Next;
 use signals::Length;
 use signals::Verdict;
 use signals::Written;
@@ -27,12 +28,11 @@ use signals::Written;
 // The work words that a call needs.
 pub const WORK_WORDS: usize = 8192;
 
-// What working one part out gives: its fault or 0, the height of the stack after it and the word count of the list on top.
-struct Next {
-    fault: u32,
-    height: usize,
-    count: usize,
-}
+// The words of a slot of the work area: the most that a list has.
+const LIST_WORDS: usize = 256;
+
+// How many kinds of parts there are.
+const KINDS: u64 = 12;
 
 // The first count words, put into the work area at a place.
 fn put_list(work: &mut [u32], at: usize, words: &[u32], count: usize)
@@ -67,7 +67,8 @@ fn word_at(bytes: &[u8], at: usize) -> u32
 // The words of a sheet's part, put into the work area at a place; their count.
 fn put_part(part: &[u8], work: &mut [u32], at: usize) -> usize
     requires { ⌜ at + length (now part) / 4 ≤ length (now work) ⌝ }
-    ensures { λ r. ⌜ (r ≡ length (now (part .entry)) / 4) × (now (work .exit) ≡ paste (now (work .entry)) at (wordsIn (length (now (part .entry)) / 4) (now (part .entry))) r) ⌝ }
+    ensures { λ r. ⌜ (r ≡ length (now (part .entry)) / 4) × (now (work .exit) ≡ paste (now (work .entry)) at
+        (wordsIn (length (now (part .entry)) / 4) (now (part .entry))) r) ⌝ }
 {
     let count = part.len() / 4;
     let mut i: usize = 0;
@@ -101,7 +102,7 @@ fn put_word(work: &mut [u32], at: usize, word: u32)
 
 // The list of a leaf, put into the work area at a place: a constant's, or that of a name on the sheet; its word count.
 fn load(sheet: &[u8], text: &[u8], code: u64, work: &mut [u32], at: usize) -> usize
-    requires { ⌜ at + 256 ≤ length (now work) ⌝ }
+    requires { ⌜ at + listWords ≤ length (now work) ⌝ }
     requires { ⌜ sheetFault (now sheet) ≡ 0 ⌝ }
     requires { ⌜ leafKnown (now sheet) (leafOf (now text) code) ⌝ }
     ensures { λ r. ⌜ Loaded (now (sheet .entry)) (leafOf (now (text .entry)) code) (now (work .entry)) (now (work .exit)) at r ⌝ }
@@ -128,7 +129,7 @@ const OR: [[bool; 2]; 2] = [[false, true], [true, true]];
 
 // A part of one operand, worked out in a buffer.
 fn apply_unary(code: u64, a: &[u32], buffer: &mut [u32]) -> SlotAnswer
-    requires { ⌜ (256 ≤ length (now buffer)) × (listFault (now a) ≡ 0) × (ticksOf (unaryOf (code % 16) (code / 16)) ≤ M) ⌝ }
+    requires { ⌜ (listWords ≤ length (now buffer)) × (listFault (now a) ≡ 0) × (ticksOf (unaryOf (code % 16) (code / 16)) ≤ M) ⌝ }
     ensures { λ r. ⌜ Given (unaryExact (unaryOf (code % 16) (code / 16)) (now (a .entry))) (now (buffer .exit)) r ⌝ }
 {
     let kind = code % 16;
@@ -150,7 +151,7 @@ fn apply_unary(code: u64, a: &[u32], buffer: &mut [u32]) -> SlotAnswer
 
 // A part of two operands, worked out in a buffer.
 fn apply_binary(code: u64, a: &[u32], b: &[u32], buffer: &mut [u32]) -> SlotAnswer
-    requires { ⌜ (256 ≤ length (now buffer)) × (listFault (now a) ≡ 0) × (listFault (now b) ≡ 0) ⌝ }
+    requires { ⌜ (listWords ≤ length (now buffer)) × (listFault (now a) ≡ 0) × (listFault (now b) ≡ 0) ⌝ }
     ensures { λ r. ⌜ Given (binaryExact (binaryOf (code % 16)) (now (a .entry)) (now (b .entry))) (now (buffer .exit)) r ⌝ }
 {
     let kind = code % 16;
@@ -166,18 +167,6 @@ fn apply_binary(code: u64, a: &[u32], b: &[u32], buffer: &mut [u32]) -> SlotAnsw
     merging::rs_in(a, b, buffer)
 }
 
-// A part's answer from what its call in the buffer gives: 5, 6, or its word count. The calls made here all begin.
-fn part_answer(given: SlotAnswer) -> Written
-    ensures { λ r. ⌜ r ≡ partAnswer given ⌝ }
-{
-    match given {
-        SlotAnswer::Stands(count) => Written::Count(count),
-        SlotAnswer::TooLong => Written::Refused(5),
-        SlotAnswer::TooLate => Written::Refused(6),
-        SlotAnswer::NotBegun => Written::Refused(5),
-    }
-}
-
 // A leaf's list pushed onto the stack.
 fn push_leaf(
     sheet: &[u8],
@@ -187,12 +176,13 @@ fn push_leaf(
     height: usize,
     base: usize,
 ) -> Next
-    requires { ⌜ (base ≤ 1) × (height ≤ 16) × (8192 ≤ length (now work)) ⌝ }
+    requires { ⌜ (base ≤ 1) × (height ≤ 16) × (workWords ≤ length (now work)) ⌝ }
     requires { ⌜ sheetFault (now sheet) ≡ 0 ⌝ }
     requires { ⌜ leafKnown (now sheet) (leafOf (now text) code) ⌝ }
-    ensures { λ r. ⌜ ((counts : List ℕ) → 32 ≤ length counts → Steps (now (sheet .entry)) (now (work .entry)) (now (work .exit)) counts base height (operand (leafOf (now (text .entry)) code)) r) ⌝ }
+    ensures { λ r. ⌜ ((counts : List ℕ) → 32 ≤ length counts → Steps (now (sheet .entry)) (now (work .entry))
+        (now (work .exit)) counts base height (operand (leafOf (now (text .entry)) code)) r) ⌝ }
 {
-    let at = (base + height) * 256;
+    let at = (base + height) * LIST_WORDS;
     let count = load(sheet, text, code, work, at);
     Next {
         fault: 0,
@@ -211,13 +201,15 @@ fn on_one(
     base: usize,
 ) -> Next
     requires { ⌜ Room (now work) (now buffer) (now counts) base height ⌝ }
-    requires { ⌜ ((sheet : List ℕ) × (sheetFault sheet ≡ 0) × Ready sheet (now work) (now counts) base height (one (unaryOf (code % 16) (code / 16)))) ⌝ }
-    ensures { λ r. ⌜ ((sheet : List ℕ) → sheetFault sheet ≡ 0 → Steps sheet (now (work .entry)) (now (work .exit)) (now (counts .entry)) base height (one (unaryOf (code % 16) (code / 16))) r) ⌝ }
+    requires { ⌜ ((sheet : List ℕ) × (sheetFault sheet ≡ 0) × Ready sheet (now work) (now counts) base height
+        (one (unaryOf (code % 16) (code / 16)))) ⌝ }
+    ensures { λ r. ⌜ ((sheet : List ℕ) → sheetFault sheet ≡ 0 → Steps sheet (now (work .entry)) (now (work .exit))
+        (now (counts .entry)) base height (one (unaryOf (code % 16) (code / 16))) r) ⌝ }
 {
     let top = height - 1;
-    let at = (base + top) * 256;
+    let at = (base + top) * LIST_WORDS;
     let end = at + counts[top];
-    let answer = part_answer(apply_unary(code, &work[at..end], buffer));
+    let answer = machine::part_answer(apply_unary(code, &work[at..end], buffer));
     match answer {
         Written::Count(count) => {
             put_list(work, at, buffer, count);
@@ -245,17 +237,19 @@ fn on_two(
     base: usize,
 ) -> Next
     requires { ⌜ Room (now work) (now buffer) (now counts) base height ⌝ }
-    requires { ⌜ ((sheet : List ℕ) × (sheetFault sheet ≡ 0) × Ready sheet (now work) (now counts) base height (two (binaryOf (code % 16)))) ⌝ }
-    ensures { λ r. ⌜ ((sheet : List ℕ) → sheetFault sheet ≡ 0 → Steps sheet (now (work .entry)) (now (work .exit)) (now (counts .entry)) base height (two (binaryOf (code % 16))) r) ⌝ }
+    requires { ⌜ ((sheet : List ℕ) × (sheetFault sheet ≡ 0) × Ready sheet (now work) (now counts) base height (two (binaryOf (code % 16))))
+        ⌝ }
+    ensures { λ r. ⌜ ((sheet : List ℕ) → sheetFault sheet ≡ 0 → Steps sheet (now (work .entry)) (now (work .exit))
+        (now (counts .entry)) base height (two (binaryOf (code % 16))) r) ⌝ }
 {
     let second = height - 1;
     let first = height - 2;
-    let at = (base + first) * 256;
+    let at = (base + first) * LIST_WORDS;
     let end = at + counts[first];
-    let above = (base + second) * 256;
+    let above = (base + second) * LIST_WORDS;
     let last = above + counts[second];
     let w = &work[..];
-    let answer = part_answer(apply_binary(code, &w[at..end], &w[above..last], buffer));
+    let answer = machine::part_answer(apply_binary(code, &w[at..end], &w[above..last], buffer));
     match answer {
         Written::Count(total) => {
             put_list(work, at, buffer, total);
@@ -287,7 +281,8 @@ fn step(
     requires { ⌜ Room (now work) (now buffer) (now counts) base height ⌝ }
     requires { ⌜ sheetFault (now sheet) ≡ 0 ⌝ }
     requires { ⌜ Ready (now sheet) (now work) (now counts) base height (partOf (now text) code) ⌝ }
-    ensures { λ r. ⌜ Steps (now (sheet .entry)) (now (work .entry)) (now (work .exit)) (now (counts .entry)) base height (partOf (now (text .entry)) code) r ⌝ }
+    ensures { λ r. ⌜ Steps (now (sheet .entry)) (now (work .entry)) (now (work .exit)) (now (counts .entry)) base height
+        (partOf (now (text .entry)) code) r ⌝ }
 {
     let kind = code % 16;
     if kind < marks::kind::NOT {
@@ -296,7 +291,7 @@ fn step(
     if kind < marks::kind::AND {
         return on_one(code, work, buffer, counts, height, base);
     }
-    if kind < 12 {
+    if kind < KINDS {
         return on_two(code, work, buffer, counts, height, base);
     }
     push_leaf(sheet, text, code, work, height, base)
@@ -311,13 +306,14 @@ fn work_out(
     work: &mut [u32],
     base: usize,
 ) -> Written
-    requires { ⌜ (n ≤ 32) × (n ≤ length (now codes)) × (base ≤ 1) × (8192 ≤ length (now work)) ⌝ }
+    requires { ⌜ (n ≤ 32) × (n ≤ length (now codes)) × (base ≤ 1) × (workWords ≤ length (now work)) ⌝ }
     requires { ⌜ sheetFault (now sheet) ≡ 0 ⌝ }
     requires { ⌜ Plan (now sheet) (now text) (now codes) n ⌝ }
-    ensures { λ r. ⌜ ((t : Tree) → partsIn (now (text .entry)) (now (codes .entry)) n ≡ code t → WorkedOut (now (sheet .entry)) (now (work .entry)) (now (work .exit)) base t r) ⌝ }
+    ensures { λ r. ⌜ ((t : Tree) → partsIn (now (text .entry)) (now (codes .entry)) n ≡ code t → WorkedOut (now (sheet .entry))
+        (now (work .entry)) (now (work .exit)) base t r) ⌝ }
 {
     let mut counts = [0usize; 32];
-    let mut buffer = [0u32; 256];
+    let mut buffer = [0u32; LIST_WORDS];
     let mut height: usize = 0;
     let mut i: usize = 0;
     while i < n {
@@ -348,7 +344,7 @@ fn found(sheet: &[u8], text: &[u8], code: u64) -> bool
     requires { ⌜ sheetFault (now sheet) ≡ 0 ⌝ }
     ensures { λ r. ⌜ r ≡ partFound (now (sheet .entry)) (partOf (now (text .entry)) code) ⌝ }
 {
-    if code % 16 == 2 {
+    if code % 16 == formulas::kind::NAME {
         let place = (code / 256) as usize;
         let count = (code / 16 % 16) as usize;
         let name = name_of(text, place, count);
@@ -394,7 +390,9 @@ fn prepare(sheet: &[u8], text: &[u8], codes: &mut [u64; 32]) -> Written
 // The words of a list at the front of the work area, handed over if the output is long enough.
 fn hand_over(work: &[u32], count: usize, out: &mut [u32]) -> Written
     requires { ⌜ count ≤ length (now work) ⌝ }
-    ensures { λ r. ⌜ (r ≡ writtenOf (roomFault (take count (now (work .entry))) (length (now (out .entry)))) (take count (now (work .entry)))) × (now (out .exit) ≡ outputOf (roomFault (take count (now (work .entry))) (length (now (out .entry)))) (take count (now (work .entry))) (now (out .entry))) ⌝ }
+    ensures { λ r. ⌜ (r ≡ writtenOf (roomFault (take count (now (work .entry))) (length (now (out .entry))))
+        (take count (now (work .entry)))) × (now (out .exit) ≡ outputOf
+        (roomFault (take count (now (work .entry))) (length (now (out .entry)))) (take count (now (work .entry))) (now (out .entry))) ⌝ }
 {
     if out.len() < count {
         return Written::Refused(7);
@@ -412,8 +410,11 @@ fn run_formula(
     work: &mut [u32],
     out: &mut [u32],
 ) -> Written
-    requires { ⌜ (8192 ≤ length (now work)) × (sheetFault (now sheet) ≡ 0) × Coded (now sheet) (now text) (now codes) n ⌝ }
-    ensures { λ r. ⌜ (r ≡ writtenOf (runFault (now (sheet .entry)) (now (text .entry)) (length (now (out .entry)))) (wordsOn (now (sheet .entry)) (now (text .entry)))) × (now (out .exit) ≡ outputOf (runFault (now (sheet .entry)) (now (text .entry)) (length (now (out .entry)))) (wordsOn (now (sheet .entry)) (now (text .entry))) (now (out .entry))) ⌝ }
+    requires { ⌜ (workWords ≤ length (now work)) × (sheetFault (now sheet) ≡ 0) × Coded (now sheet) (now text) (now codes) n ⌝ }
+    ensures { λ r. ⌜ (r ≡ writtenOf (runFault (now (sheet .entry)) (now (text .entry)) (length (now (out .entry))))
+        (wordsOn (now (sheet .entry)) (now (text .entry)))) × (now (out .exit) ≡ outputOf
+        (runFault (now (sheet .entry)) (now (text .entry)) (length (now (out .entry)))) (wordsOn (now (sheet .entry)) (now (text .entry)))
+        (now (out .entry))) ⌝ }
 {
     let answer = work_out(sheet, text, codes, n, work, 0);
     match answer {
@@ -453,15 +454,18 @@ fn compare(
     n: usize,
     work: &mut [u32],
 ) -> Verdict
-    requires { ⌜ (8192 ≤ length (now work)) × (sheetFault (now sheet) ≡ 0) × Coded (now sheet) (now g) (now codes) n × («f_count» ≤ 256) ⌝ }
-    ensures { λ r. ⌜ ((t : Tree) → partsFault (now (sheet .entry)) (parts t) ≡ 0 → InSlot (now (work .entry)) 0 «f_count» (exactOn (now (sheet .entry)) t) → r ≡ verdictFor (workingFault (now (sheet .entry)) (now (g .entry))) (claimFails (now (sheet .entry)) t (formulaTree (now (g .entry))))) ⌝ }
+    requires { ⌜ (workWords ≤ length (now work)) × (sheetFault (now sheet) ≡ 0) × Coded (now sheet) (now g) (now codes) n ×
+        («f_count» ≤ listWords) ⌝ }
+    ensures { λ r. ⌜ ((t : Tree) → partsFault (now (sheet .entry)) (parts t) ≡ 0 → InSlot (now (work .entry)) 0 «f_count»
+        (exactOn (now (sheet .entry)) t) → r ≡ verdictFor (workingFault (now (sheet .entry)) (now (g .entry)))
+        (claimFails (now (sheet .entry)) t (formulaTree (now (g .entry))))) ⌝ }
 {
     let answer = work_out(sheet, g, codes, n, work, 1);
     match answer {
         Written::Count(count) => {
             let w = &work[..];
-            let end = 256 + count;
-            comparing::implies(&w[..f_count], &w[256..end])
+            let end = LIST_WORDS + count;
+            comparing::implies(&w[..f_count], &w[LIST_WORDS..end])
         }
         Written::Refused(fault) => Verdict::Refused(fault),
     }
@@ -478,8 +482,10 @@ fn judge(
     g_n: usize,
     work: &mut [u32],
 ) -> Verdict
-    requires { ⌜ (8192 ≤ length (now work)) × (sheetFault (now sheet) ≡ 0) × Coded (now sheet) (now f) (now «f_codes») «f_n» × Coded (now sheet) (now g) (now «g_codes») «g_n» ⌝ }
-    ensures { λ r. ⌜ r ≡ verdictFor (judgeFault (now (sheet .entry)) (now (f .entry)) (now (g .entry))) (claimFails (now (sheet .entry)) (formulaTree (now (f .entry))) (formulaTree (now (g .entry)))) ⌝ }
+    requires { ⌜ (workWords ≤ length (now work)) × (sheetFault (now sheet) ≡ 0) × Coded (now sheet) (now f) (now «f_codes») «f_n» × Coded
+        (now sheet) (now g) (now «g_codes») «g_n» ⌝ }
+    ensures { λ r. ⌜ r ≡ verdictFor (judgeFault (now (sheet .entry)) (now (f .entry)) (now (g .entry)))
+        (claimFails (now (sheet .entry)) (formulaTree (now (f .entry))) (formulaTree (now (g .entry)))) ⌝ }
 {
     let answer = work_out(sheet, f, f_codes, f_n, work, 0);
     match answer {

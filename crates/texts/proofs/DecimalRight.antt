@@ -30,7 +30,8 @@ unfolding valueFrom leading
 value-leading zero n h = omega arith
 value-leading (suc k) n h = go (eqb n 0) refl (value-leading k (n / 10) (less k n h))
   where
-    go : (t : Bool) → eqb n 0 ≡ t → valueFrom 0 (leading k (n / 10)) ≡ n / 10 → valueFrom 0 (cond t [] (leading k (n / 10) ++ (digit n ∷ []))) ≡ n
+    go : (t : Bool) → eqb n 0 ≡ t → valueFrom 0 (leading k (n / 10)) ≡ n / 10
+        → valueFrom 0 (cond t [] (leading k (n / 10) ++ (digit n ∷ []))) ≡ n
     go true e v = sym (eqb-true n 0 e)
     go false e v =
         from-more 0 (leading k (n / 10)) (digit n)

@@ -37,7 +37,9 @@ put-first n text h e =
       within = omega arith;
       size = length-set text 9 (digit n) ∙ e;
       fits = omega arith;
-      whole = ap (λ (l : List ℕ). leading 9 (n / 10) ++ l) (drop-at-set text 9 (digit n) (omega arith) ∙ ap (λ (l : List ℕ). digit n ∷ l) (past text e));
+      whole =
+          ap (λ (l : List ℕ). leading 9 (n / 10) ++ l)
+          (drop-at-set text 9 (digit n) (omega arith) ∙ ap (λ (l : List ℕ). digit n ∷ l) (past text e));
     }
   where
     past : (l : List ℕ) → length l ≡ 10 → drop 10 l ≡ []

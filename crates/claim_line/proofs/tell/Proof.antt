@@ -47,7 +47,8 @@ returns : tie.Need-returns
 unfolding lineOf
 returns c =
     let a = c .before .before .before .before .before .before .before .args in
-    told-as (a .verdict) _ _ (now (a .out)) _ _ (c .before .before .before .before .enum-told .given .1) refl (c .before .before .write-holds .ensures)
+    told-as (a .verdict) _ _ (now (a .out)) _ _ (c .before .before .before .before .enum-told .given .1)
+    refl (c .before .before .write-holds .ensures)
 
 same-length-2 : tie.Need-same-length-2
 same-length-2 c = search needs
@@ -56,7 +57,8 @@ returns-2 : tie.Need-returns-2
 unfolding lineOf failsAtText
 returns-2 c =
     let a = c .before .before .before .before .before .before .before .before .before .args in
-    told-as (a .verdict) _ _ (now (a .out)) _ _ (c .before .before .before .before .before .before .verdict .given .1) refl (c .before .before .write-number .ensures)
+    told-as (a .verdict) _ _ (now (a .out)) _ _ (c .before .before .before .before .before .before .verdict .given .1)
+    refl (c .before .before .write-number .ensures)
 
 same-length-3 : tie.Need-same-length-3
 same-length-3 c = search needs
@@ -65,7 +67,8 @@ returns-3 : tie.Need-returns-3
 unfolding lineOf failsAfterText
 returns-3 c =
     let a = c .before .before .before .before .before .before .before .before .before .args in
-    told-as (a .verdict) _ _ (now (a .out)) _ _ (c .before .before .before .before .before .before .verdict2 .given .1) refl (c .before .before .write-number2 .ensures)
+    told-as (a .verdict) _ _ (now (a .out)) _ _ (c .before .before .before .before .before .before .verdict2 .given .1)
+    refl (c .before .before .write-number2 .ensures)
 
 same-length-4 : tie.Need-same-length-4
 same-length-4 c = search needs
@@ -74,7 +77,8 @@ returns-4 : tie.Need-returns-4
 unfolding lineOf refusedText
 returns-4 c =
     let a = c .before .before .before .before .before .before .before .before .before .args in
-    told-as (a .verdict) _ _ (now (a .out)) _ _ (c .before .before .before .before .before .before .verdict3 .given .1) refl (c .before .before .write-number3 .ensures)
+    told-as (a .verdict) _ _ (now (a .out)) _ _ (c .before .before .before .before .before .before .verdict3 .given .1)
+    refl (c .before .before .write-number3 .ensures)
 
 pub tell-spec : {M : Type 1} → statement M
 tell-spec =

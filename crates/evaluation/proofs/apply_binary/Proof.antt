@@ -1,5 +1,5 @@
 -- `evaluation::apply_binary` meets its contract: by the kind, the operator's call in the buffer.
-use Rattle.evaluation.proofs.Applying.{did-and, did-or, did-sr, did-rs, binary-8, binary-9, binary-10, binary-11}
+use Rattle.machine.proofs.Applying.{did-and, did-or, did-sr, did-rs, binary-8, binary-9, binary-10, binary-11}
 use borrow.Author.Needs.{needs}
 use Rattle.evaluation.proofs.apply_binary.Statement.{statement}
 use Rattle.evaluation.proofs.apply_binary.Tie as tie
@@ -11,7 +11,11 @@ same-length : tie.Need-same-length
 same-length c = search needs
 
 returns : tie.Need-returns
-returns c = did-and _ _ (c .before .before .before .before .before .before .before .before .args .buffer .now) _ _ (c .before .before .before .before .before .before .before .before .pre .0) (c .before .before .before .before .before .before .before .before .pre .1) (c .before .before .before .before .before .before .before .before .pre .2) _ (binary-8 _ 0 (c .before .before .before .before .if1 .taken)) (c .before .before .connective-in .ensures)
+returns c = did-and _ _ (c .before .before .before .before .before .before .before .before .args .buffer .now) _ _
+    (c .before .before .before .before .before .before .before .before .pre .0)
+    (c .before .before .before .before .before .before .before .before .pre .1)
+    (c .before .before .before .before .before .before .before .before .pre .2) _
+    (binary-8 _ 0 (c .before .before .before .before .if1 .taken)) (c .before .before .connective-in .ensures)
 
 connective-in-requires-2 : tie.Need-connective-in-requires-2
 connective-in-requires-2 c κs = search needs
@@ -20,7 +24,11 @@ same-length-2 : tie.Need-same-length-2
 same-length-2 c = search needs
 
 returns-2 : tie.Need-returns-2
-returns-2 c = did-or _ _ (c .before .before .before .before .before .before .before .before .before .args .buffer .now) _ _ (c .before .before .before .before .before .before .before .before .before .pre .0) (c .before .before .before .before .before .before .before .before .before .pre .1) (c .before .before .before .before .before .before .before .before .before .pre .2) _ (binary-9 _ 0 (c .before .before .before .before .if2 .taken)) (c .before .before .connective-in2 .ensures)
+returns-2 c = did-or _ _ (c .before .before .before .before .before .before .before .before .before .args .buffer .now) _ _
+    (c .before .before .before .before .before .before .before .before .before .pre .0)
+    (c .before .before .before .before .before .before .before .before .before .pre .1)
+    (c .before .before .before .before .before .before .before .before .before .pre .2) _
+    (binary-9 _ 0 (c .before .before .before .before .if2 .taken)) (c .before .before .connective-in2 .ensures)
 
 sr-in-requires : tie.Need-sr-in-requires
 sr-in-requires c κs = search needs
@@ -29,7 +37,11 @@ same-length-3 : tie.Need-same-length-3
 same-length-3 c = search needs
 
 returns-3 : tie.Need-returns-3
-returns-3 c = did-sr _ _ (c .before .before .before .before .before .before .before .before .before .before .args .buffer .now) _ _ (c .before .before .before .before .before .before .before .before .before .before .pre .0) (c .before .before .before .before .before .before .before .before .before .before .pre .1) (c .before .before .before .before .before .before .before .before .before .before .pre .2) _ (binary-10 _ 0 (c .before .before .before .before .if3 .taken)) (c .before .before .sr-in .ensures)
+returns-3 c = did-sr _ _ (c .before .before .before .before .before .before .before .before .before .before .args .buffer .now) _ _
+    (c .before .before .before .before .before .before .before .before .before .before .pre .0)
+    (c .before .before .before .before .before .before .before .before .before .before .pre .1)
+    (c .before .before .before .before .before .before .before .before .before .before .pre .2) _
+    (binary-10 _ 0 (c .before .before .before .before .if3 .taken)) (c .before .before .sr-in .ensures)
 
 rs-in-requires : tie.Need-rs-in-requires
 rs-in-requires c κs = search needs
@@ -38,7 +50,12 @@ same-length-4 : tie.Need-same-length-4
 same-length-4 c = search needs
 
 returns-4 : tie.Need-returns-4
-returns-4 c = did-rs _ _ (c .before .before .before .before .before .before .before .before .before .before .args .buffer .now) _ _ (c .before .before .before .before .before .before .before .before .before .before .pre .0) (c .before .before .before .before .before .before .before .before .before .before .pre .1) (c .before .before .before .before .before .before .before .before .before .before .pre .2) _ (binary-11 _ 0 (c .before .before .before .before .before .before .if1 .left) (c .before .before .before .before .before .if2 .left) (c .before .before .before .before .if3 .left)) (c .before .before .rs-in .ensures)
+returns-4 c = did-rs _ _ (c .before .before .before .before .before .before .before .before .before .before .args .buffer .now) _ _
+    (c .before .before .before .before .before .before .before .before .before .before .pre .0)
+    (c .before .before .before .before .before .before .before .before .before .before .pre .1)
+    (c .before .before .before .before .before .before .before .before .before .before .pre .2) _
+    (binary-11 _ 0 (c .before .before .before .before .before .before .if1 .left) (c .before .before .before .before .before .if2 .left)
+    (c .before .before .before .before .if3 .left)) (c .before .before .rs-in .ensures)
 
 pub apply-binary-spec : {M : Type 1} → statement M
 apply-binary-spec =

@@ -1,6 +1,6 @@
 -- `evaluation::apply_unary` meets its contract: by the kind, the operator's call in the buffer.
 use mathlib.Core.Path.{refl}
-use Rattle.evaluation.proofs.Applying.{did-not, did-rise, did-fall, did-ton, did-tof, unary-3, unary-4, unary-5, unary-6, unary-7}
+use Rattle.machine.proofs.Applying.{did-not, did-rise, did-fall, did-ton, did-tof, unary-3, unary-4, unary-5, unary-6, unary-7}
 use borrow.Author.Needs.{needs}
 use Rattle.evaluation.proofs.apply_unary.Statement.{statement}
 use Rattle.evaluation.proofs.apply_unary.Tie as tie
@@ -12,7 +12,10 @@ same-length : tie.Need-same-length
 same-length c = search needs
 
 returns : tie.Need-returns
-returns c = did-not _ (c .before .before .before .before .before .before .before .args .buffer .now) _ _ (c .before .before .before .before .before .before .before .pre .0) (c .before .before .before .before .before .before .before .pre .1) _ (unary-3 _ _ (c .before .before .before .before .if1 .taken)) (c .before .before .not-in .ensures)
+returns c = did-not _ (c .before .before .before .before .before .before .before .args .buffer .now) _ _
+    (c .before .before .before .before .before .before .before .pre .0)
+    (c .before .before .before .before .before .before .before .pre .1) _ (unary-3 _ _ (c .before .before .before .before .if1 .taken))
+    (c .before .before .not-in .ensures)
 
 rising-in-requires : tie.Need-rising-in-requires
 rising-in-requires c κs = search needs
@@ -21,7 +24,10 @@ same-length-2 : tie.Need-same-length-2
 same-length-2 c = search needs
 
 returns-2 : tie.Need-returns-2
-returns-2 c = did-rise _ (c .before .before .before .before .before .before .before .before .args .buffer .now) _ _ (c .before .before .before .before .before .before .before .before .pre .0) (c .before .before .before .before .before .before .before .before .pre .1) _ (unary-4 _ _ (c .before .before .before .before .if2 .taken)) (c .before .before .rising-in .ensures)
+returns-2 c = did-rise _ (c .before .before .before .before .before .before .before .before .args .buffer .now) _ _
+    (c .before .before .before .before .before .before .before .before .pre .0)
+    (c .before .before .before .before .before .before .before .before .pre .1) _
+    (unary-4 _ _ (c .before .before .before .before .if2 .taken)) (c .before .before .rising-in .ensures)
 
 falling-in-requires : tie.Need-falling-in-requires
 falling-in-requires c κs = search needs
@@ -30,7 +36,10 @@ same-length-3 : tie.Need-same-length-3
 same-length-3 c = search needs
 
 returns-3 : tie.Need-returns-3
-returns-3 c = did-fall _ (c .before .before .before .before .before .before .before .before .before .args .buffer .now) _ _ (c .before .before .before .before .before .before .before .before .before .pre .0) (c .before .before .before .before .before .before .before .before .before .pre .1) _ (unary-5 _ _ (c .before .before .before .before .if3 .taken)) (c .before .before .falling-in .ensures)
+returns-3 c = did-fall _ (c .before .before .before .before .before .before .before .before .before .args .buffer .now) _ _
+    (c .before .before .before .before .before .before .before .before .before .pre .0)
+    (c .before .before .before .before .before .before .before .before .before .pre .1) _
+    (unary-5 _ _ (c .before .before .before .before .if3 .taken)) (c .before .before .falling-in .ensures)
 
 cast-ticks : tie.Need-cast-ticks
 cast-ticks c = search needs
@@ -42,7 +51,11 @@ same-length-4 : tie.Need-same-length-4
 same-length-4 c = search needs
 
 returns-4 : tie.Need-returns-4
-returns-4 c = did-ton _ (c .before .before .before .before .before .before .before .before .before .before .args .buffer .now) _ _ (c .before .before .before .before .before .before .before .before .before .before .pre .0) (c .before .before .before .before .before .before .before .before .before .before .pre .1) _ _ _ (unary-6 _ _ (c .before .before .before .before .if4 .taken)) (c .before .before .before .before .before .before .before .before .before .before .pre .2) refl (c .before .before .ton-in .ensures)
+returns-4 c = did-ton _ (c .before .before .before .before .before .before .before .before .before .before .args .buffer .now) _ _
+    (c .before .before .before .before .before .before .before .before .before .before .pre .0)
+    (c .before .before .before .before .before .before .before .before .before .before .pre .1) _ _ _
+    (unary-6 _ _ (c .before .before .before .before .if4 .taken))
+    (c .before .before .before .before .before .before .before .before .before .before .pre .2) refl (c .before .before .ton-in .ensures)
 
 tof-in-requires : tie.Need-tof-in-requires
 tof-in-requires c κs = search needs
@@ -51,7 +64,13 @@ same-length-5 : tie.Need-same-length-5
 same-length-5 c = search needs
 
 returns-5 : tie.Need-returns-5
-returns-5 c = did-tof _ (c .before .before .before .before .before .before .before .before .before .before .args .buffer .now) _ _ (c .before .before .before .before .before .before .before .before .before .before .pre .0) (c .before .before .before .before .before .before .before .before .before .before .pre .1) _ _ _ (unary-7 _ _ (c .before .before .before .before .before .before .before .if1 .left) (c .before .before .before .before .before .before .if2 .left) (c .before .before .before .before .before .if3 .left) (c .before .before .before .before .if4 .left)) (c .before .before .before .before .before .before .before .before .before .before .pre .2) refl (c .before .before .tof-in .ensures)
+returns-5 c = did-tof _ (c .before .before .before .before .before .before .before .before .before .before .args .buffer .now) _ _
+    (c .before .before .before .before .before .before .before .before .before .before .pre .0)
+    (c .before .before .before .before .before .before .before .before .before .before .pre .1) _ _ _
+    (unary-7 _ _ (c .before .before .before .before .before .before .before .if1 .left)
+    (c .before .before .before .before .before .before .if2 .left) (c .before .before .before .before .before .if3 .left)
+    (c .before .before .before .before .if4 .left))
+    (c .before .before .before .before .before .before .before .before .before .before .pre .2) refl (c .before .before .tof-in .ensures)
 
 pub apply-unary-spec : {M : Type 1} → statement M
 apply-unary-spec =

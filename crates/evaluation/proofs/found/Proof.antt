@@ -1,5 +1,5 @@
 -- `evaluation::found` looks a part's name up on the sheet.
-use Rattle.evaluation.proofs.Preparing.{found-name, found-other}
+use Rattle.machine.proofs.Preparing.{found-name, found-other}
 use borrow.Author.Needs.{needs}
 use Rattle.evaluation.proofs.found.Statement.{statement}
 use Rattle.evaluation.proofs.found.Tie as tie
@@ -11,7 +11,8 @@ lookup-fault-requires : tie.Need-lookup-fault-requires
 lookup-fault-requires c κs = search needs
 
 returns : tie.Need-returns
-returns c = found-name _ _ _ _ _ (c .before .before .before .before .before .pre) (c .before .before .if1 .taken) (c .before .name-of .ensures) (c .lookup-fault .ensures)
+returns c = found-name _ _ _ _ _ (c .before .before .before .before .before .pre) (c .before .before .if1 .taken)
+    (c .before .name-of .ensures) (c .lookup-fault .ensures)
 
 returns-2 : tie.Need-returns-2
 returns-2 c = found-other _ _ _ (c .if1 .left)

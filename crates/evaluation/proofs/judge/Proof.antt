@@ -1,7 +1,7 @@
 -- `evaluation::judge` meets its contract: F's 5 or 6, then G's and the verdict.
 use native.Mathlib.Omega.{arith}
-use Rattle.evaluation.proofs.Calling.{plan}
-use Rattle.evaluation.proofs.Claiming.{judge-refused, judge-short, judge-done}
+use Rattle.machine.proofs.Calling.{plan}
+use Rattle.machine.proofs.Claiming.{judge-refused, judge-short, judge-done}
 use borrow.Author.Needs.{needs}
 use Rattle.evaluation.proofs.judge.Statement.{statement}
 use Rattle.evaluation.proofs.judge.Tie as tie
@@ -13,7 +13,16 @@ enum-known-answer : tie.Need-enum-known-answer
 enum-known-answer c = search needs
 
 compare-requires : tie.Need-compare-requires
-compare-requires c κs = (omega (arith, c .before .before .before .before .before .before .before .before .before .before .before .before .before .before .pre .0, c .before .before .before .before .before .before .work-out .kept .1 .1 .1 .1 .0), c .before .before .before .before .before .before .before .before .before .before .before .before .before .before .pre .1, c .before .before .before .before .before .before .before .before .before .before .before .before .before .before .pre .3, judge-short (c .before .before .before .before .before .before .before .before .before .before .before .before .before .before .args .sheet .now) (c .before .before .before .before .before .before .before .before .before .before .before .before .before .before .args .f .now) (c .before .before .before .before .before .before .before .before .before .before .before .before .before .before .args .g .now) (c .before .before .before .before .before .before .before .before .before .before .before .before .before .before .args .work .now) _ _ (c .before .before .before .before .before .before .work-out .ensures _ (c .before .before .before .before .before .before .before .before .before .before .before .before .before .before .pre .2 .parts-are)) _ (c .before .before .answer .given .1))
+compare-requires c κs =
+    let back6 = c .before .before .before .before .before .before in
+    let back14 = back6 .before .before .before .before .before .before .before .before in (
+      omega (arith, back14 .pre .0, back6 .work-out .kept .1 .1 .1 .1 .0),
+      back14 .pre .1,
+      back14 .pre .3,
+      judge-short
+          (back14 .args .sheet .now) (back14 .args .f .now) (back14 .args .g .now) (back14 .args .work .now) _ _
+          (back6 .work-out .ensures _ (back14 .pre .2 .parts-are)) _ (c .before .before .answer .given .1),
+    )
 
 enum-known-answer-2 : tie.Need-enum-known-answer-2
 enum-known-answer-2 c = search needs
@@ -22,13 +31,25 @@ same-length : tie.Need-same-length
 same-length c = search needs
 
 returns : tie.Need-returns
-returns c = judge-done (c .before .before .before .before .before .before .before .before .before .before .before .before .before .before .before .before .before .args .sheet .now) (c .before .before .before .before .before .before .before .before .before .before .before .before .before .before .before .before .before .args .f .now) (c .before .before .before .before .before .before .before .before .before .before .before .before .before .before .before .before .before .args .g .now) (c .before .before .before .before .before .before .before .before .before .before .before .before .before .before .before .before .before .args .work .now) _ _ (c .before .before .before .before .before .before .before .before .before .work-out .ensures _ (c .before .before .before .before .before .before .before .before .before .before .before .before .before .before .before .before .before .pre .2 .parts-are)) _ (c .before .before .before .before .before .answer .given .1) _ (c .before .before .compare .ensures)
+returns c =
+    let back9 = c .before .before .before .before .before .before .before .before .before in
+    let back17 = back9 .before .before .before .before .before .before .before .before in
+    judge-done (back17 .args .sheet .now) (back17 .args .f .now) (back17 .args .g .now) (back17 .args .work .now) _ _
+    (back9 .work-out .ensures _ (back17 .pre .2 .parts-are)) _ (c .before .before .before .before .before .answer .given .1) _
+    (c .before .before .compare .ensures)
 
 same-length-2 : tie.Need-same-length-2
 same-length-2 c = search needs
 
 returns-2 : tie.Need-returns-2
-returns-2 c = judge-refused (c .before .before .before .before .before .before .before .before .before .before .before .before .before .args .sheet .now) (c .before .before .before .before .before .before .before .before .before .before .before .before .before .args .f .now) (c .before .before .before .before .before .before .before .before .before .before .before .before .before .args .g .now) (c .before .before .before .before .before .before .before .before .before .before .before .before .before .args .work .now) _ _ (c .before .before .before .before .before .work-out .ensures _ (c .before .before .before .before .before .before .before .before .before .before .before .before .before .pre .2 .parts-are)) _ _ (c .before .answer2 .given .1)
+returns-2 c = judge-refused
+    (c .before .before .before .before .before .before .before .before .before .before .before .before .before .args .sheet .now)
+    (c .before .before .before .before .before .before .before .before .before .before .before .before .before .args .f .now)
+    (c .before .before .before .before .before .before .before .before .before .before .before .before .before .args .g .now)
+    (c .before .before .before .before .before .before .before .before .before .before .before .before .before .args .work .now) _ _
+    (c .before .before .before .before .before .work-out .ensures _
+    (c .before .before .before .before .before .before .before .before .before .before .before .before .before .pre .2 .parts-are)) _ _
+    (c .before .answer2 .given .1)
 
 pub judge-spec : {M : Type 1} → statement M
 judge-spec =

@@ -1,6 +1,6 @@
 -- `evaluation::load` meets its contract: by the kind, a name's list from the sheet or a constant's.
 use native.Mathlib.Omega.{arith}
-use Rattle.evaluation.proofs.Leaves.{loaded-name, name-fits, loaded-up, loaded-down}
+use Rattle.machine.proofs.Leaves.{loaded-name, name-fits, loaded-up, loaded-down}
 use borrow.Author.Needs.{needs}
 use Rattle.evaluation.proofs.load.Statement.{statement}
 use Rattle.evaluation.proofs.load.Tie as tie
@@ -12,13 +12,26 @@ lookup-requires : tie.Need-lookup-requires
 lookup-requires c κs = search needs
 
 put-part-requires : tie.Need-put-part-requires
-put-part-requires c κs = let s = name-fits (c .before .before .before .before .before .before .before .args .sheet .now) _ _ _ _ (c .before .before .before .before .before .before .before .pre .1 .0) (λ i. c .before .before .before .before .before .before .shared-slice-known .given i .fits) (c .before .before .before .before .before .before .before .pre .1 .1) (c .before .before .before .if1 .taken) (c .before .before .name-of .ensures) (c .before .lookup .ensures .0) in omega (arith, c .before .before .before .before .before .before .before .pre .0)
+put-part-requires c κs = let s = name-fits (c .before .before .before .before .before .before .before .args .sheet .now) _ _ _ _
+    (c .before .before .before .before .before .before .before .pre .1 .0)
+    (λ i. c .before .before .before .before .before .before .shared-slice-known .given i .fits)
+    (c .before .before .before .before .before .before .before .pre .1 .1) (c .before .before .before .if1 .taken)
+    (c .before .before .name-of .ensures) (c .before .lookup .ensures .0) in omega
+    (arith, c .before .before .before .before .before .before .before .pre .0)
 
 same-length : tie.Need-same-length
 same-length c = search needs
 
 returns : tie.Need-returns
-returns c = loaded-name (c .before .before .before .before .before .before .before .before .before .before .args .sheet .now) _ _ (c .before .before .before .before .before .before .before .before .before .before .args .work .now) _ _ _ (c .before .before .before .before .before .before .before .before .before .before .args .at) _ (c .before .before .before .before .before .before .before .before .before .before .pre .1 .0) (λ i. c .before .before .before .before .before .before .before .before .before .shared-slice-known .given i .fits) (c .before .before .before .before .before .before .before .before .before .before .pre .1 .1) (c .before .before .before .before .before .before .if1 .taken) (c .before .before .before .before .before .name-of .ensures) (c .before .before .before .before .lookup .ensures .0) (c .before .before .put-part .ensures .0) (c .before .before .put-part .ensures .1)
+returns c = loaded-name (c .before .before .before .before .before .before .before .before .before .before .args .sheet .now) _ _
+    (c .before .before .before .before .before .before .before .before .before .before .args .work .now) _ _ _
+    (c .before .before .before .before .before .before .before .before .before .before .args .at) _
+    (c .before .before .before .before .before .before .before .before .before .before .pre .1 .0)
+    (λ i. c .before .before .before .before .before .before .before .before .before .shared-slice-known .given i .fits)
+    (c .before .before .before .before .before .before .before .before .before .before .pre .1 .1)
+    (c .before .before .before .before .before .before .if1 .taken) (c .before .before .before .before .before .name-of .ensures)
+    (c .before .before .before .before .lookup .ensures .0) (c .before .before .put-part .ensures .0)
+    (c .before .before .put-part .ensures .1)
 
 put-word-requires : tie.Need-put-word-requires
 put-word-requires c κs = search needs
@@ -27,7 +40,9 @@ same-length-2 : tie.Need-same-length-2
 same-length-2 c = search needs
 
 returns-2 : tie.Need-returns-2
-returns-2 c = loaded-up _ _ _ (c .before .before .before .before .before .before .before .before .before .args .work .now) _ (c .before .before .before .before .before .before .before .before .before .args .at) (c .before .before .before .before .if2 .taken) (c .before .before .put-word .ensures)
+returns-2 c = loaded-up _ _ _ (c .before .before .before .before .before .before .before .before .before .args .work .now) _
+    (c .before .before .before .before .before .before .before .before .before .args .at) (c .before .before .before .before .if2 .taken)
+    (c .before .before .put-word .ensures)
 
 put-word-requires-2 : tie.Need-put-word-requires-2
 put-word-requires-2 c κs = search needs
@@ -36,7 +51,10 @@ same-length-3 : tie.Need-same-length-3
 same-length-3 c = search needs
 
 returns-3 : tie.Need-returns-3
-returns-3 c = loaded-down _ _ _ (c .before .before .before .before .before .before .before .before .before .args .work .now) _ (c .before .before .before .before .before .before .before .before .before .args .at) (c .before .before .before .before .before .if1 .left) (c .before .before .before .before .if2 .left) (c .before .before .put-word2 .ensures)
+returns-3 c = loaded-down _ _ _ (c .before .before .before .before .before .before .before .before .before .args .work .now) _
+    (c .before .before .before .before .before .before .before .before .before .args .at)
+    (c .before .before .before .before .before .if1 .left) (c .before .before .before .before .if2 .left)
+    (c .before .before .put-word2 .ensures)
 
 pub load-spec : {M : Type 1} → statement M
 load-spec =

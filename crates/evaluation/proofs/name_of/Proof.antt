@@ -2,7 +2,7 @@
 use native.Mathlib.Omega.{arith}
 use native.Mathlib.Nat.{add-sub-cancel-left}
 use mathlib.Core.Path.{refl}
-use Rattle.evaluation.proofs.Putting.{name-none, name-rest, name-whole}
+use Rattle.machine.proofs.Putting.{name-none, name-rest, name-whole}
 use borrow.Author.Needs.{needs}
 use Rattle.evaluation.proofs.name_of.Statement.{statement}
 use Rattle.evaluation.proofs.name_of.Tie as tie

@@ -4,9 +4,9 @@ use Prim.Native.Nat.{_≤_, _-_}
 use native.Mathlib.Omega.{arith}
 use mathlib.Core.Path.{_≡_, refl, sym, _∙_, ap}
 use mathlib.Core.Bool.{_&&_}
-use Rattle.evaluation.specs.Machine.{allFound, partsIn}
-use Rattle.evaluation.proofs.Looping.{rest}
-use Rattle.evaluation.proofs.Preparing.{all-of, next-true, next-false, none-left}
+use Rattle.machine.specs.Machine.{allFound, partsIn}
+use Rattle.machine.proofs.Looping.{rest}
+use Rattle.machine.proofs.Preparing.{all-of, next-true, next-false, none-left}
 use Rattle.evaluation.proofs.names_found.Statement.{statement}
 use Rattle.evaluation.proofs.names_found.Tie as tie
 
@@ -35,10 +35,17 @@ loop-less : tie.Need-loop-less Inv-loop μ-loop
 loop-less c = search needs
 
 loop-again : tie.Need-loop-again Inv-loop μ-loop
-loop-again c = (c .before .before .before .before .loop .inv .0 ∙ next-true _ _ _ _ _ (c .before .before .before .before .before .before .before .before .pre .0) (c .before .before .before .loop-test .taken) _ (c .before .found .ensures) (c .if1 .taken), omega arith)
+loop-again c = (
+  c .before .before .before .before .loop .inv .0 ∙ next-true _ _ _ _ _
+      (c .before .before .before .before .before .before .before .before .pre .0) (c .before .before .before .loop-test .taken) _
+      (c .before .found .ensures) (c .if1 .taken),
+  omega arith,
+)
 
 returns : tie.Need-returns Inv-loop μ-loop
-returns c = sym (c .before .before .before .before .loop .inv .0 ∙ next-false _ _ _ _ _ (c .before .before .before .before .before .before .before .before .pre .0) (c .before .before .before .loop-test .taken) _ (c .before .found .ensures) (c .if1 .left))
+returns c = sym (c .before .before .before .before .loop .inv .0 ∙ next-false _ _ _ _ _
+    (c .before .before .before .before .before .before .before .before .pre .0) (c .before .before .before .loop-test .taken) _
+    (c .before .found .ensures) (c .if1 .left))
 
 returns-2 : tie.Need-returns-2 Inv-loop μ-loop
 returns-2 c = sym (c .before .loop .inv .0 ∙ none-left _ _ _ _ _ (c .before .before .before .before .before .pre .0) (c .loop-test .left))

@@ -1,8 +1,8 @@
 -- `evaluation::on_two` meets its contract: the operator's answer takes the place of its first operand's list.
 use native.Mathlib.Omega.{arith}
 use mathlib.Core.Path.{_≡_, refl, sym, _∙_}
-use Rattle.evaluation.proofs.Stepping.{two-fits, two-accepted, answer-short, two-counted, two-refused}
-use Rattle.evaluation.proofs.Applying.{part-done}
+use Rattle.machine.proofs.Stepping.{two-fits, two-accepted, answer-short, two-counted, two-refused}
+use Rattle.machine.proofs.Applying.{part-done}
 use borrow.Author.Needs.{needs}
 use Rattle.evaluation.proofs.on_two.Statement.{statement}
 use Rattle.evaluation.proofs.on_two.Tie as tie
@@ -41,7 +41,11 @@ shared-slice-read-last : tie.Need-shared-slice-read-last
 shared-slice-read-last c = search needs
 
 add-last : tie.Need-add-last
-add-last c = omega (arith, two-fits _ _ _ _ _ (c .before .before .before .before .before .pre .0) _ _ (c .before .before .before .before .before .pre .1 .2))
+add-last c = omega (
+  arith,
+  two-fits _ _ _ _ _ (c .before .before .before .before .before .pre .0) _ _
+      (c .before .before .before .before .before .pre .1 .2),
+)
 
 mul-apply-binary : tie.Need-mul-apply-binary
 mul-apply-binary c = search needs
@@ -53,7 +57,12 @@ part-apply-binary-start : tie.Need-part-apply-binary-start
 part-apply-binary-start c = search needs
 
 part-apply-binary-end : tie.Need-part-apply-binary-end
-part-apply-binary-end c = omega (arith, two-fits _ _ _ _ _ (c .before .before .before .before .before .before .pre .0) _ _ (c .before .before .before .before .before .before .pre .1 .2), c .before .before .before .before .before .before .pre .0 .slots)
+part-apply-binary-end c = omega (
+  arith,
+  two-fits _ _ _ _ _ (c .before .before .before .before .before .before .pre .0) _ _
+      (c .before .before .before .before .before .before .pre .1 .2),
+  c .before .before .before .before .before .before .pre .0 .slots,
+)
 
 mul-apply-binary-2 : tie.Need-mul-apply-binary-2
 mul-apply-binary-2 c = search needs
@@ -65,10 +74,18 @@ part-apply-binary-start-2 : tie.Need-part-apply-binary-start-2
 part-apply-binary-start-2 c = search needs
 
 part-apply-binary-end-2 : tie.Need-part-apply-binary-end-2
-part-apply-binary-end-2 c = omega (arith, two-fits _ _ _ _ _ (c .before .before .before .before .before .before .before .pre .0) _ _ (c .before .before .before .before .before .before .before .pre .1 .2), c .before .before .before .before .before .before .before .pre .0 .slots)
+part-apply-binary-end-2 c = omega (
+  arith,
+  two-fits _ _ _ _ _ (c .before .before .before .before .before .before .before .pre .0) _ _
+      (c .before .before .before .before .before .before .before .pre .1 .2),
+  c .before .before .before .before .before .before .before .pre .0 .slots,
+)
 
 apply-binary-requires : tie.Need-apply-binary-requires
-apply-binary-requires c κs = let a = two-accepted _ _ _ _ _ (c .before .before .before .before .before .before .before .before .before .pre .0) _ _ (c .before .before .before .before .before .before .before .before .before .pre .1 .2) in (c .before .before .before .before .before .before .before .before .before .pre .0 .wide, a .0, a .1)
+apply-binary-requires c κs = let a = two-accepted _ _ _ _ _
+    (c .before .before .before .before .before .before .before .before .before .pre .0) _ _
+    (c .before .before .before .before .before .before .before .before .before .pre .1 .2) in
+    (c .before .before .before .before .before .before .before .before .before .pre .0 .wide, a .0, a .1)
 
 part-answer-requires : tie.Need-part-answer-requires
 part-answer-requires c κs = search needs
@@ -77,9 +94,18 @@ enum-known-answer : tie.Need-enum-known-answer
 enum-known-answer c = search needs
 
 put-list-requires : tie.Need-put-list-requires
-put-list-requires c κs = let short = answer-short _ _ _ _ (part-done _ _ _ _ (c .before .before .before .before .before .before .before .before .apply-binary .ensures) (c .before .before .before .before .before .part-answer .ensures)) (c .before .before .before .answer .given .1) in
-    let fits = two-fits _ _ _ _ _ (c .before .before .before .before .before .before .before .before .before .before .before .before .before .before .before .before .before .before .pre .0) _ _ (c .before .before .before .before .before .before .before .before .before .before .before .before .before .before .before .before .before .before .pre .1 .2) in
-    (omega (arith, c .before .before .before .before .before .before .before .before .before .before .before .before .before .before .before .before .before .before .pre .0 .low, c .before .before .before .before .before .before .before .before .before .before .before .before .before .before .before .before .before .before .pre .0 .few, c .before .before .before .before .before .before .before .before .before .before .before .before .before .before .before .before .before .before .pre .0 .slots), omega (arith, c .before .before .before .before .before .before .before .before .before .before .before .before .before .before .before .before .before .before .pre .0 .wide, c .before .before .before .before .before .before .before .before .apply-binary .kept .1 .1 .1 .0))
+put-list-requires c κs =
+    let back8 = c .before .before .before .before .before .before .before .before in
+    let back18 = back8 .before .before .before .before .before .before .before .before .before .before in
+    let short = answer-short _ _ _ _ (part-done _ _ _ _
+    (back8 .apply-binary .ensures)
+    (c .before .before .before .before .before .part-answer .ensures)) (c .before .before .before .answer .given .1) in
+    let fits = two-fits _ _ _ _ _
+    (back18 .pre .0) _ _ (back18 .pre .1 .2) in (
+      omega (arith, back18 .pre .0 .low, back18 .pre .0 .few, back18 .pre .0 .slots),
+      omega
+          (arith, back18 .pre .0 .wide, back8 .apply-binary .kept .1 .1 .1 .0),
+    )
 
 enum-known-answer-2 : tie.Need-enum-known-answer-2
 enum-known-answer-2 c = search needs
@@ -91,7 +117,23 @@ same-length-2 : tie.Need-same-length-2
 same-length-2 c = search needs
 
 returns : tie.Need-returns
-returns c = λ sheet ok stack tall stacked enough known. two-counted sheet ok (c .before .before .before .before .before .before .before .before .before .before .before .before .before .before .before .before .before .before .before .before .before .args .work .now) _ (c .before .before .before .before .before .before .before .before .before .before .before .before .before .before .before .before .before .before .before .before .before .args .counts .now) _ _ (record { low = c .before .before .before .before .before .before .before .before .before .before .before .before .before .before .before .before .before .before .before .before .before .pre .0 .low; few = c .before .before .before .before .before .before .before .before .before .before .before .before .before .before .before .before .before .before .before .before .before .pre .0 .few; slots = c .before .before .before .before .before .before .before .before .before .before .before .before .before .before .before .before .before .before .before .before .before .pre .0 .slots; wide = omega (arith, c .before .before .before .before .before .before .before .before .before .before .before .before .before .before .before .before .before .before .before .before .before .pre .0 .wide, c .before .before .before .before .before .before .before .before .before .before .before .apply-binary .kept .1 .1 .1 .0); counted = c .before .before .before .before .before .before .before .before .before .before .before .before .before .before .before .before .before .before .before .before .before .pre .0 .counted }) _ stack tall stacked enough _ _ refl refl _ (part-done _ _ _ _ (c .before .before .before .before .before .before .before .before .before .before .before .apply-binary .ensures) (c .before .before .before .before .before .before .before .before .part-answer .ensures)) _ (c .before .before .before .before .before .before .answer .given .1) _ (c .before .before .put-list .ensures)
+returns c =
+    let back6 = c .before .before .before .before .before .before in
+    let back8 = back6 .before .before in
+    let back11 = back8 .before .before .before in
+    let back21 = back11 .before .before .before .before .before .before .before .before .before .before in
+    λ sheet ok stack tall stacked enough known. two-counted sheet ok
+    (back21 .args .work .now) _ (back21 .args .counts .now) _ _
+    (record {
+      low = back21 .pre .0 .low;
+      few = back21 .pre .0 .few;
+      slots = back21 .pre .0 .slots;
+      wide = omega
+          (arith, back21 .pre .0 .wide, back11 .apply-binary .kept .1 .1 .1 .0);
+      counted = back21 .pre .0 .counted;
+    }) _ stack tall stacked enough
+    _ _ refl refl _ (part-done _ _ _ _ (back11 .apply-binary .ensures) (back8 .part-answer .ensures)) _ (back6 .answer .given .1) _
+    (c .before .before .put-list .ensures)
 
 same-length-3 : tie.Need-same-length-3
 same-length-3 c = search needs
@@ -100,7 +142,21 @@ same-length-4 : tie.Need-same-length-4
 same-length-4 c = search needs
 
 returns-2 : tie.Need-returns-2
-returns-2 c = λ sheet ok stack tall stacked enough known. two-refused sheet ok (c .before .before .before .before .before .before .before .before .before .before .before .before .before .before .before .before .args .work .now) _ (c .before .before .before .before .before .before .before .before .before .before .before .before .before .before .before .before .args .counts .now) _ _ (record { low = c .before .before .before .before .before .before .before .before .before .before .before .before .before .before .before .before .pre .0 .low; few = c .before .before .before .before .before .before .before .before .before .before .before .before .before .before .before .before .pre .0 .few; slots = c .before .before .before .before .before .before .before .before .before .before .before .before .before .before .before .before .pre .0 .slots; wide = omega (arith, c .before .before .before .before .before .before .before .before .before .before .before .before .before .before .before .before .pre .0 .wide, c .before .before .before .before .before .before .apply-binary .kept .1 .1 .1 .0); counted = c .before .before .before .before .before .before .before .before .before .before .before .before .before .before .before .before .pre .0 .counted }) _ stack tall stacked enough _ _ refl refl _ (part-done _ _ _ _ (c .before .before .before .before .before .before .apply-binary .ensures) (c .before .before .before .part-answer .ensures)) _ (c .before .answer2 .given .1) _ refl
+returns-2 c =
+    let back6 = c .before .before .before .before .before .before in
+    let back16 = back6 .before .before .before .before .before .before .before .before .before .before in
+    λ sheet ok stack tall stacked enough known. two-refused sheet ok
+    (back16 .args .work .now) _ (back16 .args .counts .now) _ _
+    (record {
+      low = back16 .pre .0 .low;
+      few = back16 .pre .0 .few;
+      slots = back16 .pre .0 .slots;
+      wide = omega
+          (arith, back16 .pre .0 .wide, back6 .apply-binary .kept .1 .1 .1 .0);
+      counted = back16 .pre .0 .counted;
+    }) _ stack tall stacked enough _
+    _ refl refl _ (part-done _ _ _ _ (back6 .apply-binary .ensures) (c .before .before .before .part-answer .ensures)) _
+    (c .before .answer2 .given .1) _ refl
 
 pub on-two-spec : {M : Type 1} → statement M
 on-two-spec =

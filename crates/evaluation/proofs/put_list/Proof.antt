@@ -5,7 +5,7 @@ use native.Mathlib.Omega.{arith}
 use mathlib.Core.Path.{_≡_, refl, sym, _∙_, ap}
 use lib.ListN.{length, length-set}
 use lib.Seq.{paste, paste-zero}
-use Rattle.evaluation.proofs.Putting.{put-next}
+use Rattle.machine.proofs.Putting.{put-next}
 use Rattle.evaluation.proofs.put_list.Statement.{statement}
 use Rattle.evaluation.proofs.put_list.Tie as tie
 
@@ -39,7 +39,8 @@ add-i c = search needs
 loop-less : tie.Need-loop-less Inv-loop μ-loop
 loop-less c = search needs
 
-in-work : (c : tie.After-shared-slice-known Inv-loop μ-loop) → c .before .before .before .args .at + c .before .before .loop .i < length (c .before .before .before .args .work .now)
+in-work : (c : tie.After-shared-slice-known Inv-loop μ-loop) → c .before .before .before .args .at + c .before .before .loop .i < length
+    (c .before .before .before .args .work .now)
 in-work c = omega arith
 
 loop-again : tie.Need-loop-again Inv-loop μ-loop
@@ -48,7 +49,8 @@ loop-again c =
     let args = c .before .before .before .args in (
       omega arith,
       simp length-set (here .inv .1),
-      put-next (args .work .now) (args .words .now) (here .work) (args .at) (here .i) _ (here .inv .2) refl (in-work c) (shared-slice-read-work c),
+      put-next (args .work .now) (args .words .now) (here .work) (args .at) (here .i) _ (here .inv .2) refl (in-work c)
+          (shared-slice-read-work c),
     )
 
 same-length : tie.Need-same-length Inv-loop μ-loop

@@ -6,18 +6,25 @@ use mathlib.Core.Path.{_≡_, refl, sym, _∙_, ap}
 use lib.ListN.{length, length-set}
 use lib.Seq.{paste, paste-zero}
 use Rattle.slices.specs.Bytes.{wordsIn}
-use Rattle.evaluation.proofs.Putting.{put-word}
+use Rattle.machine.proofs.Putting.{put-word}
 use Rattle.evaluation.proofs.put_part.Statement.{statement}
 use Rattle.evaluation.proofs.put_part.Tie as tie
 
 abbrev Inv-loop : tie.InvT-loop
-Inv-loop part work₀ at count i₀ work i = (count ≡ length part / 4) × (i ≤ count) × (length work ≡ length work₀) × (work ≡ paste work₀ at (wordsIn (length part / 4) part) i)
+Inv-loop part work₀ at count i₀ work i = (count ≡ length part / 4) × (i ≤ count) × (length work ≡ length work₀) ×
+    (work ≡ paste work₀ at (wordsIn (length part / 4) part) i)
 
 abbrev μ-loop : tie.MeasureT-loop
 μ-loop part work₀ at count i₀ work i = count - i
 
 loop-holds : tie.Need-loop-holds Inv-loop μ-loop
-loop-holds c = (refl, omega arith, refl, paste-zero (c .before .before .args .work .now) (c .before .before .args .at) (wordsIn (length (c .before .before .args .part .now) / 4) (c .before .before .args .part .now)))
+loop-holds c = (
+  refl,
+  omega arith,
+  refl,
+  paste-zero (c .before .before .args .work .now) (c .before .before .args .at)
+      (wordsIn (length (c .before .before .args .part .now) / 4) (c .before .before .args .part .now)),
+)
 
 mul-word-at : tie.Need-mul-word-at Inv-loop μ-loop
 mul-word-at c = search needs
@@ -40,10 +47,12 @@ add-i c = search needs
 loop-less : tie.Need-loop-less Inv-loop μ-loop
 loop-less c = search needs
 
-in-work : (c : tie.After-word-at Inv-loop μ-loop) → c .before .before .before .before .before .args .at + c .before .before .loop .i < length (c .before .before .before .before .before .args .work .now)
+in-work : (c : tie.After-word-at Inv-loop μ-loop) → c .before .before .before .before .before .args .at + c .before .before .loop .i <
+    length (c .before .before .before .before .before .args .work .now)
 in-work c = omega arith
 
-in-part : (c : tie.After-word-at Inv-loop μ-loop) → c .before .before .loop .i < length (c .before .before .before .before .before .args .part .now) / 4
+in-part : (c : tie.After-word-at Inv-loop μ-loop) → c .before .before .loop .i < length
+    (c .before .before .before .before .before .args .part .now) / 4
 in-part c = omega arith
 
 loop-again : tie.Need-loop-again Inv-loop μ-loop
@@ -53,7 +62,8 @@ loop-again c =
       refl,
       omega arith,
       simp length-set (here .inv .2),
-      put-word (args .work .now) (args .part .now) (here .work) (args .at) (here .i) _ (here .inv .3) (c .word-at .ensures) (in-work c) (in-part c),
+      put-word (args .work .now) (args .part .now) (here .work) (args .at) (here .i) _ (here .inv .3) (c .word-at .ensures) (in-work c)
+          (in-part c),
     )
 
 same-length : tie.Need-same-length Inv-loop μ-loop

@@ -1,5 +1,5 @@
 -- `evaluation::put_word` puts one word into its place.
-use Rattle.evaluation.proofs.Leaves.{paste-one}
+use Rattle.machine.proofs.Leaves.{paste-one}
 use borrow.Author.Needs.{needs}
 use Rattle.evaluation.proofs.put_word.Statement.{statement}
 use Rattle.evaluation.proofs.put_word.Tie as tie

@@ -1,6 +1,6 @@
 -- `evaluation::run_formula` meets its contract: the formula is worked out, and its words are handed over.
 use native.Mathlib.Omega.{arith}
-use Rattle.evaluation.proofs.Calling.{run-refused, run-fits, run-counted, plan}
+use Rattle.machine.proofs.Calling.{run-refused, run-fits, run-counted, plan}
 use borrow.Author.Needs.{needs}
 use Rattle.evaluation.proofs.run_formula.Statement.{statement}
 use Rattle.evaluation.proofs.run_formula.Tie as tie
@@ -12,7 +12,17 @@ enum-known-answer : tie.Need-enum-known-answer
 enum-known-answer c = search needs
 
 hand-over-requires : tie.Need-hand-over-requires
-hand-over-requires c κs = run-fits (c .before .before .before .before .before .before .before .before .before .before .before .before .before .before .args .sheet .now) (c .before .before .before .before .before .before .before .before .before .before .before .before .before .before .args .text .now) (c .before .before .before .before .before .before .before .before .before .before .before .before .before .before .args .work .now) _ _ (c .before .before .before .before .before .before .before .work-out .ensures _ (c .before .before .before .before .before .before .before .before .before .before .before .before .before .before .pre .2 .parts-are)) _ (c .before .before .before .answer .given .1) (omega (arith, c .before .before .before .before .before .before .before .before .before .before .before .before .before .before .pre .0, c .before .before .before .before .before .before .before .work-out .kept .1 .1 .1 .1 .0))
+hand-over-requires c κs = run-fits
+    (c .before .before .before .before .before .before .before .before .before .before .before .before .before .before .args .sheet .now)
+    (c .before .before .before .before .before .before .before .before .before .before .before .before .before .before .args .text .now)
+    (c .before .before .before .before .before .before .before .before .before .before .before .before .before .before .args .work .now) _ _
+    (c .before .before .before .before .before .before .before .work-out .ensures _
+    (c .before .before .before .before .before .before .before .before .before .before .before .before .before .before .pre .2 .parts-are))
+    _ (c .before .before .before .answer .given .1) (omega (
+      arith,
+      c .before .before .before .before .before .before .before .before .before .before .before .before .before .before .pre .0,
+      c .before .before .before .before .before .before .before .work-out .kept .1 .1 .1 .1 .0,
+    ))
 
 enum-known-answer-2 : tie.Need-enum-known-answer-2
 enum-known-answer-2 c = search needs
@@ -24,13 +34,26 @@ same-length-2 : tie.Need-same-length-2
 same-length-2 c = search needs
 
 returns : tie.Need-returns
-returns c = run-counted (c .before .before .before .before .before .before .before .before .before .before .before .before .before .before .before .before .before .args .sheet .now) (c .before .before .before .before .before .before .before .before .before .before .before .before .before .before .before .before .before .args .text .now) (c .before .before .before .before .before .before .before .before .before .before .before .before .before .before .before .before .before .args .work .now) _ _ (c .before .before .before .before .before .before .before .before .before .before .work-out .ensures _ (c .before .before .before .before .before .before .before .before .before .before .before .before .before .before .before .before .before .pre .2 .parts-are)) _ (c .before .before .before .before .before .before .answer .given .1) (c .before .before .before .before .before .before .before .before .before .before .before .before .before .before .before .before .before .args .out .now) _ _ (c .before .before .hand-over .ensures)
+returns c =
+    let back6 = c .before .before .before .before .before .before in
+    let back10 = back6 .before .before .before .before in
+    let back17 = back10 .before .before .before .before .before .before .before in
+    run-counted (back17 .args .sheet .now) (back17 .args .text .now) (back17 .args .work .now) _ _
+    (back10 .work-out .ensures _ (back17 .pre .2 .parts-are)) _ (back6 .answer .given .1) (back17 .args .out .now) _ _
+    (c .before .before .hand-over .ensures)
 
 same-length-3 : tie.Need-same-length-3
 same-length-3 c = search needs
 
 returns-2 : tie.Need-returns-2
-returns-2 c = run-refused (c .before .before .before .before .before .before .before .before .before .before .before .before .args .sheet .now) (c .before .before .before .before .before .before .before .before .before .before .before .before .args .text .now) (c .before .before .before .before .before .before .before .before .before .before .before .before .args .work .now) _ _ (c .before .before .before .before .before .work-out .ensures _ (c .before .before .before .before .before .before .before .before .before .before .before .before .pre .2 .parts-are)) _ (c .before .answer2 .given .1) (c .before .before .before .before .before .before .before .before .before .before .before .before .args .out .now)
+returns-2 c = run-refused
+    (c .before .before .before .before .before .before .before .before .before .before .before .before .args .sheet .now)
+    (c .before .before .before .before .before .before .before .before .before .before .before .before .args .text .now)
+    (c .before .before .before .before .before .before .before .before .before .before .before .before .args .work .now) _ _
+    (c .before .before .before .before .before .work-out .ensures _
+    (c .before .before .before .before .before .before .before .before .before .before .before .before .pre .2 .parts-are)) _
+    (c .before .answer2 .given .1)
+    (c .before .before .before .before .before .before .before .before .before .before .before .before .args .out .now)
 
 pub run-formula-spec : {M : Type 1} → statement M
 run-formula-spec =

@@ -1,6 +1,6 @@
 -- `evaluation::word_at` gives the word at a place of bytes.
 use mathlib.Core.Path.{_≡_, refl, sym, _∙_, ap}
-use Rattle.evaluation.proofs.Putting.{word-of-bytes}
+use Rattle.machine.proofs.Putting.{word-of-bytes}
 use borrow.Author.Needs.{needs}
 use Rattle.evaluation.proofs.word_at.Statement.{statement}
 use Rattle.evaluation.proofs.word_at.Tie as tie
@@ -58,7 +58,10 @@ add-result-3 c = search needs
 
 returns : tie.Need-returns
 returns c =
-    word-of-bytes (c .before .before .before .before .before .before .before .before .before .args .bytes .now) (c .before .before .before .before .before .before .before .before .before .args .at) _ _ _ _ (c .before .before .before .before .before .before .wide .ensures .0) (c .before .before .before .before .wide2 .ensures .0) (c .before .before .wide3 .ensures .0) (c .wide4 .ensures .0)
+    word-of-bytes (c .before .before .before .before .before .before .before .before .before .args .bytes .now)
+    (c .before .before .before .before .before .before .before .before .before .args .at) _ _ _ _
+    (c .before .before .before .before .before .before .wide .ensures .0) (c .before .before .before .before .wide2 .ensures .0)
+    (c .before .before .wide3 .ensures .0) (c .wide4 .ensures .0)
 
 pub word-at-spec : {M : Type 1} → statement M
 word-at-spec =

@@ -25,7 +25,9 @@ loop-holds : tie.Need-loop-holds Inv-loop μ-loop
 loop-holds c = put-first (c .args .n) (c .args .text .now) (omega arith) (c .pre)
 
 sub-at : tie.Need-sub-at Inv-loop μ-loop
-sub-at c = put-place (c .before .before .args .n) (c .before .loop .text) (c .before .loop .left) (c .before .loop .at) (c .before .loop .inv) (c .loop-test .taken)
+sub-at c =
+    let l = c .before .loop in
+    put-place (c .before .before .args .n) (l .text) (l .left) (l .at) (l .inv) (c .loop-test .taken)
 
 cast-text-2 : tie.Need-cast-text-2 Inv-loop μ-loop
 cast-text-2 c = omega arith
@@ -40,7 +42,9 @@ loop-less : tie.Need-loop-less Inv-loop μ-loop
 loop-less c = omega arith
 
 loop-again : tie.Need-loop-again Inv-loop μ-loop
-loop-again c = put-next (c .before .before .args .n) (c .before .loop .text) (c .before .loop .left) (c .before .loop .at) (c .before .loop .inv) (c .loop-test .taken)
+loop-again c =
+    let l = c .before .loop in
+    put-next (c .before .before .args .n) (l .text) (l .left) (l .at) (l .inv) (c .loop-test .taken)
 
 returns : tie.Need-returns Inv-loop μ-loop
 returns c =

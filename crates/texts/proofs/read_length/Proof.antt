@@ -20,8 +20,8 @@ returns : tie.Need-returns
 returns c =
     let t = c .before in
     let s = t .before .before in
-    above (now (s .before .before .args .text)) (t .ticks .result) (sym (s .is-length .ensures) ∙ t .before .if1 .taken) (t .ticks .ensures)
-    (omega (arith, c .if2 .taken))
+    let written = sym (s .is-length .ensures) ∙ t .before .if1 .taken in
+    above (now (s .before .before .args .text)) (t .ticks .result) written (t .ticks .ensures) (omega (arith, c .if2 .taken))
 
 cast-t6 : tie.Need-cast-t6
 cast-t6 c = search needs
@@ -30,8 +30,8 @@ returns-2 : tie.Need-returns-2
 returns-2 c =
     let t = c .before in
     let s = t .before .before in
-    ticks-read (now (s .before .before .args .text)) (t .ticks .result) (sym (s .is-length .ensures) ∙ t .before .if1 .taken) (t .ticks .ensures)
-    (omega (arith, c .if2 .left))
+    let written = sym (s .is-length .ensures) ∙ t .before .if1 .taken in
+    ticks-read (now (s .before .before .args .text)) (t .ticks .result) written (t .ticks .ensures) (omega (arith, c .if2 .left))
 
 returns-3 : tie.Need-returns-3
 returns-3 c =

@@ -10,7 +10,8 @@ use lib.Seq.{paste, paste-suc, paste-zero, take-all, take-nil, drop-drop, getD-d
 use Rattle.grammar.specs.Formula.{nameAt}
 use Rattle.slices.specs.Bytes.{low32, wordsIn}
 
-pub put-next : (d s w : List ℕ) (at i v : ℕ) → w ≡ paste d at s i → v ≡ getD s i 0 → at + i < length d → i < length s → set w (at + i) v ≡ paste d at s (i + 1)
+pub put-next : (d s w : List ℕ) (at i v : ℕ) → w ≡ paste d at s i → v ≡ getD s i 0 → at + i < length d → i < length s → set w
+    (at + i) v ≡ paste d at s (i + 1)
 put-next d s w at i v e ev hd hs = rw (e, ev) (paste-suc d at s i 0 hd hs ∙ ap (paste d at s) (sym (add-one i)))
 
 low32-at : (s : List ℕ) (at : ℕ)
@@ -18,7 +19,8 @@ low32-at : (s : List ℕ) (at : ℕ)
 unfolding low32
 low32-at s at = simp (getD-drop, add-zero)
 
-pub word-of-bytes : (s : List ℕ) (at b0 b1 b2 b3 : ℕ) → b0 ≡ getD s at 0 → b1 ≡ getD s (at + 1) 0 → b2 ≡ getD s (at + 2) 0 → b3 ≡ getD s (at + 3) 0
+pub word-of-bytes : (s : List ℕ) (at b0 b1 b2 b3 : ℕ) → b0 ≡ getD s at 0 → b1 ≡ getD s (at + 1) 0 → b2 ≡ getD s (at + 2) 0 → b3 ≡ getD s
+    (at + 3) 0
     → b0 + 256 * b1 + 65536 * b2 + 16777216 * b3 ≡ low32 (drop at s)
 word-of-bytes s at b0 b1 b2 b3 e0 e1 e2 e3 = rw (e0, e1, e2, e3) (sym (low32-at s at))
 
@@ -36,17 +38,20 @@ words-at (suc n) b (suc i) h =
     words-at n (drop 4 b) i (omega arith) ∙ ap low32 (drop-drop (4 * i) 4 b ∙ ap (λ k. drop k b) e)
 
 -- the next word of a part
-pub put-word : (d part w : List ℕ) (at i v : ℕ) → w ≡ paste d at (wordsIn (length part / 4) part) i → v ≡ low32 (drop (4 * i) part) → at + i < length d → i < length part / 4
+pub put-word : (d part w : List ℕ) (at i v : ℕ) → w ≡ paste d at (wordsIn (length part / 4) part) i → v ≡ low32 (drop (4 * i) part)
+    → at + i < length d → i < length part / 4
     → set w (at + i) v ≡ paste d at (wordsIn (length part / 4) part) (i + 1)
 put-word d part w at i v e ev hd hs =
-    put-next d (wordsIn (length part / 4) part) w at i v e (ev ∙ sym (words-at (length part / 4) part i hs)) hd (rw (words-length (length part / 4) part) hs)
+    put-next d (wordsIn (length part / 4) part) w at i v e (ev ∙ sym (words-at (length part / 4) part i hs)) hd
+    (rw (words-length (length part / 4) part) hs)
 
 -- a name cut at the end of the text
 pub name-none : (text : List ℕ) (place count : ℕ) → length text ≤ place → [] ≡ nameAt text place count
 unfolding nameAt
 name-none text place count h = rw (drop-of-length-le text {i = place} h) (sym (take-nil count))
 
-pub name-rest : (text : List ℕ) (place count k : ℕ) → k ≡ length text - place → length text - place ≤ count → take k (drop place text) ≡ nameAt text place count
+pub name-rest : (text : List ℕ) (place count k : ℕ) → k ≡ length text - place → length text - place ≤ count → take k
+    (drop place text) ≡ nameAt text place count
 unfolding nameAt
 name-rest text place count k e h =
     let l : length (drop place text) ≡ length text - place = length-drop place text in

@@ -21,9 +21,9 @@ use Rattle.format.specs.Reading.{sheetFault}
 use Rattle.calls.specs.OnSheet.{exactOn}
 use Rattle.calls.specs.Calls.{partsFault}
 use Rattle.operations.specs.Calls.{partFault}
-use Rattle.evaluation.specs.declared.Next.{Next}
-use Rattle.evaluation.specs.Machine.{InSlot, Stacked, Enough, Known, AllKnown, Stepped, Steps, Ready, worked, trace, partsIn, Plan, WorkedOut}
-use Rattle.evaluation.proofs.Tracing.{trace-code, work-all, work-step, low-enough, grows-by-one}
+use Rattle.machine.specs.declared.Next.{Next}
+use Rattle.machine.specs.Machine.{InSlot, Stacked, Enough, Known, AllKnown, Stepped, Steps, Ready, worked, trace, partsIn, Plan, WorkedOut}
+use Rattle.machine.proofs.Tracing.{trace-code, work-all, work-step, low-enough, grows-by-one}
 use Rattle.signals.specs.Answers.{firstOf}
 use Rattle.signals.proofs.FirstFault.{first-is, next-is}
 
@@ -39,7 +39,8 @@ counted-is f l n z e = rw (eq-eqb f 0 z, e)
 unfoldable pub rest : List ℕ → List ℕ → ℕ → ℕ → List Part
 rest text codes n i = map (partOf text) (drop i (take n codes))
 
-pub rest-next : (text codes : List ℕ) (n i : ℕ) → n ≤ length codes → i < n → rest text codes n i ≡ partOf text (getD codes i 0) ∷ rest text codes n (i + 1)
+pub rest-next : (text codes : List ℕ) (n i : ℕ) → n ≤ length codes → i < n → rest text codes n i ≡ partOf text
+    (getD codes i 0) ∷ rest text codes n (i + 1)
 unfolding rest
 rest-next text codes n i h l =
     let long : length (take n codes) ≡ n = length-take-le n codes h in
@@ -67,7 +68,8 @@ pub record Going (sheet text codes : List ℕ) (n : ℕ) (t : Tree) (before work
   pub low : height ≤ i
   pub kept : take (256 * base) work′ ≡ take (256 * base) before
 
-pub start : (sheet text codes : List ℕ) (n : ℕ) (before counts : List ℕ) (base : ℕ) (p : Plan sheet text codes n) → Going sheet text codes n (p .tree) before before counts base 0 0
+pub start : (sheet text codes : List ℕ) (n : ℕ) (before counts : List ℕ) (base : ℕ) (p : Plan sheet text codes n) → Going sheet text codes n
+    (p .tree) before before counts base 0 0
 unfolding rest partsIn
 start sheet text codes n before counts base p =
     record {
@@ -89,12 +91,14 @@ nonempty (two o) [] e = absurd e
 nonempty (two o) (u ∷ []) e = absurd e
 nonempty (two o) (u ∷ t ∷ st) e = omega arith
 
-module _ (sheet text codes : List ℕ) (n : ℕ) (t : Tree) (before work′ counts : List ℕ) (base height i : ℕ) (enough : n ≤ length codes) (few : n ≤ 32)
+module _ (sheet text codes : List ℕ) (n : ℕ) (t : Tree) (before work′ counts : List ℕ) (base height i : ℕ) (enough : n ≤ length codes)
+    (few : n ≤ 32)
     (g : Going sheet text codes n t before work′ counts base height i) (more : i < n) where
   here : rest text codes n i ≡ partOf text (getD codes i 0) ∷ rest text codes n (i + 1)
   here = rest-next text codes n i enough more
 
-  stepped-on : Enough (partOf text (getD codes i 0)) (g .stack) × (work (rest text codes n (i + 1)) (worked (partOf text (getD codes i 0)) (g .stack)) ≡ t ∷ [])
+  stepped-on : Enough (partOf text (getD codes i 0)) (g .stack) ×
+      (work (rest text codes n (i + 1)) (worked (partOf text (getD codes i 0)) (g .stack)) ≡ t ∷ [])
   stepped-on = work-step (partOf text (getD codes i 0)) (rest text codes n (i + 1)) (g .stack) t (rw here at (g .ends))
 
   knows : AllKnown sheet (partOf text (getD codes i 0) ∷ rest text codes n (i + 1))
@@ -114,7 +118,8 @@ module _ (sheet text codes : List ℕ) (n : ℕ) (t : Tree) (before work′ coun
     did : Stepped sheet work′ after counts base (partOf text (getD codes i 0)) (g .stack) next
     did = s (g .stack) (g .tall) (g .stacked) (stepped-on .0) (knows .0)
 
-    faults-here : partsFault sheet (parts t) ≡ firstOf (partFault (exactOn sheet (top (worked (partOf text (getD codes i 0)) (g .stack))))) (partsFault sheet (trace (rest text codes n (i + 1)) (worked (partOf text (getD codes i 0)) (g .stack))))
+    faults-here : partsFault sheet (parts t) ≡ firstOf (partFault (exactOn sheet (top (worked (partOf text (getD codes i 0)) (g .stack)))))
+        (partsFault sheet (trace (rest text codes n (i + 1)) (worked (partOf text (getD codes i 0)) (g .stack))))
     unfolding trace partsFault
     faults-here = rw here at (g .faults)
 
@@ -129,7 +134,8 @@ module _ (sheet text codes : List ℕ) (n : ℕ) (t : Tree) (before work′ coun
           kept = did .kept ∙ g .kept;
         }
 
-    pub gone-on : next .fault ≡ 0 → (1 ≤ next .height) × (next .height ≤ 17) × Going sheet text codes n t before after (set counts (next .height - 1) (next .count)) base (next .height) (i + 1)
+    pub gone-on : next .fault ≡ 0 → (1 ≤ next .height) × (next .height ≤ 17) × Going sheet text codes n t before after
+        (set counts (next .height - 1) (next .count)) base (next .height) (i + 1)
     gone-on z =
         let h = did .height-is z in
         let grow = grows-by-one (partOf text (getD codes i 0)) (g .stack) in
@@ -141,7 +147,8 @@ module _ (sheet text codes : List ℕ) (n : ℕ) (t : Tree) (before work′ coun
             tall = sym h;
             stacked = did .stacked z;
             ends = stepped-on .1;
-            faults = faults-here ∙ next-is (partFault (exactOn sheet (top (worked (partOf text (getD codes i 0)) (g .stack))))) _ (sym (did .fault-is) ∙ z);
+            faults = faults-here ∙ next-is (partFault (exactOn sheet (top (worked (partOf text (getD codes i 0)) (g .stack))))) _
+                (sym (did .fault-is) ∙ z);
             known = knows .1;
             low = omega (arith, g .low, g .tall);
             kept = did .kept ∙ g .kept;
@@ -149,7 +156,8 @@ module _ (sheet text codes : List ℕ) (n : ℕ) (t : Tree) (before work′ coun
         )
 
 pub finished : (sheet text codes : List ℕ) (n : ℕ) (t : Tree) (before work′ counts : List ℕ) (base height i : ℕ) → n ≤ length codes → n ≤ i
-    → Going sheet text codes n t before work′ counts base height i → (u : Tree) → code t ≡ code u → WorkedOut sheet before work′ base u (Count (getD counts 0 0))
+    → Going sheet text codes n t before work′ counts base height i → (u : Tree) → code t ≡ code u → WorkedOut sheet before work′ base u
+    (Count (getD counts 0 0))
 unfolding work trace partsFault
 finished sheet text codes n t before work′ counts base height i enough done g u e =
     let none = rest-none text codes n i enough done in
@@ -160,4 +168,9 @@ finished sheet text codes n t before work′ counts base height i enough done g 
     let slot : InSlot work′ base (getD counts 0 0) (exactOn sheet t) = let b : base + 0 ≡ base = omega arith in rw b at (s .0) in
     let slot′ : InSlot work′ base (length (exactOn sheet t)) (exactOn sheet t) = rw (slot .long) at slot in
     rw (← same)
-    (record { answer-is = counted-is (partsFault sheet (parts t)) (exactOn sheet t) (getD counts 0 0) f (slot .long); stands = λ z. slot′; kept = g .kept })
+    (record {
+      answer-is = counted-is (partsFault sheet (parts t)) (exactOn sheet t) (getD counts 0 0) f
+          (slot .long);
+      stands = λ z. slot′;
+      kept = g .kept;
+    })

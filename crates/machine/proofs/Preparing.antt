@@ -31,11 +31,11 @@ use Rattle.calls.specs.Calls.{readingFault}
 use Rattle.calls.proofs.FirstFault.{passed, missed}
 use Rattle.calls.proofs.ReadingFaults.{derived}
 use Rattle.format.proofs.SheetLists.{Sound, AllSound, sheet-sound}
-use Rattle.evaluation.specs.Machine.{leafOf, leafKnown, Known, AllKnown, partsIn, partFound, allFound, Prepared}
-use Rattle.evaluation.proofs.Leaves.{leaf-name, leaf-up, leaf-down}
-use Rattle.evaluation.proofs.PartCodes.{part-leaf-low, part-leaf-high, part-unary, part-binary}
-use Rattle.evaluation.proofs.Stepping.{counted, refused-by}
-use Rattle.evaluation.proofs.Looping.{rest, rest-next, rest-none}
+use Rattle.machine.specs.Machine.{leafOf, leafKnown, Known, AllKnown, partsIn, partFound, allFound, Prepared}
+use Rattle.machine.proofs.Leaves.{leaf-name, leaf-up, leaf-down}
+use Rattle.machine.proofs.PartCodes.{part-leaf-low, part-leaf-high, part-unary, part-binary}
+use Rattle.machine.proofs.Stepping.{counted, refused-by}
+use Rattle.machine.proofs.Looping.{rest, rest-next, rest-none}
 use Rattle.signals.specs.Answers.{firstOf}
 use Rattle.signals.proofs.FirstFault.{first-is, next-is}
 
@@ -45,7 +45,8 @@ unfolding among names
 named-well n [] s h = absurd (let z : _≡_ {A = ℕ} 1 0 = ap (λ b. cond b 0 1) h in omega arith)
 named-well n (e ∷ es) s h = go (same (nameOf e) n) refl h (λ k. named-well n es (s .1) k)
   where
-    go : (b : Bool) → same (nameOf e) n ≡ b → (b || among n (names es)) ≡ true → (among n (names es) ≡ true → wellNamed n ≡ true) → wellNamed n ≡ true
+    go : (b : Bool) → same (nameOf e) n ≡ b → (b || among n (names es)) ≡ true → (among n (names es) ≡ true → wellNamed n ≡ true)
+        → wellNamed n ≡ true
     go true q k r = rw (same-equal (nameOf e) n q) at (s .0 .named)
     go false q k r = r k
 
@@ -54,9 +55,11 @@ pub looked : (sheet n : List ℕ) → sheetFault sheet ≡ 0 → eqb (lookupFaul
 unfolding lookupFault firstOf
 looked sheet n ok = go (among n (names (signalsOn sheet))) (wellNamed n) refl refl
   where
-    go : (a w : Bool) → among n (names (signalsOn sheet)) ≡ a → wellNamed n ≡ w → eqb (lookupFault sheet n) 0 ≡ among n (names (signalsOn sheet))
+    go : (a w : Bool) → among n (names (signalsOn sheet)) ≡ a → wellNamed n ≡ w → eqb (lookupFault sheet n) 0 ≡ among n
+        (names (signalsOn sheet))
     go true true p q = rw (ok, q, p)
-    go true false p q = absurd (let z : _≡_ {A = ℕ} 0 1 = ap (λ b. cond b 0 1) (sym (named-well n (signalsOn sheet) (sheet-sound sheet ok) p) ∙ q) in omega arith)
+    go true false p q = absurd (let z : _≡_ {A = ℕ} 0 1 = ap (λ b. cond b 0 1)
+        (sym (named-well n (signalsOn sheet) (sheet-sound sheet ok) p) ∙ q) in omega arith)
     go false true p q = rw (ok, q, p)
     go false false p q = rw (ok, q, p)
 
@@ -64,12 +67,14 @@ looked sheet n ok = go (among n (names (signalsOn sheet))) (wellNamed n) refl re
 found-append : (sheet : List ℕ) (ps qs : List Part) → allFound sheet (ps ++ qs) ≡ (allFound sheet ps && allFound sheet qs)
 unfolding allFound
 found-append sheet [] qs = refl
-found-append sheet (p ∷ ps) qs = ap (λ b. partFound sheet p && b) (found-append sheet ps qs) ∙ sym (and-assoc (partFound sheet p) (allFound sheet ps) (allFound sheet qs))
+found-append sheet (p ∷ ps) qs = ap (λ b. partFound sheet p && b) (found-append sheet ps qs) ∙ sym
+    (and-assoc (partFound sheet p) (allFound sheet ps) (allFound sheet qs))
 
 pub found-tree : (sheet : List ℕ) (t : Tree) → allFound sheet (code t) ≡ namesFound sheet t
 unfolding allFound code namesFound
 found-tree sheet (leaf l) = and-true (leafFound sheet l)
-found-tree sheet (unary o t) = found-append sheet (code t) (one o ∷ []) ∙ ap (λ b. b && true) (found-tree sheet t) ∙ and-true (namesFound sheet t)
+found-tree sheet (unary o t) = found-append sheet (code t) (one o ∷ []) ∙ ap (λ b. b && true) (found-tree sheet t) ∙ and-true
+    (namesFound sheet t)
 found-tree sheet (binary o t u) =
     found-append sheet (code t) (code u ++ (two o ∷ []))
     ∙ ap (λ b. allFound sheet (code t) && b) (found-append sheet (code u) (two o ∷ []) ∙ and-true (allFound sheet (code u)))
@@ -88,7 +93,8 @@ known-tree sheet ok (unary o t) f l = known-append sheet (code t) (one o ∷ [])
 known-tree sheet ok (binary o t u) f l =
     known-append sheet (code t) (code u ++ (two o ∷ []))
     (known-tree sheet ok t (and-left (namesFound sheet t) (namesFound sheet u) f) (omega arith))
-    (known-append sheet (code u) (two o ∷ []) (known-tree sheet ok u (and-right (namesFound sheet t) (namesFound sheet u) f) (omega arith)) (tt, tt))
+    (known-append sheet (code u) (two o ∷ []) (known-tree sheet ok u (and-right (namesFound sheet t) (namesFound sheet u) f) (omega arith))
+    (tt, tt))
 
 -- an accepted formula: its tree, its code words
 module _ (text : List ℕ) (fine : formulaFault text ≡ 0) where
@@ -106,8 +112,11 @@ module _ (text : List ℕ) (fine : formulaFault text ≡ 0) where
       let a = passed (eqb (length text) 0 || ltb 1024 (length text)) 10 _ (omega arith) fine in
       let b = passed (not (accepted text)) 11 _ (omega arith) (a .1) in
       let c = passed (ltb M (longestOf text)) 8 _ (omega arith) (b .1) in
-      let d = passed (ltb 32 (length (partsOf text)) || ltb 16 (depthOf text)) 12 _ (omega arith) (c .1) in
-      (ltb-false M (longestOf text) (c .0), ltb-false 32 (length (partsOf text)) (or-none (ltb 32 (length (partsOf text))) (ltb 16 (depthOf text)) (d .0)))
+      let d = passed (ltb 32 (length (partsOf text)) || ltb 16 (depthOf text)) 12 _ (omega arith) (c .1) in (
+        ltb-false M (longestOf text) (c .0),
+        ltb-false 32 (length (partsOf text))
+            (or-none (ltb 32 (length (partsOf text))) (ltb 16 (depthOf text)) (d .0)),
+      )
     where
       or-none : (a b : Bool) → (a || b) ≡ false → a ≡ false
       or-none true b h = h
@@ -126,14 +135,21 @@ module _ (text : List ℕ) (fine : formulaFault text ≡ 0) where
       let m : length (codeOf text) ≡ length (partsOf text) = sym (length-map (codeOf text) (partOf text)) ∙ ap length (code-is ∙ sym p) in
       omega (arith, clear .1)
 
-  pub parts-there : (codes old : List ℕ) → codes ≡ codeAfter text old → 32 ≤ length old → partsIn text codes (length (codeOf text)) ≡ code (formulaTree text)
+  pub parts-there : (codes old : List ℕ) → codes ≡ codeAfter text old → 32 ≤ length old → partsIn text codes (length (codeOf text)) ≡ code
+      (formulaTree text)
   unfolding partsIn
   parts-there codes old e h =
       let s = code-short in
-      rw (e, code-after-front text old fine (omega arith), take-at (codeOf text) (drop (length (codeOf text)) old) (length (codeOf text)) refl) code-is
+      rw (
+        e,
+        code-after-front text old fine (omega arith),
+        take-at (codeOf text) (drop (length (codeOf text)) old)
+            (length (codeOf text)) refl,
+      ) code-is
 
 -- one code word's name
-pub found-name : (sheet text : List ℕ) (w : ℕ) (n : List ℕ) (fault : ℕ) → sheetFault sheet ≡ 0 → w % 16 ≡ 2 → n ≡ nameAt text (w / 256) (w / 16 % 16) → fault ≡ lookupFault sheet n
+pub found-name : (sheet text : List ℕ) (w : ℕ) (n : List ℕ) (fault : ℕ) → sheetFault sheet ≡ 0 → w % 16 ≡ 2 → n ≡ nameAt text (w / 256)
+    (w / 16 % 16) → fault ≡ lookupFault sheet n
     → eqb fault 0 ≡ partFound sheet (partOf text w)
 found-name sheet text w n fault ok e en ef =
     rw (part-leaf-low text w (omega arith), leaf-name text w e, ef, en) (looked sheet (nameAt text (w / 256) (w / 16 % 16)) ok)
@@ -162,7 +178,8 @@ pub all-of : (sheet text codes : List ℕ) (n : ℕ) → allFound sheet (partsIn
 unfolding partsIn rest
 all-of sheet text codes n = refl
 
-pub next-found : (sheet text codes : List ℕ) (n i : ℕ) → n ≤ length codes → i < n → (b : Bool) → b ≡ partFound sheet (partOf text (getD codes i 0))
+pub next-found : (sheet text codes : List ℕ) (n i : ℕ) → n ≤ length codes → i < n → (b : Bool) → b ≡ partFound sheet
+    (partOf text (getD codes i 0))
     → allFound sheet (rest text codes n i) ≡ (b && allFound sheet (rest text codes n (i + 1)))
 unfolding allFound
 next-found sheet text codes n i h l b e = rw (rest-next text codes n i h l, e)
@@ -172,7 +189,8 @@ unfolding allFound
 none-left sheet text codes n i h l = rw (rest-none text codes n i h l)
 
 -- the outcomes of preparing
-module _ (sheet text codes old : List ℕ) (answer : Written) (ok : sheetFault sheet ≡ 0) (long : length old ≡ 32) (a : answer ≡ writtenOf (formulaFault text) (codeOf text)) (e : codes ≡ codeAfter text old) where
+module _ (sheet text codes old : List ℕ) (answer : Written) (ok : sheetFault sheet ≡ 0) (long : length old ≡ 32)
+    (a : answer ≡ writtenOf (formulaFault text) (codeOf text)) (e : codes ≡ codeAfter text old) where
   pub prepare-refused : (f : ℕ) → answer ≡ Refused f → Prepared sheet text codes (Refused f)
   unfolding readingFault
   prepare-refused f r =
@@ -200,7 +218,8 @@ module _ (sheet text codes old : List ℕ) (answer : Written) (ok : sheetFault s
     there = parts-there text fine-text codes old e (omega arith)
 
     names-are : (b : Bool) → b ≡ allFound sheet (partsIn text codes n) → b ≡ namesFound sheet (formulaTree text)
-    names-are b h = h ∙ ap (λ k. allFound sheet (partsIn text codes k)) count-is ∙ ap (allFound sheet) there ∙ found-tree sheet (formulaTree text)
+    names-are b h = h ∙ ap (λ k. allFound sheet (partsIn text codes k)) count-is ∙ ap (allFound sheet) there ∙ found-tree sheet
+        (formulaTree text)
 
     pub prepare-found : (b : Bool) → b ≡ allFound sheet (partsIn text codes n) → b ≡ true → Prepared sheet text codes (Count n)
     unfolding readingFault
@@ -226,10 +245,12 @@ module _ (sheet text codes old : List ℕ) (answer : Written) (ok : sheetFault s
           known = λ z. absurd (let q : _≡_ {A = ℕ} 13 0 = sym s ∙ z in omega arith);
         }
 
-pub next-true : (sheet text codes : List ℕ) (n i : ℕ) → n ≤ length codes → i < n → (b : Bool) → b ≡ partFound sheet (partOf text (getD codes i 0)) → b ≡ true
+pub next-true : (sheet text codes : List ℕ) (n i : ℕ) → n ≤ length codes → i < n → (b : Bool) → b ≡ partFound sheet
+    (partOf text (getD codes i 0)) → b ≡ true
     → allFound sheet (rest text codes n i) ≡ allFound sheet (rest text codes n (i + 1))
 next-true sheet text codes n i h l b e t = next-found sheet text codes n i h l b e ∙ rw t
 
-pub next-false : (sheet text codes : List ℕ) (n i : ℕ) → n ≤ length codes → i < n → (b : Bool) → b ≡ partFound sheet (partOf text (getD codes i 0)) → b ≡ false
+pub next-false : (sheet text codes : List ℕ) (n i : ℕ) → n ≤ length codes → i < n → (b : Bool) → b ≡ partFound sheet
+    (partOf text (getD codes i 0)) → b ≡ false
     → allFound sheet (rest text codes n i) ≡ false
 next-false sheet text codes n i h l b e t = next-found sheet text codes n i h l b e ∙ rw t

@@ -1,4 +1,4 @@
--- Lemmas of the evaluator.
+-- Lemmas of the stack machine that the evaluator is, without its code.
 pub mod SlotFacts
 pub mod Exact
 pub mod Putting

@@ -9,7 +9,7 @@ use Rattle.signals.specs.Words.{listFault}
 use Rattle.grammar.specs.Tree.{Tree}
 use Rattle.signals.proofs.Normal.{accepted-normal}
 use Rattle.calls.specs.OnSheet.{exactOn}
-use Rattle.evaluation.specs.Machine.{InSlot, Stacked}
+use Rattle.machine.specs.Machine.{InSlot, Stacked}
 
 -- what stands before a place does not depend on what stands after it
 front : (p x y : List ℕ) (j c : ℕ) → j + c ≤ length p → take c (drop j (p ++ x)) ≡ take c (drop j (p ++ y))
@@ -40,7 +40,8 @@ pub short : (l : List ℕ) → listFault l ≡ 0 → length l ≤ 256
 short l h = accepted-normal l .0 h .1
 
 -- a list put into a slot
-pub put-slot : (work words : List ℕ) (slot : ℕ) (l : List ℕ) → 256 * slot ≤ length work → take (length l) words ≡ l → length l ≤ length words → listFault l ≡ 0
+pub put-slot : (work words : List ℕ) (slot : ℕ) (l : List ℕ) → 256 * slot ≤ length work → take (length l) words ≡ l
+    → length l ≤ length words → listFault l ≡ 0
     → InSlot (paste work (256 * slot) words (length l)) slot (length l) l
 put-slot work words slot l room front-is enough ok =
     record { long = refl; stands = here work words (256 * slot) (length l) room enough ∙ front-is; accepted = ok }
@@ -54,15 +55,18 @@ keep-slots sheet work words counts base h n c (t ∷ st) le room s =
     let g : getD (set counts h c) (length st) 0 ≡ getD counts (length st) 0 = getD-set-other counts h (length st) c 0 (omega arith) in (
       record {
         long = g ∙ s .0 .long;
-        stands = rw g (below work words (256 * (base + h)) n (256 * (base + length st)) (getD counts (length st) 0) room (omega (arith, s .0 .long)) ∙ s .0 .stands);
+        stands = rw g (below work words (256 * (base + h)) n (256 * (base + length st)) (getD counts (length st) 0) room
+            (omega (arith, s .0 .long)) ∙ s .0 .stands);
         accepted = s .0 .accepted;
       },
       keep-slots sheet work words counts base h n c st (omega arith) room (s .1),
     )
 
 -- the list of a tree put on top of the stack, at its height
-pub push-slot : (sheet work words counts : List ℕ) (base c : ℕ) (t : Tree) (st : List Tree) → c ≡ length (exactOn sheet t) → 256 * (base + length st) ≤ length work
-    → take c words ≡ exactOn sheet t → c ≤ length words → listFault (exactOn sheet t) ≡ 0 → length st < length counts → Stacked sheet work counts base st
+pub push-slot : (sheet work words counts : List ℕ) (base c : ℕ) (t : Tree) (st : List Tree) → c ≡ length (exactOn sheet t) → 256 *
+    (base + length st) ≤ length work
+    → take c words ≡ exactOn sheet t → c ≤ length words → listFault (exactOn sheet t) ≡ 0 → length st < length counts
+    → Stacked sheet work counts base st
     → Stacked sheet (paste work (256 * (base + length st)) words c) (set counts (length st) c) base (t ∷ st)
 push-slot sheet work words counts base c t st ec room e enough ok hc s =
     let g : getD (set counts (length st) c) (length st) 0 ≡ c = getD-set-same counts (length st) c 0 hc in (

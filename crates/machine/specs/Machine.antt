@@ -27,8 +27,15 @@ use Rattle.calls.specs.OnSheet.{exactOn, leafFound}
 use Rattle.calls.specs.Calls.{partsFault, readingFault, workFault, workingFault, wordsOn, claimFails}
 use Rattle.grammar.specs.Parts.{parts}
 use Rattle.operations.specs.Calls.{roomFault, partFault}
-use Rattle.evaluation.specs.declared.Next.{Next}
+use Rattle.machine.specs.declared.Next.{Next}
 use Rattle.signals.specs.Answers.{firstOf}
+
+-- the words of a slot, as many as a list can have, and those of a work area that is long enough
+abbrev pub listWords : ℕ
+listWords = 256
+
+abbrev pub workWords : ℕ
+workWords = 8192
 
 -- the part that a code word stands for, by its kind in the low four bits: an operand below 3 and from 12 on, of one operand from 3 to 7,
 -- of two from 8 to 11
@@ -75,7 +82,7 @@ Known sheet (two o) = Unit {0}
 -- the list stands at the front of a slot
 pub record InSlot (work : List ℕ) (slot count : ℕ) (l : List ℕ) : Type 0 where
   pub long : count ≡ length l
-  pub stands : take count (drop (256 * slot) work) ≡ l
+  pub stands : take count (drop (listWords * slot) work) ≡ l
   pub accepted : listFault l ≡ 0
 
 -- the stack's lists stand in the slots from base on, the last one topmost
@@ -88,9 +95,9 @@ Stacked sheet work counts base (t ∷ st) =
 pub record Stepped (sheet before work counts : List ℕ) (base : ℕ) (p : Part) (st : List Tree) (next : Next) : Type 0 where
   pub fault-is : next .fault ≡ partFault (exactOn sheet (top (worked p st)))
   pub height-is : next .fault ≡ 0 → next .height ≡ length (worked p st)
-  pub small : next .count ≤ 256
+  pub small : next .count ≤ listWords
   -- the slots below base are as they were
-  pub kept : take (256 * base) work ≡ take (256 * base) before
+  pub kept : take (listWords * base) work ≡ take (listWords * base) before
   pub stacked : next .fault ≡ 0 → Stacked sheet work (set counts (next .height - 1) (next .count)) base (worked p st)
 
 -- the exact answers of the operators, from their operands' lists
@@ -151,8 +158,8 @@ pub record Ready (sheet work counts : List ℕ) (base height : ℕ) (p : Part) :
 pub record Room (work buffer counts : List ℕ) (base height : ℕ) : Type 0 where
   pub low : base ≤ 1
   pub few : height ≤ 16
-  pub slots : 8192 ≤ length work
-  pub wide : 256 ≤ length buffer
+  pub slots : workWords ≤ length work
+  pub wide : listWords ≤ length buffer
   pub counted : 32 ≤ length counts
 
 -- the step's promise, for every such stack
@@ -175,7 +182,7 @@ pub record Plan (sheet text codes : List ℕ) (n : ℕ) : Type 0 where
 pub record WorkedOut (sheet before after : List ℕ) (base : ℕ) (t : Tree) (answer : Written) : Type 0 where
   pub answer-is : answer ≡ writtenOf (partsFault sheet (parts t)) (exactOn sheet t)
   pub stands : partsFault sheet (parts t) ≡ 0 → InSlot after base (length (exactOn sheet t)) (exactOn sheet t)
-  pub kept : take (256 * base) after ≡ take (256 * base) before
+  pub kept : take (listWords * base) after ≡ take (listWords * base) before
 
 -- the sheet has the names of the parts
 abbrev pub partFound : List ℕ → Part → Bool

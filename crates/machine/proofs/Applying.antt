@@ -23,7 +23,7 @@ use Rattle.building.proofs.BuildingLaws.{slot-short}
 use Rattle.grammar.specs.Tree.{Unary, Binary, invert, rise, fall, ton, tof, and, or, sr, rs}
 use Rattle.grammar.specs.Code.{ticksOf}
 use Rattle.operations.specs.Calls.{partFault}
-use Rattle.evaluation.specs.Machine.{Given, partAnswer, unaryOf, binaryOf, unaryExact, binaryExact, AND-table, OR-table}
+use Rattle.machine.specs.Machine.{Given, partAnswer, unaryOf, binaryOf, unaryExact, binaryExact, AND-table, OR-table}
 use Rattle.signals.specs.Answers.{firstOf}
 use Rattle.signals.proofs.FirstFault.{next-is}
 
@@ -41,7 +41,8 @@ part-none exact = go (ltb 256 (length exact)) (changesAfterM exact) refl
     go false true e z = absurd (omega arith)
     go false false e z = (ltb-false 256 (length exact) e, refl)
 
-pub applied : (judged : ℕ) (exact slot : List ℕ) (answer : SlotAnswer) (after : List ℕ) → judged ≡ 0 → 256 ≤ length slot → CallInSlot judged exact slot answer after
+pub applied : (judged : ℕ) (exact slot : List ℕ) (answer : SlotAnswer) (after : List ℕ) → judged ≡ 0 → 256 ≤ length slot
+    → CallInSlot judged exact slot answer after
     → Given exact after answer
 unfolding slotAnswer slotAfter begins
 applied judged exact slot answer after z room h =
@@ -128,7 +129,8 @@ module _ (a slot : List ℕ) (answer : SlotAnswer) (after : List ℕ) (room : 25
   did-fall e h = rw e (applied (listFault a) (exactOfOne falling a) slot answer after ok room h)
 
   pub did-ton : (n d : ℕ) → o ≡ ton n → ticksOf o ≤ M → d ≡ n % 4294967296
-      → CallInSlot (firstOf (listFault a) (lengthFault d)) (exactOfDelay (TON d) d a) slot answer after → Given (unaryExact o a) after answer
+      → CallInSlot (firstOf (listFault a) (lengthFault d)) (exactOfDelay (TON d) d a) slot answer after → Given
+      (unaryExact o a) after answer
   did-ton n d e t q h =
       let b : n ≤ M = rw e at t in
       let s : d ≡ n = omega arith in
@@ -136,18 +138,22 @@ module _ (a slot : List ℕ) (answer : SlotAnswer) (after : List ℕ) (room : 25
       rw e (applied (firstOf (listFault a) (lengthFault n)) (exactOfDelay (TON n) n a) slot answer after (delay-ok a n ok b) room h′)
 
   pub did-tof : (n d : ℕ) → o ≡ tof n → ticksOf o ≤ M → d ≡ n % 4294967296
-      → CallInSlot (firstOf (listFault a) (lengthFault d)) (exactOfDelay (TOF d) d a) slot answer after → Given (unaryExact o a) after answer
+      → CallInSlot (firstOf (listFault a) (lengthFault d)) (exactOfDelay (TOF d) d a) slot answer after → Given
+      (unaryExact o a) after answer
   did-tof n d e t q h =
       let b : n ≤ M = rw e at t in
       let s : d ≡ n = omega arith in
       let h′ = rw s at h in
       rw e (applied (firstOf (listFault a) (lengthFault n)) (exactOfDelay (TOF n) n a) slot answer after (delay-ok a n ok b) room h′)
 
-module _ (a b slot : List ℕ) (answer : SlotAnswer) (after : List ℕ) (room : 256 ≤ length slot) (ok : listFault a ≡ 0) (ok2 : listFault b ≡ 0) (o : Binary) where
-  pub did-and : o ≡ and → CallInSlot (pairFault a b) (exactOfTwo (connective AND-table) a b) slot answer after → Given (binaryExact o a b) after answer
+module _ (a b slot : List ℕ) (answer : SlotAnswer) (after : List ℕ) (room : 256 ≤ length slot) (ok : listFault a ≡ 0)
+    (ok2 : listFault b ≡ 0) (o : Binary) where
+  pub did-and : o ≡ and → CallInSlot (pairFault a b) (exactOfTwo (connective AND-table) a b) slot answer after → Given
+      (binaryExact o a b) after answer
   did-and e h = rw e (applied (pairFault a b) _ slot answer after (pair-ok a b ok ok2) room h)
 
-  pub did-or : o ≡ or → CallInSlot (pairFault a b) (exactOfTwo (connective OR-table) a b) slot answer after → Given (binaryExact o a b) after answer
+  pub did-or : o ≡ or → CallInSlot (pairFault a b) (exactOfTwo (connective OR-table) a b) slot answer after → Given
+      (binaryExact o a b) after answer
   did-or e h = rw e (applied (pairFault a b) _ slot answer after (pair-ok a b ok ok2) room h)
 
   pub did-sr : o ≡ sr → CallInSlot (pairFault a b) (exactOfTwo SR a b) slot answer after → Given (binaryExact o a b) after answer

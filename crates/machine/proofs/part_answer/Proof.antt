@@ -1,9 +1,9 @@
--- `evaluation::part_answer` gives the number of each case, or the word count.
+-- `machine::part_answer` gives the number of each case, or the word count.
 use mathlib.Core.Path.{sym, ap}
-use Rattle.evaluation.specs.Machine.{partAnswer}
+use Rattle.machine.specs.Machine.{partAnswer}
 use borrow.Author.Needs.{needs}
-use Rattle.evaluation.proofs.part_answer.Statement.{statement}
-use Rattle.evaluation.proofs.part_answer.Tie as tie
+use Rattle.machine.proofs.part_answer.Statement.{statement}
+use Rattle.machine.proofs.part_answer.Tie as tie
 
 enum-known-given : tie.Need-enum-known-given
 enum-known-given c = search needs

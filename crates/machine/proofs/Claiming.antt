@@ -24,14 +24,15 @@ use Rattle.questions.specs.Questions.{impliesOf, laterLast}
 use Rattle.signals.specs.Words.{pairFault}
 use Rattle.format.specs.Reading.{sheetFault}
 use Rattle.calls.specs.OnSheet.{exactOn, signalOn, settlingDate}
-use Rattle.calls.specs.Calls.{readingFault, workFault, neededWork, partsFault, workingFault, claimFault, claimFails, claimVerdict, claimAnswer}
+use Rattle.calls.specs.Calls.{readingFault, workFault, neededWork, partsFault, workingFault, claimFault, claimFails, claimVerdict}
+use Rattle.calls.specs.Calls.{claimAnswer}
 use Rattle.calls.proofs.Settles.{settles}
 use Rattle.calls.proofs.NotRefused.{work-ok, work-short}
-use Rattle.evaluation.specs.Machine.{InSlot, WorkedOut, judgeFault, claimOnFault, ClaimOn}
+use Rattle.machine.specs.Machine.{InSlot, WorkedOut, judgeFault, claimOnFault, ClaimOn}
 use Rattle.calls.specs.Work.{firstClaimFault}
-use Rattle.evaluation.proofs.Exact.{signal-is, settled-at}
-use Rattle.evaluation.proofs.Stepping.{counted, refused-by}
-use Rattle.evaluation.proofs.SlotFacts.{short}
+use Rattle.machine.proofs.Exact.{signal-is, settled-at}
+use Rattle.machine.proofs.Stepping.{counted, refused-by}
+use Rattle.machine.proofs.SlotFacts.{short}
 use Rattle.signals.specs.Answers.{firstOf, judgedBy, verdictFor}
 use Rattle.signals.proofs.FirstFault.{first-is, next-is}
 
@@ -86,7 +87,8 @@ module _ (sheet g before after : List ℕ) (answer : Written) (w : WorkedOut she
     compare-short = let s = short (exactOn sheet (formulaTree g)) (w .stands (given .0) .accepted) in omega (arith, given .1)
 
     pub compare-done : (ok : sheetFault sheet ≡ 0) (t : Tree) (m : ℕ) → m ≤ 256 → InSlot before 0 m (exactOn sheet t) → (r : Verdict)
-        → r ≡ impliesOf (take m after) (take (256 + n - 256) (drop 256 after)) → r ≡ verdictFor (workingFault sheet g) (claimFails sheet t (formulaTree g))
+        → r ≡ impliesOf (take m after) (take (256 + n - 256) (drop 256 after)) → r ≡ verdictFor (workingFault sheet g)
+        (claimFails sheet t (formulaTree g))
     unfolding workingFault
     compare-done ok t m h s r x =
         let k : 256 + n - 256 ≡ n = omega arith in
@@ -94,7 +96,8 @@ module _ (sheet g before after : List ℕ) (answer : Written) (w : WorkedOut she
         let cut : take m (take 256 after) ≡ take m (take 256 before) = ap (take m) (w .kept) in
         let first : take m after ≡ exactOn sheet t = sym (take-take m 256 after h) ∙ cut ∙ take-take m 256 before h ∙ s .stands in
         let y : r ≡ impliesOf (exactOn sheet t) (exactOn sheet (formulaTree g)) = rw (k, second, first) at x in
-        y ∙ compared sheet ok t (formulaTree g) (s .accepted) (w .stands (given .0) .accepted) ∙ by-none (partsFault sheet (parts (formulaTree g))) _ (given .0)
+        y ∙ compared sheet ok t (formulaTree g) (s .accepted) (w .stands (given .0) .accepted) ∙ by-none
+        (partsFault sheet (parts (formulaTree g))) _ (given .0)
 
 module _ (sheet f g before after : List ℕ) (answer : Written) (w : WorkedOut sheet before after 0 (formulaTree f) answer) where
   pub judge-refused : (x : ℕ) (v : Option ℕ) → answer ≡ written.Refused x → Refused x ≡ verdictFor (judgeFault sheet f g) v
@@ -111,7 +114,8 @@ module _ (sheet f g before after : List ℕ) (answer : Written) (w : WorkedOut s
     judge-short = let s = short (exactOn sheet (formulaTree f)) (w .stands (known .0) .accepted) in omega (arith, known .1)
 
     pub judge-done : (r : Verdict)
-        → ((t : Tree) → partsFault sheet (parts t) ≡ 0 → InSlot after 0 n (exactOn sheet t) → r ≡ verdictFor (workingFault sheet g) (claimFails sheet t (formulaTree g)))
+        → ((t : Tree) → partsFault sheet (parts t) ≡ 0 → InSlot after 0 n (exactOn sheet t) → r ≡ verdictFor (workingFault sheet g)
+        (claimFails sheet t (formulaTree g)))
         → r ≡ verdictFor (judgeFault sheet f g) (claimFails sheet (formulaTree f) (formulaTree g))
     unfolding judgeFault workingFault
     judge-done r h =
@@ -129,11 +133,13 @@ module _ (sheet F G work : List ℕ) where
     unfolding claimOnFault neededWork
     on-work h =
         record {
-          answer-is = by-next (readingFault sheet G) _ _ (Refused 18) read (by-first 18 (workFault sheet (length work)) _ _ (work-short sheet (length work) h) (λ z. omega arith));
+          answer-is = by-next (readingFault sheet G) _ _ (Refused 18) read
+              (by-first 18 (workFault sheet (length work)) _ _ (work-short sheet (length work) h) (λ z. omega arith));
           kept = λ x. refl;
         }
 
-    pub on-judged : 8192 ≤ length work → (r : Verdict) (after : List ℕ) → r ≡ verdictFor (judgeFault sheet F G) (claimFails sheet (formulaTree F) (formulaTree G)) → ClaimOn sheet F G work r after
+    pub on-judged : 8192 ≤ length work → (r : Verdict) (after : List ℕ) → r ≡ verdictFor (judgeFault sheet F G)
+        (claimFails sheet (formulaTree F) (formulaTree G)) → ClaimOn sheet F G work r after
     unfolding claimOnFault neededWork
     on-judged h r after x =
         let w = work-ok sheet (length work) h in

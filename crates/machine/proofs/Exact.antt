@@ -19,7 +19,7 @@ use Rattle.format.specs.Reading.{sheetFault}
 use Rattle.calls.specs.OnSheet.{signalOn, settlingDate, exactOn}
 use Rattle.operations.specs.Calls.{partFault}
 use Rattle.calls.proofs.Settles.{settles, exact-for}
-use Rattle.evaluation.specs.Machine.{unaryExact, binaryExact, AND-table, OR-table}
+use Rattle.machine.specs.Machine.{unaryExact, binaryExact, AND-table, OR-table}
 
 and-cell : (f g : Signal) (t : ℕ) → connective AND-table f g t ≡ AND f g t
 unfolding connective cell AND
@@ -81,9 +81,11 @@ module _ (sheet : List ℕ) (ok : sheetFault sheet ≡ 0) where
       → binaryExact o (exactOn sheet t) (exactOn sheet u) ≡ exactOn sheet (binary o t u)
   unfolding exactOfTwo
   binary-exact and t u h i =
-      of-two (connective AND-table) _ t u (binary and t u) (fun-ext (and-cell (signalOn sheet t) (signalOn sheet u))) (settling .tables AND-table _ _ _ _ (settled-at t h) (settled-at u i))
+      of-two (connective AND-table) _ t u (binary and t u) (fun-ext (and-cell (signalOn sheet t) (signalOn sheet u)))
+      (settling .tables AND-table _ _ _ _ (settled-at t h) (settled-at u i))
   binary-exact or t u h i =
-      of-two (connective OR-table) _ t u (binary or t u) (fun-ext (or-cell (signalOn sheet t) (signalOn sheet u))) (settling .tables OR-table _ _ _ _ (settled-at t h) (settled-at u i))
+      of-two (connective OR-table) _ t u (binary or t u) (fun-ext (or-cell (signalOn sheet t) (signalOn sheet u)))
+      (settling .tables OR-table _ _ _ _ (settled-at t h) (settled-at u i))
   binary-exact sr t u h i = of-two SR _ t u (binary sr t u) refl (settling .sr _ _ _ _ (settled-at t h) (settled-at u i))
   binary-exact rs t u h i = of-two RS _ t u (binary rs t u) refl (settling .rs _ _ _ _ (settled-at t h) (settled-at u i))
 
@@ -92,6 +94,7 @@ module _ (sheet : List ℕ) (ok : sheetFault sheet ≡ 0) where
   unfolding partFault
   accepted-part t h = accepted-normal (exactOn sheet t) .1 (exact-for sheet ok t .normal, size (ltb 256 (length (exactOn sheet t))) refl h)
     where
-      size : (b : Bool) → ltb 256 (length (exactOn sheet t)) ≡ b → _≡_ {A = ℕ} (cond b 5 (cond (changesAfterM (exactOn sheet t)) 6 0)) 0 → length (exactOn sheet t) ≤ 256
+      size : (b : Bool) → ltb 256 (length (exactOn sheet t)) ≡ b → _≡_ {A = ℕ} (cond b 5 (cond (changesAfterM (exactOn sheet t)) 6 0)) 0
+          → length (exactOn sheet t) ≤ 256
       size true e z = absurd (omega arith)
       size false e z = ltb-false 256 (length (exactOn sheet t)) e

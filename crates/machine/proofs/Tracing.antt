@@ -8,7 +8,7 @@ use Rattle.grammar.specs.Tree.{Tree, Leaf, Unary, Binary, leaf, unary, binary}
 use Rattle.grammar.specs.Code.{Part, operand, one, two, code, work, top}
 use Rattle.grammar.proofs.Working.{worked as work-code}
 use Rattle.grammar.specs.Parts.{parts}
-use Rattle.evaluation.specs.Machine.{worked, Enough, trace}
+use Rattle.machine.specs.Machine.{worked, Enough, trace}
 
 pub traced : (t : Tree) (ps : List Part) (st : List Tree) → trace (code t ++ ps) st ≡ parts t ++ trace ps (t ∷ st)
 unfolding trace code parts
@@ -33,7 +33,8 @@ unfolding work
 work-all t = ap (λ l. work l []) (sym (append-nil (code t))) ∙ work-code t [] []
 
 -- one part
-pub work-step : (p : Part) (ps : List Part) (st : List Tree) (t : Tree) → work (p ∷ ps) st ≡ t ∷ [] → Enough p st × (work ps (worked p st) ≡ t ∷ [])
+pub work-step : (p : Part) (ps : List Part) (st : List Tree) (t : Tree) → work (p ∷ ps) st ≡ t ∷ [] → Enough p st ×
+    (work ps (worked p st) ≡ t ∷ [])
 unfolding work
 work-step (operand l) ps st t e = (tt, e)
 work-step (one o) ps [] t e = absurd (let z : _≡_ {A = ℕ} 0 1 = ap length e in omega arith)

@@ -29,9 +29,9 @@ use Rattle.format.proofs.Theorems.{lookup-gives-the-list}
 use Rattle.signals.proofs.Normal.{read-back, accepted-normal}
 use Rattle.operations.specs.Calls.{partFault}
 use Rattle.calls.specs.OnSheet.{exactOn, settlingDate, signalOn}
-use Rattle.evaluation.specs.Machine.{leafOf, leafKnown, Loaded}
-use Rattle.evaluation.proofs.SlotFacts.{short}
-use Rattle.evaluation.proofs.Putting.{words-length}
+use Rattle.machine.specs.Machine.{leafOf, leafKnown, Loaded}
+use Rattle.machine.proofs.SlotFacts.{short}
+use Rattle.machine.proofs.Putting.{words-length}
 use Rattle.signals.specs.Answers.{firstOf}
 
 pub paste-one : (d : List ℕ) (at w : ℕ) → at < length d → set d at w ≡ paste d at (w ∷ []) 1
@@ -53,7 +53,8 @@ unfolding exactOn settlingDate
 up-list sheet = constant-list true
 
 -- a name's list on the sheet, as its part there
-module _ (sheet n : List ℕ) (ok : sheetFault sheet ≡ 0) (bytes : Bytes sheet) (known : (wellNamed n ≡ true) × (among n (names (signalsOn sheet)) ≡ true)) where
+module _ (sheet n : List ℕ) (ok : sheetFault sheet ≡ 0) (bytes : Bytes sheet)
+    (known : (wellNamed n ≡ true) × (among n (names (signalsOn sheet)) ≡ true)) where
   found : lookupFault sheet n ≡ 0
   unfolding lookupFault firstOf
   found = rw (ok, known .0, known .1)
@@ -90,7 +91,8 @@ unfolding leafOf
 leaf-down text w a b = rw (ne-eqb (w % 16) 2 a, ne-eqb (w % 16) 1 b)
 
 -- the cases of loading
-pub loaded-name : (sheet text : List ℕ) (w : ℕ) (old work part name-bytes : List ℕ) (at count : ℕ) → sheetFault sheet ≡ 0 → Bytes sheet → leafKnown sheet (leafOf text w) → w % 16 ≡ 2
+pub loaded-name : (sheet text : List ℕ) (w : ℕ) (old work part name-bytes : List ℕ) (at count : ℕ) → sheetFault sheet ≡ 0 → Bytes sheet
+    → leafKnown sheet (leafOf text w) → w % 16 ≡ 2
     → name-bytes ≡ nameAt text (w / 256) (w / 16 % 16) → part ≡ lookupOf sheet name-bytes
     → count ≡ length part / 4 → work ≡ paste old at (wordsIn (length part / 4) part) count → Loaded sheet (leafOf text w) old work at count
 loaded-name sheet text w old work part nb at count ok bytes known e en ep ec ew =
@@ -100,16 +102,19 @@ loaded-name sheet text w old work part nb at count ok bytes known e en ep ec ew 
     rw (leaf-name text w e)
     (record { count-is = ec ∙ sym (words-length (length part / 4) part) ∙ ap length x; work-is = rw (← x) ew })
 
-pub name-fits : (sheet text : List ℕ) (w : ℕ) (part name-bytes : List ℕ) → sheetFault sheet ≡ 0 → Bytes sheet → leafKnown sheet (leafOf text w) → w % 16 ≡ 2
+pub name-fits : (sheet text : List ℕ) (w : ℕ) (part name-bytes : List ℕ) → sheetFault sheet ≡ 0 → Bytes sheet → leafKnown sheet
+    (leafOf text w) → w % 16 ≡ 2
     → name-bytes ≡ nameAt text (w / 256) (w / 16 % 16) → part ≡ lookupOf sheet name-bytes → length part / 4 ≤ 256
 name-fits sheet text w part nb ok bytes known e en ep =
     part-short sheet (nameAt text (w / 256) (w / 16 % 16)) ok bytes (rw (leaf-name text w e) at known) part (rw en at ep)
 
-pub loaded-up : (sheet text : List ℕ) (w : ℕ) (old work : List ℕ) (at : ℕ) → w % 16 ≡ 1 → work ≡ paste old at (1 ∷ []) 1 → Loaded sheet (leafOf text w) old work at 1
+pub loaded-up : (sheet text : List ℕ) (w : ℕ) (old work : List ℕ) (at : ℕ) → w % 16 ≡ 1 → work ≡ paste old at (1 ∷ []) 1 → Loaded sheet
+    (leafOf text w) old work at 1
 loaded-up sheet text w old work at e ew =
     rw (leaf-up text w e) (record { count-is = rw (up-list sheet); work-is = rw (up-list sheet) ew })
 
-pub loaded-down : (sheet text : List ℕ) (w : ℕ) (old work : List ℕ) (at : ℕ) → (w % 16 ≡ 2 → ⊥) → (w % 16 ≡ 1 → ⊥) → work ≡ paste old at (0 ∷ []) 1 → Loaded sheet (leafOf text w) old work at 1
+pub loaded-down : (sheet text : List ℕ) (w : ℕ) (old work : List ℕ) (at : ℕ) → (w % 16 ≡ 2 → ⊥) → (w % 16 ≡ 1 → ⊥) → work ≡ paste old at
+    (0 ∷ []) 1 → Loaded sheet (leafOf text w) old work at 1
 loaded-down sheet text w old work at a b ew =
     rw (leaf-down text w a b) (record { count-is = rw (down-list sheet); work-is = rw (down-list sheet) ew })
 
@@ -137,7 +142,8 @@ no-part-fault : (l : List ℕ) → length l ≤ 256 → changesAfterM l ≡ fals
 unfolding partFault
 no-part-fault l h e = rw (le-ltb 256 (length l) h, e)
 
-pub leaf-fault : (sheet : List ℕ) (l : Leaf) → sheetFault sheet ≡ 0 → Bytes sheet → leafKnown sheet l → partFault (exactOn sheet (leaf l)) ≡ 0
+pub leaf-fault : (sheet : List ℕ) (l : Leaf) → sheetFault sheet ≡ 0 → Bytes sheet → leafKnown sheet l → partFault
+    (exactOn sheet (leaf l)) ≡ 0
 leaf-fault sheet down ok bytes known = rw (down-list sheet) (no-part-fault (0 ∷ []) (omega arith) (on-time (0 ∷ []) small))
   where
     small : (i : ℕ) → getD (0 ∷ []) i 0 < 2 ^ 32
@@ -152,4 +158,5 @@ leaf-fault sheet (name n) ok bytes known =
     let w = part-words sheet n ok bytes known (lookupOf sheet n) refl in
     let s = part-short sheet n ok bytes known (lookupOf sheet n) refl in
     let len = words-length (length (lookupOf sheet n) / 4) (lookupOf sheet n) in
-    rw (← w) (no-part-fault (wordsIn (length (lookupOf sheet n) / 4) (lookupOf sheet n)) (omega arith) (on-time _ (wordsIn-below (length (lookupOf sheet n) / 4) (lookupOf sheet n) (lookup-bytes sheet n bytes))))
+    rw (← w) (no-part-fault (wordsIn (length (lookupOf sheet n) / 4) (lookupOf sheet n)) (omega arith)
+    (on-time _ (wordsIn-below (length (lookupOf sheet n) / 4) (lookupOf sheet n) (lookup-bytes sheet n bytes))))

@@ -29,25 +29,27 @@ use Rattle.calls.specs.Calls.{readingFault, workFault, neededWork, partsFault, 
 use Rattle.operations.specs.Calls.{roomFault}
 use Rattle.calls.proofs.Settles.{settles}
 use Rattle.calls.proofs.NotRefused.{work-ok, work-short}
-use Rattle.evaluation.specs.Machine.{InSlot, Plan, WorkedOut, Prepared, Coded, runFault, partsIn}
+use Rattle.machine.specs.Machine.{InSlot, Plan, WorkedOut, Prepared, Coded, runFault, partsIn}
 use Rattle.calls.specs.Work.{firstFault, firstClaimFault}
-use Rattle.evaluation.proofs.Exact.{signal-is, settled-at}
-use Rattle.evaluation.proofs.Stepping.{counted, refused-by}
-use Rattle.evaluation.proofs.SlotFacts.{short}
+use Rattle.machine.proofs.Exact.{signal-is, settled-at}
+use Rattle.machine.proofs.Stepping.{counted, refused-by}
+use Rattle.machine.proofs.SlotFacts.{short}
 use Rattle.signals.specs.Answers.{firstOf}
 use Rattle.signals.proofs.FirstFault.{next-is}
 
 -- handing a list over
 module _ (work out : List ℕ) (n : ℕ) (enough : n ≤ length work) where
   pub no-room : length out < n
-      → (written.Refused 7 ≡ writtenOf (roomFault (take n work) (length out)) (take n work)) × (out ≡ outputOf (roomFault (take n work) (length out)) (take n work) out)
+      → (written.Refused 7 ≡ writtenOf (roomFault (take n work) (length out)) (take n work)) ×
+      (out ≡ outputOf (roomFault (take n work) (length out)) (take n work) out)
   unfolding roomFault writtenOf outputOf
   no-room h =
       let l : length (take n work) ≡ n = length-take-le n work enough in
       (rw (l, lt-ltb (length out) n h), rw (l, lt-ltb (length out) n h))
 
   pub handed : n ≤ length out → (after : List ℕ) → after ≡ paste out 0 work n
-      → (written.Count n ≡ writtenOf (roomFault (take n work) (length out)) (take n work)) × (after ≡ outputOf (roomFault (take n work) (length out)) (take n work) out)
+      → (written.Count n ≡ writtenOf (roomFault (take n work) (length out)) (take n work)) ×
+      (after ≡ outputOf (roomFault (take n work) (length out)) (take n work) out)
   unfolding roomFault writtenOf outputOf
   handed h after e =
       let l : length (take n work) ≡ n = length-take-le n work enough in
@@ -61,7 +63,8 @@ module _ (sheet text before after : List ℕ) (answer : Written) (w : WorkedOut 
   did = w .answer-is
 
   pub run-refused : (f : ℕ) → answer ≡ written.Refused f → (out : List ℕ)
-      → (written.Refused f ≡ writtenOf (runFault sheet text (length out)) (wordsOn sheet text)) × (out ≡ outputOf (runFault sheet text (length out)) (wordsOn sheet text) out)
+      → (written.Refused f ≡ writtenOf (runFault sheet text (length out)) (wordsOn sheet text)) ×
+      (out ≡ outputOf (runFault sheet text (length out)) (wordsOn sheet text) out)
   unfolding runFault
   run-refused f e out =
       let q = refused-by (workingFault sheet text) (wordsOn sheet text) f (sym did ∙ e) in
@@ -82,15 +85,19 @@ module _ (sheet text before after : List ℕ) (answer : Written) (w : WorkedOut 
         omega (arith, q .1)
 
     pub run-counted : (out out′ : List ℕ) (r : Written)
-        → (r ≡ writtenOf (roomFault (take n after) (length out)) (take n after)) × (out′ ≡ outputOf (roomFault (take n after) (length out)) (take n after) out)
-        → (r ≡ writtenOf (runFault sheet text (length out)) (wordsOn sheet text)) × (out′ ≡ outputOf (runFault sheet text (length out)) (wordsOn sheet text) out)
+        → (r ≡ writtenOf (roomFault (take n after) (length out)) (take n after)) ×
+        (out′ ≡ outputOf (roomFault (take n after) (length out)) (take n after) out)
+        → (r ≡ writtenOf (runFault sheet text (length out)) (wordsOn sheet text)) ×
+        (out′ ≡ outputOf (runFault sheet text (length out)) (wordsOn sheet text) out)
     unfolding runFault
     run-counted out out′ r h =
         let q = counted (workingFault sheet text) (wordsOn sheet text) n (sym did ∙ e) in
-        passes-on (workingFault sheet text) (roomFault (wordsOn sheet text) (length out)) (wordsOn sheet text) out r out′ (q .0) (rw run-words at h)
+        passes-on (workingFault sheet text) (roomFault (wordsOn sheet text) (length out)) (wordsOn sheet text) out r out′ (q .0)
+        (rw run-words at h)
 
 -- the code words that preparing left
-pub coded : (sheet text codes : List ℕ) (n : ℕ) (answer : Written) → Prepared sheet text codes answer → answer ≡ written.Count n → length codes ≡ 32 → Coded sheet text codes n
+pub coded : (sheet text codes : List ℕ) (n : ℕ) (answer : Written) → Prepared sheet text codes answer → answer ≡ written.Count n
+    → length codes ≡ 32 → Coded sheet text codes n
 coded sheet text codes n answer p e l =
     let q = counted (readingFault sheet text) (codeOf text) n (sym (p .answer-is) ∙ e) in
     let f = p .few (q .0) in
@@ -101,10 +108,12 @@ coded sheet text codes n answer p e l =
       known = p .known (q .0);
     }
 
-pub read-fine : (sheet text codes : List ℕ) (n : ℕ) (answer : Written) → Prepared sheet text codes answer → answer ≡ written.Count n → readingFault sheet text ≡ 0
+pub read-fine : (sheet text codes : List ℕ) (n : ℕ) (answer : Written) → Prepared sheet text codes answer → answer ≡ written.Count n
+    → readingFault sheet text ≡ 0
 read-fine sheet text codes n answer p e = counted (readingFault sheet text) (codeOf text) n (sym (p .answer-is) ∙ e) .0
 
-pub read-refused : (sheet text codes : List ℕ) (f : ℕ) (answer : Written) → Prepared sheet text codes answer → answer ≡ written.Refused f → (readingFault sheet text ≡ f) × (f ≡ 0 → ⊥)
+pub read-refused : (sheet text codes : List ℕ) (f : ℕ) (answer : Written) → Prepared sheet text codes answer → answer ≡ written.Refused f →
+    (readingFault sheet text ≡ f) × (f ≡ 0 → ⊥)
 read-refused sheet text codes f answer p e = refused-by (readingFault sheet text) (codeOf text) f (sym (p .answer-is) ∙ e)
 
 pub plan : (sheet text codes : List ℕ) (n : ℕ) → Coded sheet text codes n → Plan sheet text codes n
@@ -132,19 +141,24 @@ module _ (sheet formula work out : List ℕ) where
     pub call-reading : (f : ℕ) → readingFault sheet formula ≡ f → (f ≡ 0 → ⊥) → Called (written.Refused f) out work
     unfolding callAnswer callOutput callFault
     call-reading f e n =
-        let a = from-sheet _ _ out (refused (readingFault sheet formula) _ (wordsOn sheet formula) out f (sym e) n) in (a .0, a .1, λ x. refl)
+        let a = from-sheet _ _ out (refused (readingFault sheet formula) _ (wordsOn sheet formula) out f (sym e) n) in
+        (a .0, a .1, λ x. refl)
 
     module _ (read : readingFault sheet formula ≡ 0) where
-      from-reading : (rest : ℕ) (r : Written) (out′ : List ℕ) → Answers rest r out′ → Answers (firstOf (sheetFault sheet) (firstOf (readingFault sheet formula) rest)) r out′
-      from-reading rest r out′ h = from-sheet _ r out′ (passes-on (readingFault sheet formula) rest (wordsOn sheet formula) out r out′ read h)
+      from-reading : (rest : ℕ) (r : Written) (out′ : List ℕ) → Answers rest r out′ → Answers
+          (firstOf (sheetFault sheet) (firstOf (readingFault sheet formula) rest)) r out′
+      from-reading rest r out′ h = from-sheet _ r out′ (passes-on (readingFault sheet formula) rest
+          (wordsOn sheet formula) out r out′ read h)
 
       pub call-work : length work < 8192 → Called (written.Refused 18) out work
       unfolding callAnswer callOutput callFault neededWork
       call-work h =
           let w = work-short sheet (length work) h in
-          let a = from-reading _ _ out (refused (workFault sheet (length work)) _ (wordsOn sheet formula) out 18 (sym w) (λ z. omega arith)) in (a .0, a .1, λ x. refl)
+          let a = from-reading _ _ out (refused (workFault sheet (length work)) _ (wordsOn sheet formula) out 18 (sym w) (λ z. omega arith))
+          in (a .0, a .1, λ x. refl)
 
-      pub call-run : 8192 ≤ length work → (r : Written) (out′ work′ : List ℕ) → Answers (runFault sheet formula (length out)) r out′ → Called r out′ work′
+      pub call-run : 8192 ≤ length work → (r : Written) (out′ work′ : List ℕ) → Answers (runFault sheet formula (length out)) r out′
+          → Called r out′ work′
       unfolding callAnswer callOutput callFault runFault firstFault neededWork
       call-run h r out′ work′ x =
           let w = work-ok sheet (length work) h in
