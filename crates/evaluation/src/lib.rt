@@ -14,7 +14,8 @@ ghost use Rattle.grammar.specs.Code.{ticksOf, operand, one, two, code};
 ghost use Rattle.machine.specs.Machine.{listWords, workWords, leafOf, unaryOf, binaryOf, leafKnown, Loaded, Given, unaryExact, binaryExact, Room, Ready, Steps, Plan, partsIn, WorkedOut, partFound, allFound, Prepared, Coded, runFault, judgeFault, InSlot, ClaimOn};
 ghost use Rattle.calls.specs.Work.{CallOfFormula, CallOfClaim};
 ghost use Rattle.signals.specs.Answers.{writtenOf, outputOf, verdictFor};
-ghost use Rattle.calls.specs.Calls.{roomFault, wordsOn, callAnswer, callOutput, claimFails, claimAnswer};
+ghost use Rattle.operations.specs.Calls.{roomFault};
+ghost use Rattle.calls.specs.Calls.{wordsOn, callAnswer, callOutput, claimFails, claimAnswer};
 ghost use Rattle.grammar.specs.Formula.{formulaTree};
 ghost use Rattle.grammar.specs.Parts.{parts};
 ghost use Rattle.calls.specs.OnSheet.{exactOn};
@@ -344,7 +345,7 @@ fn found(sheet: &[u8], text: &[u8], code: u64) -> bool
     requires { ⌜ sheetFault (now sheet) ≡ 0 ⌝ }
     ensures { λ r. ⌜ r ≡ partFound (now (sheet .entry)) (partOf (now (text .entry)) code) ⌝ }
 {
-    if code % 16 == formulas::kind::NAME {
+    if code % 16 == marks::kind::NAME {
         let place = (code / 256) as usize;
         let count = (code / 16 % 16) as usize;
         let name = name_of(text, place, count);

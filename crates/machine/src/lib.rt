@@ -1,7 +1,7 @@
 // The stack machine that the evaluator is, in specs/ and proofs/: here the answer of a step, and a part's answer.
 ghost use mathlib.Core.Path.{_≡_};
 ghost use Rattle.machine.specs.Machine.{partAnswer};
-use operations::SlotAnswer;
+use building::SlotAnswer;
 use signals::Written;
 
 // What working one part out gives: its fault or 0, the height of the stack after it and the word count of the list on top.

@@ -1,7 +1,7 @@
 -- `formulas::read` leaves as many code words as there were.
 use mathlib.Core.Path.{sym, ap, _∙_}
 use lib.ListN.{length}
-use Rattle.formulas.proofs.Storing.{code-after-length}
+use Rattle.grammar.proofs.Storing.{code-after-length}
 use borrow.Author.Needs.{needs}
 use Rattle.cases.proofs.formula_calls.read.Statement.{statement}
 use Rattle.cases.proofs.formula_calls.read.Tie as tie
