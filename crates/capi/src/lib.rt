@@ -114,7 +114,7 @@ pub extern "C" fn sgl_rs(s: &[u32], r: &[u32], out: &mut [u32]) -> u32
 pub extern "C" fn sgl_ton(d: u32, f: &[u32], out: &mut [u32]) -> u32
     ensures { λ r. ⌜ ExportedDelay (TON d) d (now (f .entry)) (now (out .entry)) r (now (out .exit)) ⌝ }
 {
-    packing::pack_written(operations::delay::ton(Length(d), f, out))
+    packing::pack_written(delays::ton(Length(d), f, out))
 }
 
 // TOF(d,f), the off-delay.
@@ -122,7 +122,7 @@ pub extern "C" fn sgl_ton(d: u32, f: &[u32], out: &mut [u32]) -> u32
 pub extern "C" fn sgl_tof(d: u32, f: &[u32], out: &mut [u32]) -> u32
     ensures { λ r. ⌜ ExportedDelay (TOF d) d (now (f .entry)) (now (out .entry)) r (now (out .exit)) ⌝ }
 {
-    packing::pack_written(operations::delay::tof(Length(d), f, out))
+    packing::pack_written(delays::tof(Length(d), f, out))
 }
 
 // Begins a sheet.
