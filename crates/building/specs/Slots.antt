@@ -9,7 +9,8 @@ use lib.ListN.{length}
 use Rattle.signals.specs.Signal.{Signal}
 use Rattle.signals.specs.Words.{listFault}
 use Rattle.signals.specs.Answers.{firstOf}
-use Rattle.operations.specs.Calls.{changesAfterM, pairFault, lengthFault, exactOfOne, exactOfTwo, exactOfDelay}
+use Rattle.operations.specs.Calls.{changesAfterM, lengthFault, exactOfOne, exactOfTwo, exactOfDelay}
+use Rattle.signals.specs.Words.{pairFault}
 use Rattle.building.specs.Building.{slotWith}
 use Rattle.building.specs.declared.Made.{Made}
 use Rattle.building.specs.declared.SlotAnswer.{SlotAnswer}

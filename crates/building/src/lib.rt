@@ -10,7 +10,7 @@ use signals::M;
 use signals::Written;
 
 // The most words that an answer has.
-pub const WORDS: usize = 256;
+pub const WORDS: usize = signals::WORDS;
 
 // The answer being built in a slot: the value after its last word, its words counted, and whether one is dated after M.
 pub struct Made {

@@ -30,7 +30,7 @@ use signals::Written;
 pub const WORK_WORDS: usize = 8192;
 
 // The words of a slot of the work area: the most that a list has.
-const LIST_WORDS: usize = 256;
+const LIST_WORDS: usize = signals::WORDS;
 
 // How many kinds of parts there are.
 const KINDS: u64 = 12;

@@ -17,17 +17,6 @@ use Rattle.format.specs.Walk.{Whole}
 use Rattle.format.specs.declared.Place.{Place}
 use Rattle.format.specs.declared.Place.the-variants.{At, Refused}
 
--- a word changes nothing, by its two values
-pub unchanged : (before at after : Bool) (w : ℕ) → at ≡ valueAt w → after ≡ valueAfter w
-    → cond before (cond at after false) (cond at false (not after)) ≡ changesNothing before w
-unfolding changesNothing
-unchanged true true true w p q = sym (rw (← p, ← q))
-unchanged true true false w p q = sym (rw (← p, ← q))
-unchanged true false after w p q = sym (rw (← p))
-unchanged false true after w p q = sym (rw (← p))
-unchanged false false true w p q = sym (rw (← p, ← q))
-unchanged false false false w p q = sym (rw (← p, ← q))
-
 pub sub-step : (n i : ℕ) → i < n → n - i ≡ suc (n - (i + 1))
 sub-step n i h = omega arith
 
@@ -109,10 +98,6 @@ module _ (sheet : List ℕ) (at n i : ℕ) (h : i < n) (p : at ≤ length sheet)
 
   pub whole-next : Whole (n - (i + 1)) (drop (at + signalSize (drop at sheet)) sheet)
   whole-next = rw drop-drop at (whole-step n i (drop at sheet) h w .1)
-
-pub unchanged-as : (before at after r : Bool) (w : ℕ) → at ≡ valueAt w → after ≡ valueAfter w
-    → r ≡ cond before (cond at after false) (cond at false (not after)) → r ≡ changesNothing before w
-unchanged-as before at after r w p q h = h ∙ unchanged before at after w p q
 
 -- the word count and the size of the signal at a place
 pub count-at : (s : List ℕ) (at r : ℕ) → r ≡ low16 (drop (at + 8) s) → r ≡ wordCount (drop at s)

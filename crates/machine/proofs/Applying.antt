@@ -14,7 +14,8 @@ use Rattle.signals.specs.Words.{listFault}
 use Rattle.signals.specs.Answers.{writtenOf}
 use Rattle.signals.specs.declared.Written.{Written}
 use Rattle.signals.specs.declared.Written.the-variants.{Count, Refused}
-use Rattle.operations.specs.Calls.{pairFault, lengthFault, exactOfOne, exactOfTwo, exactOfDelay, changesAfterM}
+use Rattle.operations.specs.Calls.{lengthFault, exactOfOne, exactOfTwo, exactOfDelay, changesAfterM}
+use Rattle.signals.specs.Words.{pairFault}
 use Rattle.building.specs.Slots.{begins, builtAnswer, slotAnswer, slotAfter, CallInSlot}
 use Rattle.building.specs.declared.SlotAnswer.{SlotAnswer}
 use Rattle.building.specs.declared.SlotAnswer.the-variants.{Stands, TooLong, TooLate}

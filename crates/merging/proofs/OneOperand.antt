@@ -10,7 +10,8 @@ use Rattle.signals.specs.Signal.{Signal, Table, NOT, cell, connective}
 use Rattle.signals.specs.Words.{listFault, wordsFault, signalOf, lastDate, lastFrom, listOf}
 use Rattle.signals.specs.declared.Written.{Written}
 use Rattle.signals.proofs.Scan.{listOf-ext}
-use Rattle.operations.specs.Calls.{pairFault, exactOfOne, exactOfTwo, faultOfOne, faultOfTwo, CallOfOne, CallOfTwo}
+use Rattle.operations.specs.Calls.{exactOfOne, exactOfTwo, faultOfOne, faultOfTwo, CallOfOne, CallOfTwo}
+use Rattle.signals.specs.Words.{pairFault}
 use Rattle.building.specs.Slots.{CallInSlot}
 use Rattle.building.specs.declared.SlotAnswer.{SlotAnswer}
 use Rattle.signals.specs.Answers.{firstOf}

@@ -1,9 +1,8 @@
 // The merge of two lists, and what it makes: NOT, connectives, edges and latches.
 ghost use mathlib.Core.Path.{_≡_};
-ghost use Prim.Native.Nat.{min};
 ghost use Rattle.signals.specs.Signal.{NOT, connective, rising, falling, SR, RS};
 ghost use Rattle.signals.specs.Words.{listFault};
-ghost use Rattle.operations.specs.Calls.{pairFault, exactOfTwo, CallOfOne, CallOfTwo};
+ghost use Rattle.operations.specs.Calls.{exactOfTwo, CallOfOne, CallOfTwo};
 ghost use Rattle.building.specs.Building.{Built};
 ghost use Rattle.building.specs.Slots.{SlotOfOne, SlotOfTwo};
 ghost use Rattle.showing.specs.Showing.{merged};
@@ -11,14 +10,7 @@ use building::Made;
 use building::SlotAnswer;
 use building::WORDS;
 use showing::Operation;
-use signals::Date;
 use signals::Written;
-
-fn earlier(a: Date, b: Date) -> Date
-    ensures { λ r. ⌜ r .0 ≡ min (a .0) (b .0) ⌝ }
-{
-    if a.0 < b.0 { a } else { b }
-}
 
 // The merge of two accepted lists: date by date, what the operation makes of both.
 fn merge(
@@ -42,7 +34,7 @@ fn merge(
     let mut i: usize = 1;
     let mut j: usize = 1;
     while i + j < a.len() + b.len() {
-        let date = earlier(lists::next_date(a, i), lists::next_date(b, j));
+        let date = signals::earlier(lists::next_date(a, i), lists::next_date(b, j));
         let p = lists::past(a, i, date);
         let q = lists::past(b, j, date);
         let shown = showing::date_shown(operation, table, carried, p, q);
@@ -52,17 +44,6 @@ fn merge(
         j = q.passed;
     }
     made
-}
-
-// The lists' faults, first operand first.
-fn pair_fault(a: &[u32], b: &[u32]) -> u32
-    ensures { λ r. ⌜ r ≡ pairFault (now (a .entry)) (now (b .entry)) ⌝ }
-{
-    let fault = lists::list_fault(a);
-    if fault != 0 {
-        return fault;
-    }
-    lists::list_fault(b)
 }
 
 // A merge of two lists that are judged first, its answer delivered to an output.
@@ -75,7 +56,7 @@ fn operate(
 ) -> Written
     ensures { λ r. ⌜ CallOfTwo (merged operation table) (now (a .entry)) (now (b .entry)) (now (out .entry)) r (now (out .exit)) ⌝ }
 {
-    let fault = pair_fault(a, b);
+    let fault = lists::pair_fault(a, b);
     if fault != 0 {
         return Written::Refused(fault);
     }
@@ -94,7 +75,7 @@ fn operate_in(
 ) -> SlotAnswer
     ensures { λ r. ⌜ SlotOfTwo (merged operation table) (now (a .entry)) (now (b .entry)) (now (slot .entry)) r (now (slot .exit)) ⌝ }
 {
-    let fault = pair_fault(a, b);
+    let fault = lists::pair_fault(a, b);
     if fault != 0 {
         return SlotAnswer::NotBegun;
     }

@@ -20,7 +20,8 @@ use Rattle.signals.proofs.Truth.{not-both, or-cases, or-left, or-right}
 use Rattle.signals.proofs.FirstFault.{first-assoc, first-is, next-is}
 use Rattle.signals.proofs.Checks.{Single, none-single, check-single, fault-check, passed-check, exactly}
 use Rattle.signals.proofs.ListFaults.{list-fault-range}
-use Rattle.operations.specs.Calls.{changesAfterM, partFault, roomFault, answerFault, lengthFault, pairFault}
+use Rattle.operations.specs.Calls.{changesAfterM, partFault, roomFault, answerFault, lengthFault}
+use Rattle.signals.specs.Words.{pairFault}
 use Rattle.operations.specs.Calls.{exactOfOne, exactOfTwo, exactOfDelay, faultOfOne, faultOfTwo, faultOfDelay}
 use Rattle.operations.specs.CallFaults.{Breaks5, Breaks6, Breaks7, Breaks8, AnswerChecks, CallFaultsExact}
 

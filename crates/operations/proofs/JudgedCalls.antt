@@ -8,7 +8,7 @@ use Rattle.signals.specs.Answers.{firstOf, writtenOf, outputOf}
 use Rattle.signals.specs.declared.Written.{Written}
 use Rattle.signals.specs.declared.Written.the-variants.{Refused}
 use Rattle.signals.proofs.FirstFault.{both-none, first-is, next-is}
-use Rattle.operations.specs.Calls.{pairFault}
+use Rattle.signals.specs.Words.{pairFault}
 
 pub pair-none : (a b : List ℕ) → pairFault a b ≡ 0 → (listFault a ≡ 0) × (listFault b ≡ 0)
 unfolding pairFault

@@ -9,7 +9,7 @@ use Rattle.signals.specs.Answers.{firstOf, writtenOf, outputOf}
 use Rattle.signals.specs.declared.Written.{Written}
 use Rattle.signals.specs.Moment.{M}
 use Rattle.signals.specs.Signal.{Signal}
-use Rattle.signals.specs.Words.{dateOf, listFault, signalOf, lastDate, listOf}
+use Rattle.signals.specs.Words.{dateOf, listFault, pairFault, signalOf, lastDate, listOf}
 
 -- a word of the list is dated after M
 unfoldable pub changesAfterM : List ℕ → Bool
@@ -31,10 +31,6 @@ answerFault exact n = firstOf (partFault exact) (roomFault exact n)
 -- 8: the length is above M
 unfoldable pub lengthFault : ℕ → ℕ
 lengthFault d = cond (ltb M d) 8 0
-
--- the lists' faults, first operand first
-unfoldable pub pairFault : List ℕ → List ℕ → ℕ
-pairFault a b = firstOf (listFault a) (listFault b)
 
 -- The exact answers: the normal list of the defined signal, to the date from which it is constant.
 unfoldable pub exactOfOne : (Signal → Signal) → List ℕ → List ℕ

@@ -2,7 +2,6 @@
 ghost use mathlib.Core.Path.{_≡_};
 ghost use Prim.Native.Nat.{_+_, _*_, _≤_, _<_};
 ghost use lib.ListN.{length, take, drop};
-ghost use Rattle.signals.specs.Words.{changesNothing};
 ghost use Rattle.format.specs.Names.{among};
 ghost use Rattle.format.specs.Reading.{wordCount, signalSize, sheetWordsFault, signalFault, frontFault, sheetFault, signalsFrom, names};
 ghost use Rattle.format.specs.Calls.{placeFrom, placeOf, lookupFault};
@@ -18,7 +17,7 @@ pub const VERSION: usize = 1;
 // A sheet has at most so many signals, and a signal so many words.
 pub const MOST_SIGNALS: usize = 32;
 
-const MOST_WORDS: usize = 256;
+const MOST_WORDS: usize = signals::WORDS;
 
 // Where on a sheet the version, the count of signals and the first signal stand.
 pub const VERSION_AT: usize = 3;
@@ -58,22 +57,6 @@ fn signal_size(sheet: &[u8], at: usize) -> usize
     WORDS_AT + WORD_BYTES * word_count(sheet, at)
 }
 
-// Both values of the word equal the value before it.
-fn changes_nothing(before: bool, word: u32) -> bool
-    ensures { λ r. ⌜ r ≡ changesNothing before word ⌝ }
-{
-    let at = word / 2 % 2 == 1;
-    let after = word % 2 == 1;
-    if before {
-        if at { after } else { false }
-    } else {
-        if at {
-            return false;
-        }
-        !after
-    }
-}
-
 // The fault of the n words of a signal that start at a place: each is judged before the next is read.
 fn words_fault(s: &[u8], from: usize, n: usize) -> u32
     requires { ⌜ from ≤ length (now s) ⌝ }
@@ -98,7 +81,7 @@ fn words_fault(s: &[u8], from: usize, n: usize) -> u32
         if word / 4 <= last {
             return 17;
         }
-        if changes_nothing(before, word) {
+        if signals::changes_nothing(before, word) {
             return 17;
         }
         last = word / 4;

@@ -1,7 +1,7 @@
 // What the merge of two lists shows at gap 0 and at each date: a connective, an edge or a latch.
 ghost use mathlib.Core.Path.{_≡_};
 ghost use mathlib.Core.Bool.{not, _&&_, _||_};
-ghost use Rattle.signals.specs.Signal.{num, cell};
+ghost use Rattle.signals.specs.Signal.{cell};
 ghost use Rattle.signals.specs.LatchSteps.{atStep, gapStep, shown};
 ghost use Rattle.showing.specs.Showing.{latchFirst, latchShown, firstShown, dateShown};
 use lists::Step;
@@ -22,18 +22,12 @@ pub struct Shown {
     pub carried: bool,
 }
 
-fn index(v: bool) -> usize
-    ensures { λ r. ⌜ r ≡ num v ⌝ }
-{
-    if v { 1 } else { 0 }
-}
-
 // Row by the first operand, column by the second.
 fn cell_of(table: [[bool; 2]; 2], p: bool, q: bool) -> bool
     ensures { λ r. ⌜ r ≡ cell table p q ⌝ }
 {
-    let row = index(p);
-    let column = index(q);
+    let row = signals::index(p);
+    let column = signals::index(q);
     table[row][column]
 }
 
