@@ -99,7 +99,8 @@ replace-own (unary o t) n new h = rw (le-ltb n (size t) (omega arith))
 replace-own (binary o t u) n new h =
     rw (le-ltb n (size t) (omega arith), le-ltb n (size t + size u) (omega arith))
 
-replace-in : (c : Surroundings) (part : Tree) (n : ℕ) (new : Tree) → n + 1 ≡ earlier c + size part → replaceAt (around c part) n new ≡ around c new
+replace-in : (c : Surroundings) (part : Tree) (n : ℕ) (new : Tree) → n + 1 ≡ earlier c + size part →
+    replaceAt (around c part) n new ≡ around c new
 unfolding around earlier replaceAt
 replace-in whole part n new h = replace-own part n new (omega arith)
 replace-in (under o c) part n new h =
@@ -155,7 +156,8 @@ spot (unary o t) n h = go (ltb n (size t)) refl (spot t n)
         record { surroundings = whole; part = unary o t; same = refl; counted = omega arith }
 spot (binary o t u) n h = go (ltb n (size t)) refl (ltb n (size t + size u)) refl (spot t n) (spot u (n - size t))
   where
-    go : (b : Bool) → ltb n (size t) ≡ b → (b2 : Bool) → ltb n (size t + size u) ≡ b2 → (n < size t → Spot t n) → (n - size t < size u → Spot u (n - size t)) → Spot (binary o t u) n
+    go : (b : Bool) → ltb n (size t) ≡ b → (b2 : Bool) → ltb n (size t + size u) ≡ b2 → (n < size t → Spot t n) →
+        (n - size t < size u → Spot u (n - size t)) → Spot (binary o t u) n
     go true e b2 e2 rec rec2 =
         let x = rec (ltb-true n (size t) e) in
         record {

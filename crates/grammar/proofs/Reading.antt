@@ -1,4 +1,5 @@
--- The reader accepts exactly the bytes that the grammar derives, with that tree and depth; each fault is given exactly when its sentence holds.
+-- The reader accepts exactly the bytes that the grammar derives, with that tree and depth; each fault is given exactly when its sentence
+-- holds.
 use Prim.Native.Nat.{ℕ, _+_, _*_, _≤_, _<_, max}
 use native.Mathlib.Omega.{arith}
 use mathlib.Core.Path.{_≡_, refl, sym, ap, _∙_, subst}
@@ -83,7 +84,8 @@ unfolding longest
 longest-in m (leaf l) h = absurd (omega arith)
 longest-in m (unary o t) h = go o (ltb m (longest t)) refl (longest-in m t) h
   where
-    go : (o : Unary) (z : Bool) → ltb m (longest t) ≡ z → (m < longest t → (n : ℕ) × LengthIn n t × (m < n)) → m < max (longest t) (ticksOf o) → (n : ℕ) × LengthIn n (unary o t) × (m < n)
+    go : (o : Unary) (z : Bool) → ltb m (longest t) ≡ z → (m < longest t → (n : ℕ) × LengthIn n t × (m < n)) →
+        m < max (longest t) (ticksOf o) → (n : ℕ) × LengthIn n (unary o t) × (m < n)
     go o true z ih h = let r = ih (ltb-true m (longest t) z) in (r .0, under (r .1), r .2)
     go (ton n) false z ih h = let k = ltb-false m (longest t) z in (n, of-ton, omega arith)
     go (tof n) false z ih h = let k = ltb-false m (longest t) z in (n, of-tof, omega arith)
@@ -92,7 +94,8 @@ longest-in m (unary o t) h = go o (ltb m (longest t)) refl (longest-in m t) h
     go fall false z ih h = let k = ltb-false m (longest t) z in absurd (omega arith)
 longest-in m (binary o t u) h = go (ltb m (longest t)) refl (longest-in m t) (longest-in m u)
   where
-    go : (z : Bool) → ltb m (longest t) ≡ z → (m < longest t → (n : ℕ) × LengthIn n t × (m < n)) → (m < longest u → (n : ℕ) × LengthIn n u × (m < n)) → (n : ℕ) × LengthIn n (binary o t u) × (m < n)
+    go : (z : Bool) → ltb m (longest t) ≡ z → (m < longest t → (n : ℕ) × LengthIn n t × (m < n)) →
+        (m < longest u → (n : ℕ) × LengthIn n u × (m < n)) → (n : ℕ) × LengthIn n (binary o t u) × (m < n)
     go true z f g = let r = f (ltb-true m (longest t) z) in (r .0, first (r .1), r .2)
     go false z f g = let k = ltb-false m (longest t) z in let r = g (omega arith) in (r .0, second (r .1), r .2)
 
@@ -169,8 +172,10 @@ refused-of w e = derived-of w (not-false (accepted w) e)
 pub faults-exact : FaultsExact
 unfolding formulaFault
 faults-exact w =
-    faults (eqb (length w) 0 || ltb 1024 (length w)) (not (accepted w)) (ltb M (longestOf w)) (ltb 32 (length (partsOf w)) || ltb 16 (depthOf w))
-    (λ e. ⊎-elim (λ h. inl (eqb-true (length w) 0 h)) (λ h. inr (ltb-true 1024 (length w) h)) (or-cases (eqb (length w) 0) (ltb 1024 (length w)) e))
+    faults (eqb (length w) 0 || ltb 1024 (length w)) (not (accepted w)) (ltb M (longestOf w))
+    (ltb 32 (length (partsOf w)) || ltb 16 (depthOf w))
+    (λ e. ⊎-elim (λ h. inl (eqb-true (length w) 0 h)) (λ h. inr (ltb-true 1024 (length w) h))
+    (or-cases (eqb (length w) 0) (ltb 1024 (length w)) e))
     (λ e. ⊎-elim (eqb-false (length w) 0 (or-left (eqb (length w) 0) (ltb 1024 (length w)) e))
     (λ h. let k = ltb-false 1024 (length w) (or-right (eqb (length w) 0) (ltb 1024 (length w)) e) in omega arith))
     (λ e t d x. never (sym (not-true (accepted w) e) ∙ accepted-of w t d x))
@@ -188,8 +193,13 @@ faults-exact w =
     (λ b e.
     let g = refused-of w b in
     let p = ap length (parts-exact w (g .0) (g .1) (g .2)) in
-    let q = depth-of w (g .0) (g .1) (g .2) in
-    (g .0, g .1, g .2, ⊎-elim (λ h. inl (let k = ltb-true 32 (length (partsOf w)) h in omega arith)) (λ h. inr (let k = ltb-true 16 (depthOf w) h in omega arith)) (or-cases (ltb 32 (length (partsOf w))) (ltb 16 (depthOf w)) e)))
+    let q = depth-of w (g .0) (g .1) (g .2) in (
+      g .0,
+      g .1,
+      g .2,
+      ⊎-elim (λ h. inl (let k = ltb-true 32 (length (partsOf w)) h in omega arith))
+          (λ h. inr (let k = ltb-true 16 (depthOf w) h in omega arith)) (or-cases (ltb 32 (length (partsOf w))) (ltb 16 (depthOf w)) e),
+    ))
     (λ e x.
     let p = ap length (parts-exact w (x .0) (x .1) (x .2)) in
     let q = depth-of w (x .0) (x .1) (x .2) in

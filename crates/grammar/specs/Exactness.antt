@@ -63,7 +63,8 @@ Eight w = (t : Tree) × (d : ℕ) × (n : ℕ) × Sum w t d × LengthIn n t × (
 abbrev pub Twelve : List ℕ → Type 0
 Twelve w = (t : Tree) × (d : ℕ) × Sum w t d × ((32 < length (code t)) ⊎ (16 < d))
 
--- Each fault is given exactly when its sentence holds and none before it does, in the order 10, 11, 8, 12; and none exactly when none holds.
+-- Each fault is given exactly when its sentence holds and none before it does, in the order 10, 11, 8, 12; and none exactly when none
+-- holds.
 abbrev pub FaultsExact : Type 0
 FaultsExact =
     (w : List ℕ) →
