@@ -1,7 +1,7 @@
 -- Places in working-out order and surroundings: each part is found and replaced at its place, and each place has a part.
 use Prim.Native.Nat.{ℕ, _+_, _-_, _≤_, _<_}
 use native.Mathlib.Omega.{arith}
-use mathlib.Core.Path.{_≡_, refl, sym, _∙_, ap}
+use mathlib.Core.Path.{_≡_, refl, sym, _∙_, ap, subst}
 use mathlib.Core.Bool.{Bool, true, false}
 use mathlib.Core.List.{List, [], _∷_, _++_, append-assoc}
 use lib.Dec.{ltb}
@@ -74,8 +74,9 @@ split whole part = rw (zero-plus (size part)) (split-own part)
 split (under o c) part = split-then (unary o (around c part) ∷ []) (split c part)
 split (onLeft o c u) part = split-then (parts u ++ (binary o (around c part) u ∷ [])) (split c part)
 split (onRight o t c) part =
-    let sum : size t + earlier c + size part ≡ length (parts t) + (earlier c + size part) = omega (arith, length-parts t) in
-    rw sum (split-after (parts t) (split-then (binary o t (around c part) ∷ []) (split c part)))
+    let sum : length (parts t) + (earlier c + size part) ≡ size t + earlier c + size part = omega (arith, length-parts t) in
+    subst (λ (n : ℕ). Split (parts (binary o t (around c part))) part n) sum
+    (split-after (parts t) (split-then (binary o t (around c part) ∷ []) (split c part)))
 
 -- a part's place comes before the end of the tree
 pub fits : (c : Surroundings) (part : Tree) → earlier c + size part ≤ size (around c part)
