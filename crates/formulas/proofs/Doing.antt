@@ -40,13 +40,26 @@ view-length text m code = go (eqb (nextMark text m) 48) refl (digit (nextMark te
     go false y true e = rw (y, e, length-some text m e) refl
     go false y false e = rw (y, e) refl
 
-pub view-put : (m : Mark) (w deep k : ℕ) (code : List ℕ) → (m .ok ≡ true → m .parts < length code) → viewOf (putMark m deep k) (putCode m w code) ≡ put w deep k (viewOf m code)
+pub view-put : (m : Mark) (w deep k : ℕ) (code : List ℕ) → (m .ok ≡ true → m .parts < length code) →
+    viewOf (putMark m deep k) (putCode m w code) ≡ put w deep k (viewOf m code)
 unfolding putMark putCode put
 view-put m w deep k code h = go (m .ok) refl
   where
     go : (z : Bool) → m .ok ≡ z →
-        viewOf (cond z (record { ok = true; at = m .at; parts = m .parts + 1; deepest = max (m .deepest) deep; longest = max (m .longest) k }) m) (cond z (set code (m .parts) w) code)
-        ≡ cond z (record { ok = true; at = m .at; out = take (m .parts) code ++ (w ∷ []); deepest = max (m .deepest) deep; longest = max (m .longest) k }) (viewOf m code)
+        viewOf (cond z (record {
+          ok = true;
+          at = m .at;
+          parts = m .parts + 1;
+          deepest = max (m .deepest) deep;
+          longest = max (m .longest) k;
+        }) m) (cond z (set code (m .parts) w) code)
+        ≡ cond z (record {
+          ok = true;
+          at = m .at;
+          out = take (m .parts) code ++ (w ∷ []);
+          deepest = max (m .deepest) deep;
+          longest = max (m .longest) k;
+        }) (viewOf m code)
     go true z = state-eq refl refl (rw add-one (take-suc-set code (m .parts) w (h z))) refl refl
     go false z = refl
 
@@ -101,7 +114,14 @@ pub put-is : (m : Mark) (deep k : ℕ) → Put m (putMark m deep k)
 unfolding putMark
 put-is m deep k = go (m .ok) refl
   where
-    go : (z : Bool) → m .ok ≡ z → Put m (cond z (record { ok = true; at = m .at; parts = m .parts + 1; deepest = max (m .deepest) deep; longest = max (m .longest) k }) m)
+    go : (z : Bool) → m .ok ≡ z →
+        Put m (cond z (record {
+          ok = true;
+          at = m .at;
+          parts = m .parts + 1;
+          deepest = max (m .deepest) deep;
+          longest = max (m .longest) k;
+        }) m)
     go true z = record { at = refl; most = omega arith; bad = λ h. never (sym h ∙ z) }
     go false z = record { at = refl; most = omega arith; bad = λ h. refl }
 
@@ -111,30 +131,54 @@ put-room m w code = by-cond (λ (l : List ℕ). length l ≡ length code) (m .ok
 
 module _ {text old : List ℕ} {m : Mark} {deep : ℕ} where
   -- a reader may go on where another left off
-  pub ready-on : {F : ℕ → State ℕ → State ℕ} {level : ℕ} {new : List ℕ} {r : Mark} → Ready text old m deep → Done F level text m old new r → Ready text new r deep
+  pub ready-on : {F : ℕ → State ℕ → State ℕ} {level : ℕ} {new : List ℕ} {r : Mark} → Ready text old m deep →
+      Done F level text m old new r → Ready text new r deep
   ready-on g d =
-      record { short = g .short; room = d .room; within = d .within; fewer = omega (arith, g .fewer, d .few); opened = omega (arith, g .opened, d .on) }
+      record {
+        short = g .short;
+        room = d .room;
+        within = d .within;
+        fewer = omega (arith, g .fewer, d .few);
+        opened = omega (arith, g .opened, d .on);
+      }
 
-  pub ready-deeper : {F : ℕ → State ℕ → State ℕ} {level : ℕ} {new : List ℕ} {r : Mark} → Ready text old m deep → Done F level text m old new r → m .at < r .at → Ready text new r (deep + 1)
+  pub ready-deeper : {F : ℕ → State ℕ → State ℕ} {level : ℕ} {new : List ℕ} {r : Mark} → Ready text old m deep →
+      Done F level text m old new r → m .at < r .at → Ready text new r (deep + 1)
   ready-deeper g d h =
-      record { short = g .short; room = d .room; within = d .within; fewer = omega (arith, g .fewer, d .few); opened = omega (arith, g .opened, h) }
+      record {
+        short = g .short;
+        room = d .room;
+        within = d .within;
+        fewer = omega (arith, g .fewer, d .few);
+        opened = omega (arith, g .opened, h);
+      }
 
   pub starting : (level : ℕ) → Ready text old m deep → Done (λ n s. s) level text m old old m
   starting level g = record { same = λ n h. refl; room = g .room; within = g .within; on = omega arith; few = omega arith }
 
 module _ {text old : List ℕ} {m : Mark} {G : ℕ → State ℕ → State ℕ} {level : ℕ} {mid : List ℕ} {x : Mark} where
   pub turned : {new : List ℕ} {r : Mark} → new ≡ mid → r ≡ x → Done G level text m old mid x → Done G level text m old new r
-  turned {new} {r} e f d = subst (λ (l : List ℕ). Done G level text m old l r) (sym e) (subst (λ (y : Mark). Done G level text m old mid y) (sym f) d)
+  turned {new} {r} e f d =
+      subst (λ (l : List ℕ). Done G level text m old l r) (sym e) (subst (λ (y : Mark). Done G level text m old mid y) (sym f) d)
 
-  pub moving-by : (k : ℕ) → Done G level text m old mid x → x .at + k ≤ length text → Done (λ n s. stepped k (G n s)) level text m old mid (movedMark x (x .at + k))
+  pub moving-by : (k : ℕ) → Done G level text m old mid x → x .at + k ≤ length text →
+      Done (λ n s. stepped k (G n s)) level text m old mid (movedMark x (x .at + k))
   unfolding stepped
   moving-by k d h =
-      record { same = λ n j. ap (stepped k) (d .same n j); room = d .room; within = h; on = omega (arith, d .on); few = omega (arith, d .few) }
+      record {
+        same = λ n j. ap (stepped k) (d .same n j);
+        room = d .room;
+        within = h;
+        on = omega (arith, d .on);
+        few = omega (arith, d .few);
+      }
 
-  pub moving : Done G level text m old mid x → x .at < length text → Done (λ n s. stepped 1 (G n s)) level text m old mid (movedMark x (x .at + 1))
+  pub moving : Done G level text m old mid x → x .at < length text →
+      Done (λ n s. stepped 1 (G n s)) level text m old mid (movedMark x (x .at + 1))
   moving d h = moving-by 1 d (omega arith)
 
-  pub expecting : (b : ℕ) → 0 < b → Done G level text m old mid x → Done (λ n s. expect text b (G n s)) level text m old mid (expectMark text b x)
+  pub expecting : (b : ℕ) → 0 < b → Done G level text m old mid x →
+      Done (λ n s. expect text b (G n s)) level text m old mid (expectMark text b x)
   expecting b pos d =
       let e = expected text b pos x in
       record {
@@ -156,7 +200,8 @@ module _ {text old : List ℕ} {m : Mark} {G : ℕ → State ℕ → State ℕ} 
         few = omega (arith, d .few, e .parts, e .on);
       }
 
-  pub calling : {F : ℕ → State ℕ → State ℕ} {lev : ℕ} {new : List ℕ} {r : Mark} → Done G level text m old mid x → Done F lev text x mid new r →
+  pub calling : {F : ℕ → State ℕ → State ℕ} {lev : ℕ} {new : List ℕ} {r : Mark} → Done G level text m old mid x →
+      Done F lev text x mid new r →
       5 * (length text - x .at) + lev ≤ 5 * (length text - m .at) + level → Done (λ n s. F n (G n s)) level text m old new r
   calling {F} d e h =
       record {
@@ -168,15 +213,18 @@ module _ {text old : List ℕ} {m : Mark} {G : ℕ → State ℕ → State ℕ} 
       }
 
   -- a part that has a byte of its own may be put out
-  pub roomy : {deep : ℕ} → Ready text old m deep → Done G level text m old mid x → (x .ok ≡ true → x .parts + m .at + 1 ≤ m .parts + x .at) → x .ok ≡ true → x .parts < 1024
+  pub roomy : {deep : ℕ} → Ready text old m deep → Done G level text m old mid x →
+      (x .ok ≡ true → x .parts + m .at + 1 ≤ m .parts + x .at) → x .ok ≡ true → x .parts < 1024
   roomy g d h k = omega (arith, h k, g .fewer, g .short, d .within)
 
-  pub putting : {deep0 : ℕ} (w deep k : ℕ) → Ready text old m deep0 → Done G level text m old mid x → (x .ok ≡ true → x .parts + m .at + 1 ≤ m .parts + x .at) →
+  pub putting : {deep0 : ℕ} (w deep k : ℕ) → Ready text old m deep0 → Done G level text m old mid x →
+      (x .ok ≡ true → x .parts + m .at + 1 ≤ m .parts + x .at) →
       Done (λ n s. put w deep k (G n s)) level text m old (putCode x w mid) (putMark x deep k)
   putting w deep k g d h =
       let p = put-is x deep k in
       record {
-        same = λ n j. view-put x w deep k mid (λ e. subst (λ (i : ℕ). x .parts < i) (sym (d .room)) (roomy g d h e)) ∙ ap (put w deep k) (d .same n j);
+        same = λ n j. view-put x w deep k mid (λ e. subst (λ (i : ℕ). x .parts < i) (sym (d .room)) (roomy g d h e))
+            ∙ ap (put w deep k) (d .same n j);
         room = put-room x w mid ∙ d .room;
         within = omega (arith, p .at, d .within);
         on = omega (arith, p .at, d .on);
@@ -187,29 +235,34 @@ module _ {text old : List ℕ} {m : Mark} {G : ℕ → State ℕ → State ℕ} 
       go true z = let p = put-is x deep k in omega (arith, p .at, p .most, h z)
       go false z = let p = put-is x deep k in omega (arith, p .at, p .bad z, d .few)
 
-  pub put-needs : {deep : ℕ} → Ready text old m deep → Done G level text m old mid x → (x .ok ≡ true → x .parts + m .at + 1 ≤ m .parts + x .at) →
+  pub put-needs : {deep : ℕ} → Ready text old m deep → Done G level text m old mid x →
+      (x .ok ≡ true → x .parts + m .at + 1 ≤ m .parts + x .at) →
       (length mid ≡ 1024) × (x .ok ≡ true → x .parts < 1024)
   put-needs g d h = (d .room, roomy g d h)
 
   -- a sum inside a block may be read
-  pub inner-needs : (deep : ℕ) {t : ℕ} → Ready text old m (deep + 1) → Done G level text m old mid x → 5 * (length text - m .at) + deep + 6 ≡ t →
+  pub inner-needs : (deep : ℕ) {t : ℕ} → Ready text old m (deep + 1) → Done G level text m old mid x →
+      5 * (length text - m .at) + deep + 6 ≡ t →
       (5 * (length text - x .at) + (deep + 1) + 4 < t) × Ready text mid x (deep + 1)
   inner-needs deep g d h = (omega (arith, d .on, d .within), ready-on g d)
 
   -- what stands before a bracket that was closed leaves the bracket's byte to a part
-  pub closing : {r : Mark} → Done G level text m old mid x → r ≡ expectMark text 41 x → r .ok ≡ true → r .parts + m .at + 1 ≤ m .parts + r .at
+  pub closing : {r : Mark} → Done G level text m old mid x → r ≡ expectMark text 41 x → r .ok ≡ true →
+      r .parts + m .at + 1 ≤ m .parts + r .at
   closing {r} d q h =
       let e = expected text 41 (omega arith) x in
       let a : r .at ≡ (expectMark text 41 x) .at = ap (λ (j : Mark). j .at) q in
       let b : r .parts ≡ (expectMark text 41 x) .parts = ap (λ (j : Mark). j .parts) q in
       omega (arith, e .eaten (ap (λ (j : Mark). j .ok) (sym q) ∙ h), e .parts, d .few)
 
-  pub finishing : {F : ℕ → State ℕ → State ℕ} → Done G level text m old mid x → ((n : ℕ) → F (suc n) (viewOf m old) ≡ G n (viewOf m old)) → Done F (suc level) text m old mid x
+  pub finishing : {F : ℕ → State ℕ → State ℕ} → Done G level text m old mid x → ((n : ℕ) → F (suc n) (viewOf m old) ≡ G n (viewOf m old)) →
+      Done F (suc level) text m old mid x
   finishing {F} d e = record { same = with-fuel; room = d .room; within = d .within; on = d .on; few = d .few }
     where
       with-fuel : (n : ℕ) → 5 * (length text - m .at) + suc level ≤ n → viewOf x mid ≡ F n (viewOf m old)
       with-fuel zero h = absurd (omega arith)
       with-fuel (suc n) h = d .same n (omega arith) ∙ sym (e n)
 
-  pub becoming : {F : ℕ → State ℕ → State ℕ} → Done G level text m old mid x → ((n : ℕ) → F n (viewOf m old) ≡ G n (viewOf m old)) → Done F level text m old mid x
+  pub becoming : {F : ℕ → State ℕ → State ℕ} → Done G level text m old mid x → ((n : ℕ) → F n (viewOf m old) ≡ G n (viewOf m old)) →
+      Done F level text m old mid x
   becoming d e = record { same = λ n h. d .same n h ∙ sym (e n); room = d .room; within = d .within; on = d .on; few = d .few }

@@ -64,7 +64,8 @@ module _ (text old : List ℕ) (m : Mark) (deep : ℕ) (g : Ready text old m dee
       after : (w k n : ℕ) → k ≡ n → put w deep 0 (stepped k (viewOf m old)) ≡ put w deep 0 (stepped n (viewOf m old))
       after w k n e = ap (λ (j : ℕ). put w deep 0 (stepped j (viewOf m old))) e
 
-      go : (p : Bool) → eqb (nextMark text m) 48 ≡ p → (q : Bool) → eqb (nextMark text m) 49 ≡ q → (r : Bool) → letter (nextMark text m) ≡ r →
+      go : (p : Bool) → eqb (nextMark text m) 48 ≡ p → (q : Bool) → eqb (nextMark text m) 49 ≡ q → (r : Bool) →
+          letter (nextMark text m) ≡ r →
           (s : Bool) → leb (count text m) 8 ≡ s → 0 < leafEnd text m →
           leafAt coded text deep (viewOf m old)
           ≡ put (leafWord (nextMark text m) (m .at) (leafEnd text m)) deep 0 (stepped (leafEnd text m - m .at) (viewOf m old))
@@ -82,7 +83,8 @@ module _ (text old : List ℕ) (m : Mark) (deep : ℕ) (g : Ready text old m dee
   leaf-none h =
       go (eqb (nextMark text m) 48) refl (eqb (nextMark text m) 49) refl (letter (nextMark text m)) refl (leb (count text m) 8) refl h
     where
-      go : (p : Bool) → eqb (nextMark text m) 48 ≡ p → (q : Bool) → eqb (nextMark text m) 49 ≡ q → (r : Bool) → letter (nextMark text m) ≡ r →
+      go : (p : Bool) → eqb (nextMark text m) 48 ≡ p → (q : Bool) → eqb (nextMark text m) 49 ≡ q → (r : Bool) →
+          letter (nextMark text m) ≡ r →
           (s : Bool) → leb (count text m) 8 ≡ s → leafEnd text m ≤ 0 → leafAt coded text deep (viewOf m old) ≡ bad (viewOf m old)
       go true p q e r f s k none = let z : m .at + 1 ≤ 0 = rw p at none in absurd (omega arith)
       go false p true e r f s k none = let z : m .at + 1 ≤ 0 = rw (p, e) at none in absurd (omega arith)

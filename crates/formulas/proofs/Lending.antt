@@ -31,11 +31,13 @@ moved l to h = five (λ (x : List ℕ). Marked (set x 1 to) (movedMark (markOf x
 
 -- the words after a part was put out, its depth and length taken into the largest
 pub stored : (l : List ℕ) (deep ticks d t : ℕ) → length l ≡ 5 → getD l 0 0 ≡ 1 → d ≡ max (getD (set l 2 (getD l 2 0 + 1)) 3 0) deep →
-    t ≡ max (getD (set (set l 2 (getD l 2 0 + 1)) 3 d) 4 0) ticks → Marked (set (set (set l 2 (getD l 2 0 + 1)) 3 d) 4 t) (putMark (markOf l) deep ticks)
+    t ≡ max (getD (set (set l 2 (getD l 2 0 + 1)) 3 d) 4 0) ticks →
+    Marked (set (set (set l 2 (getD l 2 0 + 1)) 3 d) 4 t) (putMark (markOf l) deep ticks)
 unfolding markOf putMark
 stored l deep ticks d t h =
     five
-    (λ (x : List ℕ). getD x 0 0 ≡ 1 → d ≡ max (getD (set x 2 (getD x 2 0 + 1)) 3 0) deep → t ≡ max (getD (set (set x 2 (getD x 2 0 + 1)) 3 d) 4 0) ticks →
+    (λ (x : List ℕ). getD x 0 0 ≡ 1 → d ≡ max (getD (set x 2 (getD x 2 0 + 1)) 3 0) deep →
+    t ≡ max (getD (set (set x 2 (getD x 2 0 + 1)) 3 d) 4 0) ticks →
     Marked (set (set (set x 2 (getD x 2 0 + 1)) 3 d) 4 t) (putMark (markOf x) deep ticks))
     (λ a b c f g ok qd qt. (refl, rw (eq-eqb a 1 ok, qd, qt) refl)) l h
 

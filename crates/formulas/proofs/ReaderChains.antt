@@ -15,23 +15,28 @@ use Rattle.grammar.proofs.Branches.{Chain}
 use Rattle.formulas.proofs.Doing.{view-next, put-is, ready-on, starting, turned, calling, put-needs, putting, finishing}
 use Rattle.formulas.proofs.ReaderPaths.{Step, before, one-on, past, own-byte}
 
-module _ {text : List ℕ} {deep byte kind level : ℕ} {operand rest whole : ℕ → State ℕ → State ℕ} (C : Chain coded text deep byte kind level operand rest whole)
+module _ {text : List ℕ} {deep byte kind level : ℕ} {operand rest whole : ℕ → State ℕ → State ℕ}
+    (C : Chain coded text deep byte kind level operand rest whole)
     {old : List ℕ} {m : Mark} (g : Ready text old m deep) where
-  pub first-needs : {t : ℕ} → 5 * (length text - m .at) + deep + suc level ≡ t → (5 * (length text - m .at) + deep + level < t) × Ready text old m deep
+  pub first-needs : {t : ℕ} → 5 * (length text - m .at) + deep + suc level ≡ t →
+      (5 * (length text - m .at) + deep + level < t) × Ready text old m deep
   first-needs e = (omega arith, g)
 
-  pub after-first : {t : ℕ} {mid : List ℕ} {x : Mark} → 5 * (length text - m .at) + deep + suc level ≡ t → Done operand level text m old mid x →
+  pub after-first : {t : ℕ} {mid : List ℕ} {x : Mark} → 5 * (length text - m .at) + deep + suc level ≡ t →
+      Done operand level text m old mid x →
       (5 * (length text - x .at) + deep + 1 < t) × Ready text mid x deep
   after-first e p = (omega (arith, p .on, p .within, C .above), ready-on g p)
 
-  pub whole-path : {mid new : List ℕ} {x r : Mark} → Done operand level text m old mid x → Done rest 1 text x mid new r → Done whole (suc level) text m old new r
+  pub whole-path : {mid new : List ℕ} {x r : Mark} → Done operand level text m old mid x → Done rest 1 text x mid new r →
+      Done whole (suc level) text m old new r
   whole-path p s = finishing (calling p s (omega (arith, p .on, p .within, C .above))) (λ n. C .begins n (viewOf m old))
 
   pub rest-end : eqb (nextMark text m) byte ≡ false → Done rest 1 text m old old m
   rest-end e = finishing (starting 0 g) (λ n. C .goes-on n (viewOf m old) ∙ rw (view-next text m old, e) refl)
 
 -- past the operator's byte
-module _ {text : List ℕ} {deep byte kind level : ℕ} {operand rest whole : ℕ → State ℕ → State ℕ} (C : Chain coded text deep byte kind level operand rest whole)
+module _ {text : List ℕ} {deep byte kind level : ℕ} {operand rest whole : ℕ → State ℕ → State ℕ}
+    (C : Chain coded text deep byte kind level operand rest whole)
     {old : List ℕ} {m : Mark} {t : ℕ} {x : Mark} (k : Step text old m deep 1 t byte x) where
   pub operand-needs : (5 * (length text - x .at) + deep + level < t) × Ready text old x deep
   operand-needs = (omega (arith, one-on k, before k, C .below, k .falls), ready-on (k .ready) (past k 0))

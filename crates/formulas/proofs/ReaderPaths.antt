@@ -11,10 +11,12 @@ use Rattle.grammar.specs.Reader.{State, next, stepped, expect, passLength, valu
 use Rattle.grammar.specs.Formula.{coded, timerWord}
 use Rattle.texts.specs.Lengths.{capped}
 use Rattle.marks.specs.Marks.{Mark, nextMark}
-use Rattle.formulas.specs.Readers.{viewOf, movedMark, expectMark, lengthMark, putMark, putCode, Ready, Done, LeafRead, SumRead, FactorRead, LatchRead, TimerRead}
+use Rattle.formulas.specs.Readers.{viewOf, movedMark, expectMark, lengthMark, putMark, putCode, Ready, Done, LeafRead, SumRead}
+use Rattle.formulas.specs.Readers.{FactorRead, LatchRead, TimerRead}
 use Rattle.marks.proofs.Marking.{inside}
 use Rattle.grammar.proofs.Branches.{Latch}
-use Rattle.formulas.proofs.Doing.{view-next, expected, ready-deeper, starting, turned, moving, expecting, passing, calling, put-needs, putting, closing, finishing}
+use Rattle.formulas.proofs.Doing.{view-next, expected, ready-deeper, starting, turned, moving, expecting, passing, calling}
+use Rattle.formulas.proofs.Doing.{put-needs, putting, closing, finishing}
 
 -- a byte with a prefix's kind is not 0
 pub prefix-above : (b kind : ℕ) → kind ≡ prefixKind b → 0 < kind → 0 < b
@@ -30,7 +32,8 @@ pub record Step (text old : List ℕ) (m : Mark) (deep level t b : ℕ) (x : Mar
   pub some : 0 < b
   pub moved : x ≡ movedMark m (m .at + 1)
 
-pub step : {text old : List ℕ} {m : Mark} {deep level t b : ℕ} {x : Mark} → (5 * (length text - m .at) + deep + level ≡ t) × Ready text old m deep →
+pub step : {text old : List ℕ} {m : Mark} {deep level t b : ℕ} {x : Mark} →
+    (5 * (length text - m .at) + deep + level ≡ t) × Ready text old m deep →
     nextMark text m ≡ b → 0 < b → x ≡ movedMark m (m .at + 1) → Step text old m deep level t b x
 step p e pos q = record { ready = p .1; falls = p .0; next = e; some = pos; moved = q }
 
@@ -45,7 +48,8 @@ module _ {text old : List ℕ} {m : Mark} {deep level t b : ℕ} {x : Mark} (k :
   past lev = turned refl (k .moved) (moving (starting lev (k .ready)) before)
 
   -- a part after an operand that began past that byte has that byte of its own
-  pub own-byte : {F : ℕ → State ℕ → State ℕ} {lev : ℕ} {mid : List ℕ} {y : Mark} → Done F lev text x old mid y → y .ok ≡ true → y .parts + m .at + 1 ≤ m .parts + y .at
+  pub own-byte : {F : ℕ → State ℕ → State ℕ} {lev : ℕ} {mid : List ℕ} {y : Mark} → Done F lev text x old mid y → y .ok ≡ true →
+      y .parts + m .at + 1 ≤ m .parts + y .at
   own-byte d h = omega (arith, d .few, one-on, ap (λ (y : Mark). y .parts) (k .moved))
 
 -- past the first byte of a factor
@@ -53,10 +57,12 @@ module _ {text old : List ℕ} {m : Mark} {deep t b : ℕ} {x : Mark} (k : Step 
   pub deeper-needs : {level : ℕ} → level ≤ 4 → (5 * (length text - x .at) + (deep + 1) + level < t) × Ready text old x (deep + 1)
   deeper-needs l = (omega (arith, one-on k, before k, k .falls), ready-deeper (k .ready) (past k 0) (omega (arith, one-on k)))
 
-  deeper : {F : ℕ → State ℕ → State ℕ} {level : ℕ} {mid : List ℕ} {y : Mark} → level ≤ 5 → Done F level text x old mid y → Done (λ n s. F n (stepped 1 s)) 1 text m old mid y
+  deeper : {F : ℕ → State ℕ → State ℕ} {level : ℕ} {mid : List ℕ} {y : Mark} → level ≤ 5 → Done F level text x old mid y →
+      Done (λ n s. F n (stepped 1 s)) 1 text m old mid y
   deeper l p = calling (past k 1) p (omega (arith, one-on k, before k))
 
-  pub prefix-needs : {mid : List ℕ} {y : Mark} → FactorRead text (deep + 1) x old mid y → (length mid ≡ 1024) × (y .ok ≡ true → y .parts < 1024)
+  pub prefix-needs : {mid : List ℕ} {y : Mark} → FactorRead text (deep + 1) x old mid y →
+      (length mid ≡ 1024) × (y .ok ≡ true → y .parts < 1024)
   prefix-needs p = put-needs (k .ready) (deeper (omega arith) p) (own-byte k p)
 
   pub prefix-path : {mid new : List ℕ} {y r : Mark} (kind : ℕ) → kind ≡ prefixKind b → 0 < kind → FactorRead text (deep + 1) x old mid y →
@@ -76,17 +82,22 @@ module _ {text old : List ℕ} {m : Mark} {deep t b : ℕ} {x : Mark} (k : Step 
       let o : y .at ≡ (expectMark text c x) .at = ap (λ (j : Mark). j .at) w in
       record { done = turned refl w (expecting c pos (past k 1)); on = omega (arith, expected text c pos x .on, one-on k) }
 
-  pub ton-letters : {o z : Mark} → o ≡ expectMark text 79 x → nextMark text o ≡ 78 → z ≡ movedMark o (o .at + 1) → Letters (λ n s. stepped 1 (expect text 79 (stepped 1 s))) z
+  pub ton-letters : {o z : Mark} → o ≡ expectMark text 79 x → nextMark text o ≡ 78 → z ≡ movedMark o (o .at + 1) →
+      Letters (λ n s. stepped 1 (expect text 79 (stepped 1 s))) z
   ton-letters {o} {z} w e q =
       let l = letter 79 (omega arith) w in
       let a : z .at ≡ o .at + 1 = ap (λ (j : Mark). j .at) q in
       record { done = turned refl q (moving (l .done) (inside text o 78 e (omega arith) .before)); on = omega (arith, l .on) }
 
-  pub tof-letters : {o z : Mark} → o ≡ expectMark text 79 x → z ≡ expectMark text 70 o → Letters (λ n s. expect text 70 (expect text 79 (stepped 1 s))) z
+  pub tof-letters : {o z : Mark} → o ≡ expectMark text 79 x → z ≡ expectMark text 70 o →
+      Letters (λ n s. expect text 70 (expect text 79 (stepped 1 s))) z
   tof-letters {o} {z} w q =
       let l = letter 79 (omega arith) w in
       let a : z .at ≡ (expectMark text 70 o) .at = ap (λ (j : Mark). j .at) q in
-      record { done = turned refl q (expecting 70 (omega arith) (l .done)); on = omega (arith, l .on, expected text 70 (omega arith) o .on) }
+      record {
+        done = turned refl q (expecting 70 (omega arith) (l .done));
+        on = omega (arith, l .on, expected text 70 (omega arith) o .on);
+      }
 
   module _ {G : ℕ → State ℕ → State ℕ} {z : Mark} (l : Letters G z) where
     pub block-needs : (5 * (length text - z .at) + deep + 6 < t) × Ready text old z (deep + 1)
@@ -96,7 +107,8 @@ module _ {text old : List ℕ} {m : Mark} {deep t b : ℕ} {x : Mark} (k : Step 
         ((n : ℕ) → factorAt coded text (suc n) deep (viewOf m old) ≡ F n (G n (viewOf m old))) → FactorRead text deep m old new r
     block-path s e = finishing (calling (l .done) s (omega (arith, l .on, l .done .within))) e
 
-  pub latch-is : {c kind : ℕ} → Latch coded text deep b c kind → (n : ℕ) → factorAt coded text (suc n) deep (viewOf m old) ≡ latchAt coded text n kind deep (expect text c (stepped 1 (viewOf m old)))
+  pub latch-is : {c kind : ℕ} → Latch coded text deep b c kind → (n : ℕ) →
+      factorAt coded text (suc n) deep (viewOf m old) ≡ latchAt coded text n kind deep (expect text c (stepped 1 (viewOf m old)))
   latch-is l n = l .is n (viewOf m old) (view-next text m old ∙ k .next)
 
   -- what stands after T and O
@@ -106,9 +118,11 @@ module _ {text old : List ℕ} {m : Mark} {deep t b : ℕ} {x : Mark} (k : Step 
 
 -- what a factor is by its first byte
 module _ {text old : List ℕ} {m : Mark} {deep t : ℕ} {x : Mark} where
-  pub brackets-path : {mid : List ℕ} {y r : Mark} → Step text old m deep 2 t 40 x → SumRead text (deep + 1) x old mid y → r ≡ expectMark text 41 y → FactorRead text deep m old mid r
+  pub brackets-path : {mid : List ℕ} {y r : Mark} → Step text old m deep 2 t 40 x → SumRead text (deep + 1) x old mid y →
+      r ≡ expectMark text 41 y → FactorRead text deep m old mid r
   unfolding factorAt prefixKind
-  brackets-path k p w = finishing (turned refl w (expecting 41 (omega arith) (deeper k (omega arith) p))) (λ n. rw (view-next text m old, k .next) refl)
+  brackets-path k p w =
+      finishing (turned refl w (expecting 41 (omega arith) (deeper k (omega arith) p))) (λ n. rw (view-next text m old, k .next) refl)
 
   pub ton-is : {o : Mark} (k : Step text old m deep 2 t 84 x) → o ≡ expectMark text 79 x → nextMark text o ≡ 78 → (n : ℕ) →
       factorAt coded text (suc n) deep (viewOf m old) ≡ timerAt coded text n 6 deep (stepped 1 (expect text 79 (stepped 1 (viewOf m old))))
@@ -116,13 +130,16 @@ module _ {text old : List ℕ} {m : Mark} {deep t : ℕ} {x : Mark} where
   ton-is k w f n = rw (view-next text m old, k .next, letters-next k w, f) refl
 
   pub tof-is : {o : Mark} (k : Step text old m deep 2 t 84 x) → o ≡ expectMark text 79 x → eqb (nextMark text o) 78 ≡ false → (n : ℕ) →
-      factorAt coded text (suc n) deep (viewOf m old) ≡ timerAt coded text n 7 deep (expect text 70 (expect text 79 (stepped 1 (viewOf m old))))
+      factorAt coded text (suc n) deep (viewOf m old)
+      ≡ timerAt coded text n 7 deep (expect text 70 (expect text 79 (stepped 1 (viewOf m old))))
   unfolding factorAt prefixKind
   tof-is k w f n = rw (view-next text m old, k .next, letters-next k w, f) refl
 
 -- none of the bytes that begin an operator, a bracket or a block
-pub leaf-path : {text old new : List ℕ} {m r : Mark} {deep : ℕ} → Ready text old m deep → (b kind : ℕ) → nextMark text m ≡ b → kind ≡ prefixKind b → kind ≤ 0 →
-    eqb b 40 ≡ false → eqb b 83 ≡ false → eqb b 82 ≡ false → eqb b 84 ≡ false → LeafRead text deep m old new r → FactorRead text deep m old new r
+pub leaf-path : {text old new : List ℕ} {m r : Mark} {deep : ℕ} → Ready text old m deep → (b kind : ℕ) → nextMark text m ≡ b →
+    kind ≡ prefixKind b → kind ≤ 0 →
+    eqb b 40 ≡ false → eqb b 83 ≡ false → eqb b 82 ≡ false → eqb b 84 ≡ false → LeafRead text deep m old new r →
+    FactorRead text deep m old new r
 unfolding factorAt
 leaf-path {text} {old} {m = m} g b kind e pk none f1 f2 f3 f4 s =
     finishing (calling (starting 1 g) s (omega arith)) (λ n. rw (view-next text m old, e, ← pk, le-ltb 0 kind none, f1, f2, f3, f4) refl)
@@ -137,16 +154,19 @@ module _ {text old : List ℕ} {m : Mark} (deep : ℕ) (g : Ready text old m (de
     parted = turned refl q2 (expecting 44 (omega arith) (calling opened s1 (omega (arith, opened .on))))
 
     module _ {mid2 : List ℕ} {x2 : Mark} (s2 : SumRead text (deep + 1) y2 mid1 mid2 x2) {y3 : Mark} (q3 : y3 ≡ expectMark text 41 x2) where
-      both : Done (λ n s. sumAt coded text n (deep + 1) (expect text 44 (sumAt coded text n (deep + 1) (expect text 40 s)))) 4 text m old mid2 x2
+      both : Done (λ n s. sumAt coded text n (deep + 1) (expect text 44 (sumAt coded text n (deep + 1) (expect text 40 s)))) 4 text m old
+          mid2 x2
       both = calling parted s2 (omega (arith, parted .on))
 
-      closed : Done (λ n s. expect text 41 (sumAt coded text n (deep + 1) (expect text 44 (sumAt coded text n (deep + 1) (expect text 40 s))))) 4 text m old mid2 y3
+      closed : Done (λ n s. expect text 41
+          (sumAt coded text n (deep + 1) (expect text 44 (sumAt coded text n (deep + 1) (expect text 40 s))))) 4 text m old mid2 y3
       closed = turned refl q3 (expecting 41 (omega arith) both)
 
       pub latch-needs : (length mid2 ≡ 1024) × (y3 .ok ≡ true → y3 .parts < 1024)
       latch-needs = put-needs g closed (closing both q3)
 
-      pub latch-path : {new : List ℕ} {r : Mark} (kind : ℕ) → new ≡ putCode y3 kind mid2 → r ≡ putMark y3 deep 0 → LatchRead text kind deep m old new r
+      pub latch-path : {new : List ℕ} {r : Mark} (kind : ℕ) → new ≡ putCode y3 kind mid2 → r ≡ putMark y3 deep 0 →
+          LatchRead text kind deep m old new r
       unfolding latchAt
       latch-path kind q w = finishing (turned q w (putting kind deep 0 g closed (closing both q3))) (λ n. refl)
 
@@ -162,7 +182,8 @@ module _ {text old : List ℕ} {m : Mark} (deep : ℕ) (g : Ready text old m (de
       body : Done (λ n s. sumAt coded text n (deep + 1) (expect text 44 (passLength text (expect text 40 s)))) 4 text m old mid x
       body = calling timer-parted s1 (omega (arith, timer-parted .on))
 
-      timer-closed : Done (λ n s. expect text 41 (sumAt coded text n (deep + 1) (expect text 44 (passLength text (expect text 40 s))))) 4 text m old mid y3
+      timer-closed : Done (λ n s. expect text 41 (sumAt coded text n (deep + 1) (expect text 44 (passLength text (expect text 40 s))))) 4
+          text m old mid y3
       timer-closed = turned refl q3 (expecting 41 (omega arith) body)
 
       pub timer-needs : (length mid ≡ 1024) × (y3 .ok ≡ true → y3 .parts < 1024)
@@ -174,7 +195,8 @@ module _ {text old : List ℕ} {m : Mark} (deep : ℕ) (g : Ready text old m (de
       to-at : p .at ≡ (passLength text (expect text 40 (viewOf m old))) .at
       to-at = ap (λ (j : State ℕ). j .at) (measured .same (5 * (length text - m .at) + 4) (omega arith))
 
-      pub timer-path : {new : List ℕ} {r : Mark} (kind n : ℕ) → n ≡ capped (valueBetween text (y1 .at) (p .at)) → new ≡ putCode y3 (n * 16 + kind) mid → r ≡ putMark y3 deep n → TimerRead text kind deep m old new r
+      pub timer-path : {new : List ℕ} {r : Mark} (kind n : ℕ) → n ≡ capped (valueBetween text (y1 .at) (p .at)) →
+          new ≡ putCode y3 (n * 16 + kind) mid → r ≡ putMark y3 deep n → TimerRead text kind deep m old new r
       unfolding timerAt timed timerWord
       timer-path kind n e q w =
           finishing (turned q w (putting (n * 16 + kind) deep n g timer-closed (closing body q3))) (λ j. rw (← to-at, ← from-at, ← e) refl)

@@ -38,17 +38,20 @@ laid text blank e h k =
 abbrev begin : List ℕ
 begin = 1 ∷ 0 ∷ 0 ∷ 0 ∷ 0 ∷ []
 
-pub begun : (text blank : List ℕ) {page words : List ℕ} → page ≡ sets blank 0 text → length blank ≡ 1024 → length text ≤ 1024 → length words ≡ 1024 → Begun page (length text) words begin 0
+pub begun : (text blank : List ℕ) {page words : List ℕ} → page ≡ sets blank 0 text → length blank ≡ 1024 → length text ≤ 1024 →
+    length words ≡ 1024 → Begun page (length text) words begin 0
 unfolding markOf
 begun text blank {page} {words} e b h w = (
   record { whole = ap length e ∙ length-sets blank 0 text ∙ b; first = h; five = refl },
   subst (λ (t : List ℕ). Ready t words first 0) (sym (laid text blank e (omega arith) h)) (ready-first text words h w),
 )
 
-pub as-laid : (text blank : List ℕ) {page old new : List ℕ} {m : Mark} → page ≡ sets blank 0 text → length blank ≡ 1024 → length text ≤ 1024 →
+pub as-laid : (text blank : List ℕ) {page old new : List ℕ} {m : Mark} → page ≡ sets blank 0 text → length blank ≡ 1024 →
+    length text ≤ 1024 →
     SumRead (lent page (length text)) 0 (markOf begin) old new m → SumRead text 0 first old new m
 unfolding markOf
-as-laid text blank {page} {old} {new} {m} e b h d = subst (λ (t : List ℕ). SumRead t 0 first old new m) (laid text blank e (omega arith) h) d
+as-laid text blank {page} {old} {new} {m} e b h d =
+    subst (λ (t : List ℕ). SumRead t 0 first old new m) (laid text blank e (omega arith) h) d
 
 capped-over : (n : ℕ) → ltb M (capped n) ≡ ltb M n
 unfolding capped
@@ -80,7 +83,8 @@ unfolding formulaFault
 long-is text e h = rw (ne-eqb (length text) 0 e, lt-ltb 1024 (length text) h) refl
 
 -- what a call answers and leaves, by the fault
-pub refused-is : (text code : List ℕ) (f : ℕ) → formulaFault text ≡ f → (f ≡ 0 → ⊥) → (written.Refused f ≡ writtenOf (formulaFault text) (codeOf text)) × (code ≡ codeAfter text code)
+pub refused-is : (text code : List ℕ) (f : ℕ) → formulaFault text ≡ f → (f ≡ 0 → ⊥) →
+    (written.Refused f ≡ writtenOf (formulaFault text) (codeOf text)) × (code ≡ codeAfter text code)
 unfolding writtenOf codeAfter
 refused-is text code f e h = rw (e, ne-eqb f 0 h) (refl, refl)
 
@@ -98,11 +102,15 @@ few-words m bytes e = go (m .ok) refl (decLt (m .at) bytes) (decLt M (m .longest
     go z k a l (no h) = omega (arith, h)
     go false k a l (yes h) = let q : _≡_ {A = ℕ} 11 0 = rw k at e in absurd (omega arith)
     go true k (yes a) l (yes h) = let q : _≡_ {A = ℕ} 11 0 = rw (k, lt-ltb (m .at) bytes a) at e in absurd (omega arith)
-    go true k (no a) (yes l) (yes h) = let q : _≡_ {A = ℕ} 8 0 = rw (k, le-ltb (m .at) bytes (omega (arith, a)), lt-ltb M (m .longest) l) at e in absurd (omega arith)
+    go true k (no a) (yes l) (yes h) = let q : _≡_ {A = ℕ} 8 0 =
+        rw (k, le-ltb (m .at) bytes (omega (arith, a)), lt-ltb M (m .longest) l) at e in absurd (omega arith)
     go true k (no a) (no l) (yes h) =
-        let q : _≡_ {A = ℕ} 12 0 = rw (k, le-ltb (m .at) bytes (omega (arith, a)), le-ltb M (m .longest) (omega (arith, l)), lt-ltb 32 (m .parts) h) at e in absurd (omega arith)
+        let q : _≡_ {A = ℕ} 12 0 =
+        rw (k, le-ltb (m .at) bytes (omega (arith, a)), le-ltb M (m .longest) (omega (arith, l)), lt-ltb 32 (m .parts) h) at e in
+        absurd (omega arith)
 
-module _ (text old new : List ℕ) (m : Mark) (d : SumRead text 0 first old new m) (some : length text ≡ 0 → ⊥) (short : length text ≤ 1024) where
+module _ (text old new : List ℕ) (m : Mark) (d : SumRead text 0 first old new m) (some : length text ≡ 0 →
+    ⊥) (short : length text ≤ 1024) where
   view : viewOf m new ≡ readText coded text
   unfolding readText
   view = d .same (5 * length text + 4) (omega arith)
@@ -138,10 +146,21 @@ module _ (text old new : List ℕ) (m : Mark) (d : SumRead text 0 first old new 
   same-count : length (partsOf text) ≡ m .parts
   unfolding partsOf codeOf
   same-count =
-      sym (length-map (partsOf text) cutPart) ∙ ap length (sym (coded-run text .out)) ∙ length-map (codeOf text) (partOf text) ∙ words-length
+      sym (length-map (partsOf text) cutPart) ∙ ap length (sym (coded-run text .out)) ∙ length-map (codeOf text) (partOf text)
+      ∙ words-length
 
   pub fault-is : formulaFault text ≡ markFault m (length text)
   unfolding formulaFault accepted markFault
   fault-is =
-      rw (ne-eqb (length text) 0 some, le-ltb 1024 (length text) short, same-ok, same-at, same-longest, same-count, same-depth, either (ltb 32 (m .parts)) (ltb 16 (m .deepest)) 12 0)
-      (ordered (m .ok) true (m .at) (length text) (cond (ltb M (m .longest)) 8 (cond (ltb 32 (m .parts)) 12 (cond (ltb 16 (m .deepest)) 12 0))) (d .within))
+      rw (
+        ne-eqb (length text) 0 some,
+        le-ltb 1024 (length text) short,
+        same-ok,
+        same-at,
+        same-longest,
+        same-count,
+        same-depth,
+        either (ltb 32 (m .parts)) (ltb 16 (m .deepest)) 12 0,
+      )
+      (ordered (m .ok) true (m .at) (length text)
+      (cond (ltb M (m .longest)) 8 (cond (ltb 32 (m .parts)) 12 (cond (ltb 16 (m .deepest)) 12 0))) (d .within))

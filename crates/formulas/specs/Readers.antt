@@ -44,7 +44,13 @@ leafWord b at end = cond (eqb b 48) kinds.DOWN (cond (eqb b 49) kinds.UP (nameWo
 
 unfoldable pub putMark : Mark → ℕ → ℕ → Mark
 putMark m deep ticks =
-    cond (m .ok) (record { ok = true; at = m .at; parts = m .parts + 1; deepest = max (m .deepest) deep; longest = max (m .longest) ticks }) m
+    cond (m .ok) (record {
+      ok = true;
+      at = m .at;
+      parts = m .parts + 1;
+      deepest = max (m .deepest) deep;
+      longest = max (m .longest) ticks;
+    }) m
 
 unfoldable pub putCode : Mark → ℕ → List ℕ → List ℕ
 putCode m word code = cond (m .ok) (set code (m .parts) word) code

@@ -9,7 +9,8 @@ use borrow.Author.Tests.{leb-true}
 use Rattle.names.specs.Names.{digit, letter, nameByte}
 use Rattle.grammar.specs.Kinds as kinds
 use Rattle.grammar.specs.Formula.{Kind, plainKinds}
-use Rattle.grammar.specs.Reader.{State, Emission, run, next, bad, stepped, expect, put, passLength, valueBetween, prefixKind, leafAt, timed, sumAt, sumsAt, productAt, productsAt, factorAt, latchAt, timerAt, readText, start}
+use Rattle.grammar.specs.Reader.{State, Emission, run, next, bad, stepped, expect, put, passLength, valueBetween, prefixKind, leafAt}
+use Rattle.grammar.specs.Reader.{timed, sumAt, sumsAt, productAt, productsAt, factorAt, latchAt, timerAt, readText, start}
 use Rattle.grammar.proofs.Bytes.{by-cond}
 use Rattle.grammar.proofs.Standing.{state-eq}
 
@@ -33,7 +34,8 @@ pub record Carries {X Y : Type 0} (E : Emission X) (E2 : Emission Y) (f : X → 
   pub larger : (a b : ℕ) → g (max a b) ≡ max (g a) (g b)
 
 -- a test's two ways
-pub both-ways : {A B : Type 0} (h : A → B) (b : Bool) {x y : A} {x2 y2 : B} → (b ≡ true → h x ≡ x2) → (b ≡ false → h y ≡ y2) → h (cond b x y) ≡ cond b x2 y2
+pub both-ways : {A B : Type 0} (h : A → B) (b : Bool) {x y : A} {x2 y2 : B} → (b ≡ true → h x ≡ x2) → (b ≡ false → h y ≡ y2) →
+    h (cond b x y) ≡ cond b x2 y2
 both-ways h true p q = p refl
 both-ways h false p q = q refl
 
@@ -51,7 +53,8 @@ module _ {X Y : Type 0} (E : Emission X) (E2 : Emission Y) (f : X → Y) (g : �
 
   length-same : (s : State X) → carried (passLength text s) ≡ passLength text (carried s)
   unfolding passLength next stepped bad
-  length-same s = both-ways carried (eqb (next text s) 48) (λ e. refl) (λ e. both-ways carried (digit (next text s)) (λ e. refl) (λ e. refl))
+  length-same s = both-ways carried (eqb (next text s) 48) (λ e. refl)
+      (λ e. both-ways carried (digit (next text s)) (λ e. refl) (λ e. refl))
 
   put-same : (x : X) (deep k : ℕ) (s : State X) → carried (put x deep k s) ≡ put (f x) deep (g k) (carried s)
   unfolding put
@@ -60,7 +63,8 @@ module _ {X Y : Type 0} (E : Emission X) (E2 : Emission Y) (f : X → Y) (g : �
       (λ e. state-eq refl refl (map-append f (s .out) (x ∷ [])) refl (c .larger (s .longest) k)) (λ e. refl)
 
   -- what is put out for a part of a kind
-  plain-same : (k deep : ℕ) → isPlain k ≡ true → (s : State X) (s2 : State Y) → carried s ≡ s2 → carried (put (E .plain k) deep 0 s) ≡ put (E2 .plain k) deep 0 s2
+  plain-same : (k deep : ℕ) → isPlain k ≡ true → (s : State X) (s2 : State Y) → carried s ≡ s2 →
+      carried (put (E .plain k) deep 0 s) ≡ put (E2 .plain k) deep 0 s2
   plain-same k deep e s s2 q = put-same (E .plain k) deep 0 s ∙ rw (c .plain k e, c .none, q) refl
 
   leaf-same : (deep : ℕ) (s : State X) → carried (leafAt E text deep s) ≡ leafAt E2 text deep (carried s)
@@ -80,7 +84,8 @@ module _ {X Y : Type 0} (E : Emission X) (E2 : Emission Y) (f : X → Y) (g : �
   unfolding prefixKind
   prefix-plain b =
       by-cond (λ (k : ℕ). isPlain k ≡ true) (eqb b 33) (λ e. refl)
-      (λ e. by-cond (λ (k : ℕ). isPlain k ≡ true) (eqb b 94) (λ e. refl) (λ e. by-cond (λ (k : ℕ). isPlain k ≡ true) (eqb b 126) (λ e. refl) (λ e. refl)))
+      (λ e. by-cond (λ (k : ℕ). isPlain k ≡ true) (eqb b 94) (λ e. refl)
+      (λ e. by-cond (λ (k : ℕ). isPlain k ≡ true) (eqb b 126) (λ e. refl) (λ e. refl)))
 
   -- the readers, with so much fuel
   record Same (n : ℕ) : Type 0 where
@@ -89,8 +94,10 @@ module _ {X Y : Type 0} (E : Emission X) (E2 : Emission Y) (f : X → Y) (g : �
     product : (deep : ℕ) (s : State X) → carried (productAt E text n deep s) ≡ productAt E2 text n deep (carried s)
     products : (deep : ℕ) (s : State X) → carried (productsAt E text n deep s) ≡ productsAt E2 text n deep (carried s)
     factor : (deep : ℕ) (s : State X) → carried (factorAt E text n deep s) ≡ factorAt E2 text n deep (carried s)
-    latch : (kind deep : ℕ) → isPlain kind ≡ true → (s : State X) → carried (latchAt E text n kind deep s) ≡ latchAt E2 text n kind deep (carried s)
-    timer : (kind deep : ℕ) → isTimer kind ≡ true → (s : State X) → carried (timerAt E text n kind deep s) ≡ timerAt E2 text n kind deep (carried s)
+    latch : (kind deep : ℕ) → isPlain kind ≡ true → (s : State X) →
+        carried (latchAt E text n kind deep s) ≡ latchAt E2 text n kind deep (carried s)
+    timer : (kind deep : ℕ) → isTimer kind ≡ true → (s : State X) →
+        carried (timerAt E text n kind deep s) ≡ timerAt E2 text n kind deep (carried s)
 
   none : Same zero
   unfolding sumAt bad
@@ -105,7 +112,8 @@ module _ {X Y : Type 0} (E : Emission X) (E2 : Emission Y) (f : X → Y) (g : �
         timer = λ kind deep e s. refl;
       }
 
-  timer-more : (n : ℕ) → Same n → (kind deep : ℕ) → isTimer kind ≡ true → (s : State X) → carried (timerAt E text (suc n) kind deep s) ≡ timerAt E2 text (suc n) kind deep (carried s)
+  timer-more : (n : ℕ) → Same n → (kind deep : ℕ) → isTimer kind ≡ true → (s : State X) →
+      carried (timerAt E text (suc n) kind deep s) ≡ timerAt E2 text (suc n) kind deep (carried s)
   unfolding timerAt timed
   timer-more n ih kind deep e s =
       let a = expect text 40 s in
@@ -123,29 +131,38 @@ module _ {X Y : Type 0} (E : Emission X) (E2 : Emission Y) (f : X → Y) (g : �
       ap (λ (i : ℕ). valueBetween text i (p .at)) q1 ∙ ap (valueBetween text (expect text 40 (carried s) .at)) q2 in
       put-same (E .timed kind v) deep (E .ticks v) (expect text 41 b)
       ∙ ap (λ (x : Y). put x deep (g (E .ticks v)) (carried (expect text 41 b))) (c .timed kind v e ∙ ap (E2 .timed kind) ev)
-      ∙ ap (λ (k : ℕ). put (E2 .timed kind (valueBetween text (expect text 40 (carried s) .at) (passLength text (expect text 40 (carried s)) .at))) deep k (carried (expect text 41 b))) (c .ticks v ∙ ap (E2 .ticks) ev)
-      ∙ ap (put (E2 .timed kind (valueBetween text (expect text 40 (carried s) .at) (passLength text (expect text 40 (carried s)) .at))) deep (E2 .ticks (valueBetween text (expect text 40 (carried s) .at) (passLength text (expect text 40 (carried s)) .at)))) e5
+      ∙ ap (λ (k : ℕ). put
+      (E2 .timed kind (valueBetween text (expect text 40 (carried s) .at) (passLength text (expect text 40 (carried s)) .at))) deep k
+      (carried (expect text 41 b))) (c .ticks v ∙ ap (E2 .ticks) ev)
+      ∙ ap (put (E2 .timed kind (valueBetween text (expect text 40 (carried s) .at) (passLength text (expect text 40 (carried s)) .at)))
+      deep (E2 .ticks (valueBetween text (expect text 40 (carried s) .at) (passLength text (expect text 40 (carried s)) .at)))) e5
 
   timers-more : (n : ℕ) → Same n → (deep : ℕ) (o : State X) (o2 : State Y) → carried o ≡ o2 →
-      carried (cond (eqb (next text o) 78) (timerAt E text n kinds.TON deep (stepped 1 o)) (timerAt E text n kinds.TOF deep (expect text 70 o)))
-      ≡ cond (eqb (next text o2) 78) (timerAt E2 text n kinds.TON deep (stepped 1 o2)) (timerAt E2 text n kinds.TOF deep (expect text 70 o2))
+      carried (cond (eqb (next text o) 78) (timerAt E text n kinds.TON deep (stepped 1 o))
+      (timerAt E text n kinds.TOF deep (expect text 70 o)))
+      ≡ cond (eqb (next text o2) 78) (timerAt E2 text n kinds.TON deep (stepped 1 o2))
+      (timerAt E2 text n kinds.TOF deep (expect text 70 o2))
   unfolding next stepped
   timers-more n ih deep o o2 q =
       rw (← q)
       (both-ways carried (eqb (next text o) 78) (λ e. ih .timer kinds.TON deep refl (stepped 1 o))
       (λ e. ih .timer kinds.TOF deep refl (expect text 70 o) ∙ ap (timerAt E2 text n kinds.TOF deep) (expect-same 70 o)))
 
-  factor-more : (n : ℕ) → Same n → (deep : ℕ) (s : State X) → carried (factorAt E text (suc n) deep s) ≡ factorAt E2 text (suc n) deep (carried s)
+  factor-more : (n : ℕ) → Same n → (deep : ℕ) (s : State X) →
+      carried (factorAt E text (suc n) deep s) ≡ factorAt E2 text (suc n) deep (carried s)
   unfolding factorAt next stepped
   factor-more n ih deep s =
       both-ways carried (ltb 0 (prefixKind (next text s)))
-      (λ e. plain-same (prefixKind (next text s)) deep (prefix-plain (next text s)) (factorAt E text n (deep + 1) (stepped 1 s)) (factorAt E2 text n (deep + 1) (stepped 1 (carried s))) (ih .factor (deep + 1) (stepped 1 s)))
+      (λ e. plain-same (prefixKind (next text s)) deep (prefix-plain (next text s)) (factorAt E text n (deep + 1) (stepped 1 s))
+      (factorAt E2 text n (deep + 1) (stepped 1 (carried s))) (ih .factor (deep + 1) (stepped 1 s)))
       (λ e. both-ways carried (eqb (next text s) 40)
       (λ e. expect-same 41 (sumAt E text n (deep + 1) (stepped 1 s)) ∙ ap (expect text 41) (ih .sum (deep + 1) (stepped 1 s)))
       (λ e. both-ways carried (eqb (next text s) 83)
-      (λ e. ih .latch kinds.SR deep refl (expect text 82 (stepped 1 s)) ∙ ap (latchAt E2 text n kinds.SR deep) (expect-same 82 (stepped 1 s)))
+      (λ e. ih .latch kinds.SR deep refl (expect text 82 (stepped 1 s))
+      ∙ ap (latchAt E2 text n kinds.SR deep) (expect-same 82 (stepped 1 s)))
       (λ e. both-ways carried (eqb (next text s) 82)
-      (λ e. ih .latch kinds.RS deep refl (expect text 83 (stepped 1 s)) ∙ ap (latchAt E2 text n kinds.RS deep) (expect-same 83 (stepped 1 s)))
+      (λ e. ih .latch kinds.RS deep refl (expect text 83 (stepped 1 s))
+      ∙ ap (latchAt E2 text n kinds.RS deep) (expect-same 83 (stepped 1 s)))
       (λ e. both-ways carried (eqb (next text s) 84)
       (λ e. timers-more n ih deep (expect text 79 (stepped 1 s)) (expect text 79 (stepped 1 (carried s))) (expect-same 79 (stepped 1 s)))
       (λ e. leaf-same deep s)))))
@@ -160,13 +177,17 @@ module _ {X Y : Type 0} (E : Emission X) (E2 : Emission Y) (f : X → Y) (g : �
             both-ways carried (eqb (next text s) 43)
             (λ e.
             ih .sums deep (put (E .plain kinds.OR) deep 0 (productAt E text n deep (stepped 1 s)))
-            ∙ ap (sumsAt E2 text n deep) (plain-same kinds.OR deep refl (productAt E text n deep (stepped 1 s)) (productAt E2 text n deep (stepped 1 (carried s))) (ih .product deep (stepped 1 s))))
+            ∙ ap (sumsAt E2 text n deep)
+            (plain-same kinds.OR deep refl (productAt E text n deep (stepped 1 s)) (productAt E2 text n deep (stepped 1 (carried s)))
+            (ih .product deep (stepped 1 s))))
             (λ e. refl);
         products = λ deep s.
             both-ways carried (eqb (next text s) 46)
             (λ e.
             ih .products deep (put (E .plain kinds.AND) deep 0 (factorAt E text n deep (stepped 1 s)))
-            ∙ ap (productsAt E2 text n deep) (plain-same kinds.AND deep refl (factorAt E text n deep (stepped 1 s)) (factorAt E2 text n deep (stepped 1 (carried s))) (ih .factor deep (stepped 1 s))))
+            ∙ ap (productsAt E2 text n deep)
+            (plain-same kinds.AND deep refl (factorAt E text n deep (stepped 1 s)) (factorAt E2 text n deep (stepped 1 (carried s)))
+            (ih .factor deep (stepped 1 s))))
             (λ e. refl);
         factor = λ deep s. factor-more n ih deep s;
         latch = λ kind deep e s.
@@ -177,7 +198,8 @@ module _ {X Y : Type 0} (E : Emission X) (E2 : Emission Y) (f : X → Y) (g : �
             let e4 = ih .sum (deep + 1) (expect text 44 b1) ∙ ap (sumAt E2 text n (deep + 1)) e3 in
             let b2 = sumAt E text n (deep + 1) (expect text 44 b1) in
             let e5 = expect-same 41 b2 ∙ ap (expect text 41) e4 in
-            plain-same kind deep e (expect text 41 b2) (expect text 41 (sumAt E2 text n (deep + 1) (expect text 44 (sumAt E2 text n (deep + 1) (expect text 40 (carried s)))))) e5;
+            plain-same kind deep e (expect text 41 b2)
+            (expect text 41 (sumAt E2 text n (deep + 1) (expect text 44 (sumAt E2 text n (deep + 1) (expect text 40 (carried s)))))) e5;
         timer = λ kind deep e s. timer-more n ih kind deep e s;
       }
 
@@ -187,4 +209,5 @@ module _ {X Y : Type 0} (E : Emission X) (E2 : Emission Y) (f : X → Y) (g : �
 
   pub text-carried : carried (readText E text) ≡ readText E2 text
   unfolding readText
-  text-carried = same (5 * length text + 4) .sum 0 start ∙ ap (sumAt E2 text (5 * length text + 4) 0) (state-eq refl refl refl refl (c .none))
+  text-carried = same (5 * length text + 4) .sum 0 start
+      ∙ ap (sumAt E2 text (5 * length text + 4) 0) (state-eq refl refl refl refl (c .none))

@@ -27,7 +27,12 @@ use Rattle.grammar.proofs.Reading.{parts-exact, longest-in, derived-of,
 
 -- parts with every length above M taken as M + 1
 abbrev cut : List ℕ → Emission Part
-cut text = record { plain = plainPart; named = λ p k. operand (name (nameAt text p k)); timed = λ k n. timedPart k (capped n); ticks = capped }
+cut text = record {
+  plain = plainPart;
+  named = λ p k. operand (name (nameAt text p k));
+  timed = λ k n. timedPart k (capped n);
+  ticks = capped;
+}
 
 abbrev pub cutUnary : Unary → Unary
 cutUnary invert = invert
@@ -112,7 +117,8 @@ parts-carry text =
       larger = λ a b. omega arith;
     }
   where
-    by-kind : (z : Bool) (n : ℕ) → cutPart (cond z (one (ton n)) (one (tof n))) ≡ cond z (one (ton (min n (M + 1)))) (one (tof (min n (M + 1))))
+    by-kind : (z : Bool) (n : ℕ) →
+        cutPart (cond z (one (ton n)) (one (tof n))) ≡ cond z (one (ton (min n (M + 1)))) (one (tof (min n (M + 1))))
     by-kind true n = refl
     by-kind false n = refl
 
@@ -126,7 +132,8 @@ pub record CodedRun (text : List ℕ) : Type 0 where
 
 pub coded-run : (text : List ℕ) → CodedRun text
 coded-run text =
-    let e = text-carried coded (cut text) (partOf text) (λ n. n) (words-carry text) text ∙ sym (text-carried (spelled text) (cut text) cutPart capped (parts-carry text) text) in
+    let e = text-carried coded (cut text) (partOf text) (λ n. n) (words-carry text) text
+    ∙ sym (text-carried (spelled text) (cut text) cutPart capped (parts-carry text) text) in
     record {
       ok = ap (λ (s : State Part). s .ok) e;
       at = ap (λ (s : State Part). s .at) e;
@@ -151,7 +158,8 @@ unfolding code longest
 code-small (leaf l) h = refl
 code-small (unary o t) h = map-append cutPart (code t) (one o ∷ []) ∙ rw (code-small t (omega arith), unary-small o (omega arith)) refl
 code-small (binary o t u) h =
-    map-append cutPart (code t) (code u ++ (two o ∷ [])) ∙ rw (map-append cutPart (code u) (two o ∷ []), code-small t (omega arith), code-small u (omega arith)) refl
+    map-append cutPart (code t) (code u ++ (two o ∷ []))
+    ∙ rw (map-append cutPart (code u) (two o ∷ []), code-small t (omega arith), code-small u (omega arith)) refl
 
 pub code-exact : CodeExact
 unfolding codeOf partsOf

@@ -8,13 +8,15 @@ use lib.Dec.{leb, ltb, eqb, eqb·suc-zero}
 use lib.ListN.{length, getD, length-append}
 use lib.Seq.{take-append-seam}
 use borrow.Author.Tests.{leb-true, le-leb, eq-eqb}
-use Rattle.grammar.specs.Tree.{Tree, Unary, Binary, leaf, unary, binary, invert, rise, fall, ton, tof, and, or, sr, rs, name, down, up}
+use Rattle.grammar.specs.Tree.{Tree, Unary, Binary, leaf, unary, binary, invert, rise, fall, ton, tof, and, or, sr, rs, name, down}
+use Rattle.grammar.specs.Tree.{up}
 use Rattle.grammar.specs.Code.{Part, code, longest, one, two, ticksOf}
 use Rattle.names.specs.Names.{digit, allOf, letter, nameByte, wellNamed}
 use Rattle.texts.specs.Lengths.{isLength, value}
 use Rattle.grammar.specs.Grammar.{Sum, Product, Factor}
 use Rattle.grammar.specs.Kinds as kinds
-use Rattle.grammar.specs.Reader.{State, next, stepped, put, passLength, valueBetween, prefixKind, leafAt, timed, sumAt, sumsAt, productAt, productsAt, factorAt, latchAt, timerAt}
+use Rattle.grammar.specs.Reader.{State, next, stepped, put, passLength, valueBetween, prefixKind, leafAt, timed, sumAt, sumsAt}
+use Rattle.grammar.specs.Reader.{productAt, productsAt, factorAt, latchAt, timerAt}
 use Rattle.grammar.specs.Formula.{plainPart, timedPart, nameAt, spelled}
 use Rattle.grammar.proofs.Bytes.{never, and-left, and-right, run-all, lower-not}
 use Rattle.grammar.proofs.Standing.{state-eq, At, next-of, step-at, steps-at, expect-at, after, after-at}
@@ -52,11 +54,13 @@ module _ (text : List ℕ) where
   abbrev pub ReadsProduct : List ℕ → Tree → ℕ → Type 0
   ReadsProduct w t d =
       (n deep : ℕ) (s : State Part) (l : List ℕ) → At text s (w ++ l) → NameEnds l → 5 * length (w ++ l) + 3 ≤ n →
-      (k : ℕ) × (5 * length l + 1 ≤ k) × (productAt (spelled text) text n deep s ≡ productsAt (spelled text) text k deep (after w t d deep s))
+      (k : ℕ) × (5 * length l + 1 ≤ k) × (productAt (spelled text) text n deep s
+      ≡ productsAt (spelled text) text k deep (after w t d deep s))
 
   abbrev pub ReadsSum : List ℕ → Tree → ℕ → Type 0
   ReadsSum w t d =
-      (n deep : ℕ) (s : State Part) (l : List ℕ) → At text s (w ++ l) → NameEnds l → eqb (getD l 0 0) 46 ≡ false → 5 * length (w ++ l) + 4 ≤ n →
+      (n deep : ℕ) (s : State Part) (l : List ℕ) → At text s (w ++ l) → NameEnds l → eqb (getD l 0 0) 46 ≡ false →
+      5 * length (w ++ l) + 4 ≤ n →
       (k : ℕ) × (5 * length l + 1 ≤ k) × (sumAt (spelled text) text n deep s ≡ sumsAt (spelled text) text k deep (after w t d deep s))
 
   abbrev pub ReadsWhole : List ℕ → Tree → ℕ → Type 0
@@ -65,17 +69,20 @@ module _ (text : List ℕ) where
       sumAt (spelled text) text n deep s ≡ after w t d deep s
 
   -- a chain ends where no operator follows
-  module _ {deep byte kind level : ℕ} {operand rest whole : ℕ → State Part → State Part} (C : Chain (spelled text) text deep byte kind level operand rest whole) where
+  module _ {deep byte kind level : ℕ} {operand rest whole : ℕ → State Part → State Part}
+      (C : Chain (spelled text) text deep byte kind level operand rest whole) where
     rest-end : (n : ℕ) (s : State Part) (l : List ℕ) → At text s l → eqb (getD l 0 0) byte ≡ false → 1 ≤ n → rest n s ≡ s
     rest-end zero s l a e h = absurd (omega arith)
     rest-end (suc n) s l a e h = C .goes-on n s ∙ rw (next-of a, e) refl
 
     -- and goes on where one more operand follows
-    one-more : (o : Binary) → plainPart kind ≡ two o → (w v : List ℕ) (t u : Tree) (d e n : ℕ) (s : State Part) (l : List ℕ) → At text s (w ++ (byte ∷ (v ++ l))) →
+    one-more : (o : Binary) → plainPart kind ≡ two o → (w v : List ℕ) (t u : Tree) (d e n : ℕ) (s : State Part) (l : List ℕ) →
+        At text s (w ++ (byte ∷ (v ++ l))) →
         operand n (stepped 1 (after w t d deep s)) ≡ after v u e deep (stepped 1 (after w t d deep s)) →
         rest (suc n) (after w t d deep s) ≡ rest n (after (w ++ (byte ∷ v)) (binary o t u) (max d e) deep s)
     one-more o p w v t u d e n s l a q =
-        C .goes-on n (after w t d deep s) ∙ rw (eq-eqb _ _ (next-of (after-at w t d deep a)), q, joined o w v t u d e byte kind deep s p) refl
+        C .goes-on n (after w t d deep s)
+        ∙ rw (eq-eqb _ _ (next-of (after-at w t d deep a)), q, joined o w v t u d e byte kind deep s p) refl
 
   pub whole : (w : List ℕ) (t : Tree) (d : ℕ) → ReadsSum w t d → ReadsWhole w t d
   whole w t d r n deep s l a e h =
@@ -86,8 +93,12 @@ module _ (text : List ℕ) where
   unfolding sumAt
   sum-of-product w t d r zero deep s l a e e2 h = absurd (omega arith)
   sum-of-product w t d r (suc n) deep s l a e e2 h =
-      let q = r n deep s l a e (omega arith) in
-      (n, omega (arith, length-append w l), ap (sumsAt (spelled text) text n deep) (q .2 ∙ rest-end times (q .0) (after w t d deep s) l (after-at w t d deep a) e2 (omega (arith, q .1))))
+      let q = r n deep s l a e (omega arith) in (
+        n,
+        omega (arith, length-append w l),
+        ap (sumsAt (spelled text) text n deep) (q .2
+            ∙ rest-end times (q .0) (after w t d deep s) l (after-at w t d deep a) e2 (omega (arith, q .1))),
+      )
 
   pub product-of-factor : (w : List ℕ) (t : Tree) (d : ℕ) → ReadsFactor w t d → ReadsProduct w t d
   unfolding productAt
@@ -98,17 +109,21 @@ module _ (text : List ℕ) where
   plus-step : (w v : List ℕ) (t u : Tree) (d e : ℕ) → ReadsProduct v u e →
       (k deep : ℕ) (s : State Part) (l : List ℕ) → At text s (w ++ (43 ∷ (v ++ l))) → NameEnds l → eqb (getD l 0 0) 46 ≡ false →
       5 * length (43 ∷ (v ++ l)) + 1 ≤ k →
-      (j : ℕ) × (5 * length l + 1 ≤ j) × (sumsAt (spelled text) text k deep (after w t d deep s) ≡ sumsAt (spelled text) text j deep (after (w ++ (43 ∷ v)) (binary or t u) (max d e) deep s))
+      (j : ℕ) × (5 * length l + 1 ≤ j) × (sumsAt (spelled text) text k deep (after w t d deep s)
+      ≡ sumsAt (spelled text) text j deep (after (w ++ (43 ∷ v)) (binary or t u) (max d e) deep s))
   plus-step w v t u d e r zero deep s l a f g h = absurd (omega arith)
   plus-step w v t u d e r (suc k) deep s l a f g h =
       let b = after-at w t d deep a in
       let q = r k deep (stepped 1 (after w t d deep s)) l (step-at b) f (omega arith) in (
         k,
         omega (arith, length-append v l),
-        one-more plus or refl w v t u d e k s l a (q .2 ∙ rest-end times (q .0) (after v u e deep (stepped 1 (after w t d deep s))) l (after-at v u e deep (step-at b)) g (omega (arith, q .1))),
+        one-more plus or refl w v t u d e k s l a (q .2
+            ∙ rest-end times (q .0) (after v u e deep (stepped 1 (after w t d deep s))) l (after-at v u e deep (step-at b)) g
+            (omega (arith, q .1))),
       )
 
-  pub plus-reads : (w v : List ℕ) (t u : Tree) (d e : ℕ) → ReadsSum w t d → ReadsProduct v u e → ReadsSum (w ++ (43 ∷ v)) (binary or t u) (max d e)
+  pub plus-reads : (w v : List ℕ) (t u : Tree) (d e : ℕ) → ReadsSum w t d → ReadsProduct v u e →
+      ReadsSum (w ++ (43 ∷ v)) (binary or t u) (max d e)
   unfolding nameByte letter digit
   plus-reads w v t u d e r x n deep s l a f g h =
       let a2 : At text s (w ++ (43 ∷ (v ++ l))) = rw append-assoc at a in
@@ -119,13 +134,15 @@ module _ (text : List ℕ) where
   dot-step : (w v : List ℕ) (t u : Tree) (d e : ℕ) → ReadsFactor v u e →
       (k deep : ℕ) (s : State Part) (l : List ℕ) → At text s (w ++ (46 ∷ (v ++ l))) → NameEnds l →
       5 * length (46 ∷ (v ++ l)) + 1 ≤ k →
-      (j : ℕ) × (5 * length l + 1 ≤ j) × (productsAt (spelled text) text k deep (after w t d deep s) ≡ productsAt (spelled text) text j deep (after (w ++ (46 ∷ v)) (binary and t u) (max d e) deep s))
+      (j : ℕ) × (5 * length l + 1 ≤ j) × (productsAt (spelled text) text k deep (after w t d deep s)
+      ≡ productsAt (spelled text) text j deep (after (w ++ (46 ∷ v)) (binary and t u) (max d e) deep s))
   dot-step w v t u d e r zero deep s l a f h = absurd (omega arith)
   dot-step w v t u d e r (suc k) deep s l a f h =
       let q = r k deep (stepped 1 (after w t d deep s)) l (step-at (after-at w t d deep a)) f (omega arith) in
       (k, omega (arith, length-append v l), one-more times and refl w v t u d e k s l a q)
 
-  pub dot-reads : (w v : List ℕ) (t u : Tree) (d e : ℕ) → ReadsProduct w t d → ReadsFactor v u e → ReadsProduct (w ++ (46 ∷ v)) (binary and t u) (max d e)
+  pub dot-reads : (w v : List ℕ) (t u : Tree) (d e : ℕ) → ReadsProduct w t d → ReadsFactor v u e →
+      ReadsProduct (w ++ (46 ∷ v)) (binary and t u) (max d e)
   unfolding nameByte letter digit
   dot-reads w v t u d e r x n deep s l a f h =
       let a2 : At text s (w ++ (46 ∷ (v ++ l))) = rw append-assoc at a in
@@ -161,13 +178,29 @@ module _ (text : List ℕ) where
   one-reads zero deep s l a f h = absurd (omega arith)
   one-reads (suc n) deep s l a f h = rw (next-of a, a .fine) (state-eq refl refl refl (omega arith) refl)
 
-  name-step : (b : ℕ) (bs : List ℕ) → letter b ≡ true → allOf nameByte bs ≡ true → length bs ≤ 7 → ReadsFactor (b ∷ bs) (leaf (name (b ∷ bs))) 0
+  name-step : (b : ℕ) (bs : List ℕ) → letter b ≡ true → allOf nameByte bs ≡ true → length bs ≤ 7 →
+      ReadsFactor (b ∷ bs) (leaf (name (b ∷ bs))) 0
   unfolding factorAt leafAt put after stepped code longest nameAt allOf nameByte
   name-step b bs low all short zero deep s l a f h = absurd (omega arith)
   name-step b bs low all short (suc n) deep s l a f h =
       let k = lower-not b low in
       let every : allOf nameByte (b ∷ bs) ≡ true = rw low all in
-      rw (next-of a, k .prefix, k .bracket, k .S, k .R, k .T, k .zero, k .one, low, a .left, run-all nameByte (b ∷ bs) l every f, le-leb (length (b ∷ bs)) 8 (omega arith), a .fine, take-append-seam (b ∷ bs) l)
+      rw (
+        next-of a,
+        k .prefix,
+        k .bracket,
+        k .S,
+        k .R,
+        k .T,
+        k .zero,
+        k .one,
+        low,
+        a .left,
+        run-all nameByte (b ∷ bs) l every f,
+        le-leb (length (b ∷ bs)) 8 (omega arith),
+        a .fine,
+        take-append-seam (b ∷ bs) l,
+      )
       (state-eq refl refl refl (omega arith) refl)
 
   pub named-reads : (w : List ℕ) → wellNamed w ≡ true → ReadsFactor w (leaf (name w)) 0
@@ -176,11 +209,14 @@ module _ (text : List ℕ) where
   named-reads (b ∷ bs) e n deep s l a f h =
       let rest = and-right (leb (length (b ∷ bs)) 8) (letter b && allOf nameByte bs) e in
       let short = leb-true (length (b ∷ bs)) 8 (and-left (leb (length (b ∷ bs)) 8) (letter b && allOf nameByte bs) e) in
-      name-step b bs (and-left (letter b) (allOf nameByte bs) rest) (and-right (letter b) (allOf nameByte bs) rest) (omega arith) n deep s l a f h
+      name-step b bs (and-left (letter b) (allOf nameByte bs) rest) (and-right (letter b) (allOf nameByte bs) rest)
+      (omega arith) n deep s l a f h
 
   -- a latch after its letters
-  pub latch-reads : (kind : ℕ) (o : Binary) → plainPart kind ≡ two o → (w v : List ℕ) (t u : Tree) (d e : ℕ) → ReadsWhole w t d → ReadsWhole v u e →
-      (n deep : ℕ) (s : State Part) (l : List ℕ) → At text s (40 ∷ (w ++ (44 ∷ (v ++ (41 ∷ l))))) → 5 * length (40 ∷ (w ++ (44 ∷ (v ++ (41 ∷ l))))) ≤ n →
+  pub latch-reads : (kind : ℕ) (o : Binary) → plainPart kind ≡ two o → (w v : List ℕ) (t u : Tree) (d e : ℕ) → ReadsWhole w t d →
+      ReadsWhole v u e →
+      (n deep : ℕ) (s : State Part) (l : List ℕ) → At text s (40 ∷ (w ++ (44 ∷ (v ++ (41 ∷ l))))) →
+      5 * length (40 ∷ (w ++ (44 ∷ (v ++ (41 ∷ l))))) ≤ n →
       latchAt (spelled text) text n kind deep s ≡ after (40 ∷ (w ++ (44 ∷ (v ++ (41 ∷ []))))) (binary o t u) (max d e + 1) deep s
   unfolding latchAt
   latch-reads kind o p w v t u d e r q zero deep s l a h = absurd (omega arith)
@@ -209,17 +245,21 @@ module _ (text : List ℕ) where
       let every : allOf digit (b ∷ bs) ≡ true = rw dig all in
       rw (next-of a, z, dig, a .left, run-all digit (b ∷ bs) (44 ∷ l) every refl) refl
 
-  pub length-reads : (w l : List ℕ) (s : State Part) → isLength w ≡ true → At text s (w ++ (44 ∷ l)) → passLength text s ≡ stepped (length w) s
+  pub length-reads : (w l : List ℕ) (s : State Part) → isLength w ≡ true → At text s (w ++ (44 ∷ l)) →
+      passLength text s ≡ stepped (length w) s
   unfolding isLength
   length-reads [] l s e a = never e
   length-reads (b ∷ bs) l s e a =
       let rest = and-right (digit b) (allOf digit bs && (eqb (length bs) 0 || not (eqb b 48))) e in
-      length-step b bs l s (and-left (digit b) (allOf digit bs && (eqb (length bs) 0 || not (eqb b 48))) e) (and-left (allOf digit bs) (eqb (length bs) 0 || not (eqb b 48)) rest) (eqb b 48) refl (and-right (allOf digit bs) (eqb (length bs) 0 || not (eqb b 48)) rest) a
+      length-step b bs l s (and-left (digit b) (allOf digit bs && (eqb (length bs) 0 || not (eqb b 48))) e)
+      (and-left (allOf digit bs) (eqb (length bs) 0 || not (eqb b 48)) rest) (eqb b 48) refl
+      (and-right (allOf digit bs) (eqb (length bs) 0 || not (eqb b 48)) rest) a
 
   -- a timer after its letters
   pub timer-reads : (kind : ℕ) (w v : List ℕ) (o : Unary) → timedPart kind (value w) ≡ one o → ticksOf o ≡ value w → (t : Tree) (d : ℕ) →
       isLength w ≡ true → ReadsWhole v t d →
-      (n deep : ℕ) (s : State Part) (l : List ℕ) → At text s (40 ∷ (w ++ (44 ∷ (v ++ (41 ∷ l))))) → 5 * length (40 ∷ (w ++ (44 ∷ (v ++ (41 ∷ l))))) ≤ n →
+      (n deep : ℕ) (s : State Part) (l : List ℕ) → At text s (40 ∷ (w ++ (44 ∷ (v ++ (41 ∷ l))))) →
+      5 * length (40 ∷ (w ++ (44 ∷ (v ++ (41 ∷ l))))) ≤ n →
       timerAt (spelled text) text n kind deep s ≡ after (40 ∷ (w ++ (44 ∷ (v ++ (41 ∷ []))))) (unary o t) (d + 1) deep s
   unfolding timerAt timed stepped valueBetween
   timer-reads kind w v o p tk t d e q zero deep s l a h = absurd (omega arith)
@@ -242,7 +282,8 @@ module _ (text : List ℕ) where
       )
       (clocked kind (value w) o p tk w v t d deep s)
 
-  pub latch-letters : (a b kind : ℕ) (o : Binary) → plainPart kind ≡ two o → ((deep : ℕ) → Latch (spelled text) text deep a b kind) → (w v : List ℕ) (t u : Tree) (d e : ℕ) →
+  pub latch-letters : (a b kind : ℕ) (o : Binary) → plainPart kind ≡ two o → ((deep : ℕ) → Latch (spelled text) text deep a b kind) →
+      (w v : List ℕ) (t u : Tree) (d e : ℕ) →
       ReadsWhole w t d → ReadsWhole v u e → ReadsFactor (a ∷ b ∷ 40 ∷ (w ++ (44 ∷ (v ++ (41 ∷ []))))) (binary o t u) (max d e + 1)
   latch-letters a b kind o p c w v t u d e r q zero deep s l y f h = absurd (omega arith)
   latch-letters a b kind o p c w v t u d e r q (suc n) deep s l y f h =
@@ -250,11 +291,16 @@ module _ (text : List ℕ) where
       let h2 = ap length g in
       let y2 : At text s (a ∷ b ∷ 40 ∷ (w ++ (44 ∷ (v ++ (41 ∷ l))))) = rw g at y in
       c deep .is n s (next-of y)
-      ∙ rw (expect-at (step-at y2), latch-reads kind o p w v t u d e r q n deep (stepped 1 (stepped 1 s)) l (step-at (step-at y2)) (omega arith))
+      ∙ rw (
+        expect-at (step-at y2),
+        latch-reads kind o p w v t u d e r q n deep (stepped 1 (stepped 1 s)) l (step-at (step-at y2)) (omega arith),
+      )
       (two-letters a b (40 ∷ (w ++ (44 ∷ (v ++ (41 ∷ []))))) (binary o t u) (max d e + 1) deep s)
 
-  pub timer-letters : (b kind : ℕ) (o : ℕ → Unary) → ((k : ℕ) → timedPart kind k ≡ one (o k)) → ((k : ℕ) → ticksOf (o k) ≡ k) → ((deep : ℕ) → Timer (spelled text) text deep b kind) →
-      (w v : List ℕ) (t : Tree) (d : ℕ) → isLength w ≡ true → ReadsWhole v t d → ReadsFactor (84 ∷ 79 ∷ b ∷ 40 ∷ (w ++ (44 ∷ (v ++ (41 ∷ []))))) (unary (o (value w)) t) (d + 1)
+  pub timer-letters : (b kind : ℕ) (o : ℕ → Unary) → ((k : ℕ) → timedPart kind k ≡ one (o k)) → ((k : ℕ) → ticksOf (o k) ≡ k) →
+      ((deep : ℕ) → Timer (spelled text) text deep b kind) →
+      (w v : List ℕ) (t : Tree) (d : ℕ) → isLength w ≡ true → ReadsWhole v t d →
+      ReadsFactor (84 ∷ 79 ∷ b ∷ 40 ∷ (w ++ (44 ∷ (v ++ (41 ∷ []))))) (unary (o (value w)) t) (d + 1)
   timer-letters b kind o p tk c w v t d e q zero deep s l y f h = absurd (omega arith)
   timer-letters b kind o p tk c w v t d e q (suc n) deep s l y f h =
       let g = regroup w v l in
@@ -262,7 +308,11 @@ module _ (text : List ℕ) where
       let y2 : At text s (84 ∷ 79 ∷ b ∷ 40 ∷ (w ++ (44 ∷ (v ++ (41 ∷ l))))) = rw g at y in
       let y3 = step-at (step-at y2) in
       c deep .is n s (next-of y) (ap (next text) (expect-at (step-at y2)) ∙ next-of y3)
-      ∙ rw (expect-at (step-at y2), timer-reads kind w v (o (value w)) (p (value w)) (tk (value w)) t d e q n deep (stepped 1 (stepped 1 (stepped 1 s))) l (step-at y3) (omega arith))
+      ∙ rw (
+        expect-at (step-at y2),
+        timer-reads kind w v (o (value w)) (p (value w)) (tk (value w)) t d e q n deep (stepped 1 (stepped 1 (stepped 1 s))) l
+            (step-at y3) (omega arith),
+      )
       (three-letters 84 79 b (40 ∷ (w ++ (44 ∷ (v ++ (41 ∷ []))))) (unary (o (value w)) t) (d + 1) deep s)
 
   -- by the rules of the grammar
@@ -281,8 +331,12 @@ module _ (text : List ℕ) where
         | Factor.zero ↦ zero-reads
         | Factor.one ↦ one-reads
         | Factor.named {w} e ↦ named-reads w e
-        | Factor.sr {w} {v} {t} {u} {d} {e} (p → h) (q → k) ↦ latch-letters 83 82 kinds.SR sr refl (λ deep. sr-latch) w v t u d e (whole w t d h) (whole v u e k)
-        | Factor.rs {w} {v} {t} {u} {d} {e} (p → h) (q → k) ↦ latch-letters 82 83 kinds.RS rs refl (λ deep. rs-latch) w v t u d e (whole w t d h) (whole v u e k)
-        | Factor.ton w {v} {t} {d} e (p → h) ↦ timer-letters 78 kinds.TON ton (λ k. refl) (λ k. refl) (λ deep. ton-timer) w v t d e (whole v t d h)
-        | Factor.tof w {v} {t} {d} e (p → h) ↦ timer-letters 70 kinds.TOF tof (λ k. refl) (λ k. refl) (λ deep. tof-timer) w v t d e (whole v t d h)
+        | Factor.sr {w} {v} {t} {u} {d} {e} (p → h) (q →
+            k) ↦ latch-letters 83 82 kinds.SR sr refl (λ deep. sr-latch) w v t u d e (whole w t d h) (whole v u e k)
+        | Factor.rs {w} {v} {t} {u} {d} {e} (p → h) (q →
+            k) ↦ latch-letters 82 83 kinds.RS rs refl (λ deep. rs-latch) w v t u d e (whole w t d h) (whole v u e k)
+        | Factor.ton w {v} {t} {d} e (p →
+            h) ↦ timer-letters 78 kinds.TON ton (λ k. refl) (λ k. refl) (λ deep. ton-timer) w v t d e (whole v t d h)
+        | Factor.tof w {v} {t} {d} e (p →
+            h) ↦ timer-letters 70 kinds.TOF tof (λ k. refl) (λ k. refl) (λ deep. tof-timer) w v t d e (whole v t d h)
       ]

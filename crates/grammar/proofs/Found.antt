@@ -29,7 +29,14 @@ pub put-ok : (x : Part) (deep k : ℕ) (s : State Part) → (put x deep k s) .ok
 unfolding put
 put-ok x deep k s h = go (s .ok) refl h
   where
-    go : (z : Bool) → s .ok ≡ z → (cond z (record { ok = true; at = s .at; out = s .out ++ (x ∷ []); deepest = max (s .deepest) deep; longest = max (s .longest) k }) s) .ok ≡ true → s .ok ≡ true
+    go : (z : Bool) → s .ok ≡ z →
+        (cond z (record {
+          ok = true;
+          at = s .at;
+          out = s .out ++ (x ∷ []);
+          deepest = max (s .deepest) deep;
+          longest = max (s .longest) k;
+        }) s) .ok ≡ true → s .ok ≡ true
     go true z h = z
     go false z h = h
 
@@ -38,7 +45,8 @@ abbrev pub Block : List ℕ → List ℕ → List ℕ
 Block w v = 40 ∷ (w ++ (44 ∷ (v ++ (41 ∷ []))))
 
 module _ (text : List ℕ) where
-  byte-here : (s : State Part) (b : ℕ) → s .ok ≡ true → getD text (s .at) 0 ≡ b → 0 < b → Dec (s .at < length text) → (l : List ℕ) × At text s (b ∷ l)
+  byte-here : (s : State Part) (b : ℕ) → s .ok ≡ true → getD text (s .at) 0 ≡ b → 0 < b → Dec (s .at < length text) →
+      (l : List ℕ) × At text s (b ∷ l)
   byte-here s b z e pos (yes h) =
       (drop (suc (s .at)) text, record { fine = z; left = drop-cons text (s .at) 0 h ∙ ap (λ (x : ℕ). x ∷ drop (suc (s .at)) text) e })
   byte-here s b z e pos (no h) = let e3 = List·getD-eq-default text 0 {n = s .at} (omega (arith, h)) in absurd (omega arith)
@@ -76,7 +84,8 @@ module _ (text : List ℕ) where
   bad-next s z = rw z refl
 
   -- what follows an operand does not mend it
-  pub rest-ok : {deep byte kind level : ℕ} {operand rest whole : ℕ → State Part → State Part} → Chain (spelled text) text deep byte kind level operand rest whole →
+  pub rest-ok : {deep byte kind level : ℕ} {operand rest whole : ℕ → State Part → State Part} →
+      Chain (spelled text) text deep byte kind level operand rest whole →
       (n : ℕ) (s : State Part) → (rest n s) .ok ≡ true → s .ok ≡ true
   unfolding bad
   rest-ok C zero s h = never (ap (λ (r : State Part). r .ok) (sym (C .stops s)) ∙ h)
@@ -110,4 +119,5 @@ module _ (text : List ℕ) where
     pub here : At text s (Block digits body ++ rest)
     pub number : isLength digits ≡ true
     pub operand : Sum body t d
-    pub gives : (o : Unary) → timedPart kind (value digits) ≡ one o → ticksOf o ≡ value digits → r ≡ after (Block digits body) (unary o t) (d + 1) deep s
+    pub gives : (o : Unary) → timedPart kind (value digits) ≡ one o → ticksOf o ≡ value digits →
+        r ≡ after (Block digits body) (unary o t) (d + 1) deep s

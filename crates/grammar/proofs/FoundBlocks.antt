@@ -31,8 +31,10 @@ module _ (text : List ℕ) where
       let q2 : f1 .rest ≡ 44 ∷ l2 = same-left (after-at (f1 .bytes) (f1 .tree) (f1 .depth) (deep + 1) (f1 .here)) (rw (f1 .gives) at x2) in
       let q3 : l2 ≡ f2 .bytes ++ f2 .rest = same-left (step-at x2) a2 in
       let q4 : f2 .rest ≡ 41 ∷ l3 = same-left (after-at (f2 .bytes) (f2 .tree) (f2 .depth) (deep + 1) (f2 .here)) (rw (f2 .gives) at x3) in
-      let g1 : b1 ≡ after (f1 .bytes) (f1 .tree) (f1 .depth) (deep + 1) (stepped 1 s) = f1 .gives ∙ ap (after (f1 .bytes) (f1 .tree) (f1 .depth) (deep + 1)) e1 in
-      let g2 : b2 ≡ after (f2 .bytes) (f2 .tree) (f2 .depth) (deep + 1) (stepped 1 b1) = f2 .gives ∙ ap (after (f2 .bytes) (f2 .tree) (f2 .depth) (deep + 1)) e2 in
+      let g1 : b1 ≡ after (f1 .bytes) (f1 .tree) (f1 .depth) (deep + 1) (stepped 1 s) = f1 .gives
+      ∙ ap (after (f1 .bytes) (f1 .tree) (f1 .depth) (deep + 1)) e1 in
+      let g2 : b2 ≡ after (f2 .bytes) (f2 .tree) (f2 .depth) (deep + 1) (stepped 1 b1) = f2 .gives
+      ∙ ap (after (f2 .bytes) (f2 .tree) (f2 .depth) (deep + 1)) e2 in
       record {
         first = f1 .bytes;
         second = f2 .bytes;
@@ -45,18 +47,21 @@ module _ (text : List ℕ) where
         left = f1 .derived;
         right = f2 .derived;
         gives =
-            ap (put (plainPart kind) deep 0) (expect-at x3 ∙ ap (stepped 1) (g2 ∙ ap (λ (x : State Part). after (f2 .bytes) (f2 .tree) (f2 .depth) (deep + 1) (stepped 1 x)) g1))
+            ap (put (plainPart kind) deep 0) (expect-at x3
+            ∙ ap (stepped 1) (g2 ∙ ap (λ (x : State Part). after (f2 .bytes) (f2 .tree) (f2 .depth) (deep + 1) (stepped 1 x)) g1))
             ∙ latched kind o p (f1 .bytes) (f2 .bytes) (f1 .tree) (f2 .tree) (f1 .depth) (f2 .depth) deep s;
       }
 
-  number-here : (s r : State Part) (w l : List ℕ) → At text s (w ++ l) → r ≡ stepped (length w) s → valueBetween text (s .at) (r .at) ≡ value w
+  number-here : (s r : State Part) (w l : List ℕ) → At text s (w ++ l) → r ≡ stepped (length w) s →
+      valueBetween text (s .at) (r .at) ≡ value w
   unfolding valueBetween stepped
   number-here s r w l a e =
       let gap : (s .at + length w) - s .at ≡ length w = omega arith in
       rw (e, gap, a .left, take-append-seam w l) refl
 
   -- the length and the operand of a timer
-  pub timer-found : (kind deep : ℕ) (s p1 b : State Part) → LengthFound text (expect text 40 s) p1 → Found text Sum (deep + 1) (expect text 44 p1) b →
+  pub timer-found : (kind deep : ℕ) (s p1 b : State Part) → LengthFound text (expect text 40 s) p1 →
+      Found text Sum (deep + 1) (expect text 44 p1) b →
       (l1 : List ℕ) → At text s (40 ∷ l1) → (l2 : List ℕ) → At text p1 (44 ∷ l2) → (l3 : List ℕ) → At text b (41 ∷ l3) →
       TimerFound text kind deep s (timed (spelled text) text kind deep (expect text 40 s .at) (p1 .at) b)
   unfolding timed valueBetween
@@ -70,7 +75,8 @@ module _ (text : List ℕ) where
       let q3 : l2 ≡ f .bytes ++ f .rest = same-left (step-at x2) a2 in
       let q4 : f .rest ≡ 41 ∷ l3 = same-left (after-at (f .bytes) (f .tree) (f .depth) (deep + 1) (f .here)) (rw (f .gives) at x3) in
       let g1 : p1 ≡ stepped (length (g .digits)) (stepped 1 s) = g .gives ∙ ap (stepped (length (g .digits))) e1 in
-      let g2 : b ≡ after (f .bytes) (f .tree) (f .depth) (deep + 1) (stepped 1 p1) = f .gives ∙ ap (after (f .bytes) (f .tree) (f .depth) (deep + 1)) e2 in
+      let g2 : b ≡ after (f .bytes) (f .tree) (f .depth) (deep + 1) (stepped 1 p1) = f .gives
+      ∙ ap (after (f .bytes) (f .tree) (f .depth) (deep + 1)) e2 in
       record {
         digits = g .digits;
         body = f .bytes;
@@ -81,6 +87,7 @@ module _ (text : List ℕ) where
         number = g .number;
         operand = f .derived;
         gives = λ o p tk.
-            let v : valueBetween text (expect text 40 s .at) (p1 .at) ≡ value (g .digits) = number-here (expect text 40 s) p1 (g .digits) (g .rest) (g .here) (g .gives) in
+            let v : valueBetween text (expect text 40 s .at) (p1 .at) ≡ value (g .digits) =
+            number-here (expect text 40 s) p1 (g .digits) (g .rest) (g .here) (g .gives) in
             rw (v, expect-at x3, g2, g1) (clocked kind (value (g .digits)) o p tk (g .digits) (f .bytes) (f .tree) (f .depth) deep s);
       }

@@ -43,7 +43,8 @@ unfolding letter
 lower-pos b e = let h = leb-true 97 b (and-left (leb 97 b) (leb b 122) e) in omega arith
 
 -- a constant or a name
-leaf-eq : (x : Leaf) (w : List ℕ) (deep : ℕ) (s : State Part) → s .ok ≡ true → put (operand x) deep 0 (stepped (length w) s) ≡ after w (leaf x) 0 deep s
+leaf-eq : (x : Leaf) (w : List ℕ) (deep : ℕ) (s : State Part) → s .ok ≡ true →
+    put (operand x) deep 0 (stepped (length w) s) ≡ after w (leaf x) 0 deep s
 unfolding put after stepped code longest
 leaf-eq x w deep s e = rw e (state-eq refl refl refl (omega arith) (omega arith))
 
@@ -83,8 +84,11 @@ module _ (text : List ℕ) where
       digits-found s (next text s) (x .0) (x .1) dig e)
       (λ dig h. never h))
 
-  name-found : (deep : ℕ) (s : State Part) (b : ℕ) (l : List ℕ) → At text s (b ∷ l) → letter b ≡ true → leb (run nameByte (drop (s .at) text)) 8 ≡ true →
-      Found text Factor deep s (put (operand (name (nameAt text (s .at) (run nameByte (drop (s .at) text))))) deep 0 (stepped (run nameByte (drop (s .at) text)) s))
+  name-found : (deep : ℕ) (s : State Part) (b : ℕ) (l : List ℕ) → At text s (b ∷ l) → letter b ≡ true →
+      leb (run nameByte (drop (s .at) text)) 8 ≡ true →
+      Found text Factor deep s
+      (put (operand (name (nameAt text (s .at) (run nameByte (drop (s .at) text))))) deep 0
+      (stepped (run nameByte (drop (s .at) text)) s))
   unfolding run nameAt nameByte wellNamed
   name-found deep s b l a low short =
       let k = run-front nameByte l in
@@ -109,11 +113,27 @@ module _ (text : List ℕ) where
       by-cond (Finds text Factor deep s) (eqb (next text s) 48)
       (λ e h.
       let x = next-inv text s 48 (eqb-true (next text s) 48 e) (omega arith) in
-      record { bytes = 48 ∷ []; tree = leaf down; depth = 0; rest = x .0; here = x .1; derived = Factor.zero; gives = leaf-eq down (48 ∷ []) deep s (x .1 .fine) })
+      record {
+        bytes = 48 ∷ [];
+        tree = leaf down;
+        depth = 0;
+        rest = x .0;
+        here = x .1;
+        derived = Factor.zero;
+        gives = leaf-eq down (48 ∷ []) deep s (x .1 .fine);
+      })
       (λ e0. by-cond (Finds text Factor deep s) (eqb (next text s) 49)
       (λ e h.
       let x = next-inv text s 49 (eqb-true (next text s) 49 e) (omega arith) in
-      record { bytes = 49 ∷ []; tree = leaf up; depth = 0; rest = x .0; here = x .1; derived = Factor.one; gives = leaf-eq up (49 ∷ []) deep s (x .1 .fine) })
+      record {
+        bytes = 49 ∷ [];
+        tree = leaf up;
+        depth = 0;
+        rest = x .0;
+        here = x .1;
+        derived = Factor.one;
+        gives = leaf-eq up (49 ∷ []) deep s (x .1 .fine);
+      })
       (λ e1. by-cond (Finds text Factor deep s) (letter (next text s))
       (λ low. by-cond (Finds text Factor deep s) (leb (run nameByte (drop (s .at) text)) 8)
       (λ short h.

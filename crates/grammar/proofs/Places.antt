@@ -1,7 +1,7 @@
 -- Places in working-out order and surroundings: each part is found and replaced at its place, and each place has a part.
 use Prim.Native.Nat.{ℕ, _+_, _-_, _≤_, _<_}
 use native.Mathlib.Omega.{arith}
-use mathlib.Core.Path.{_≡_, refl, sym, _∙_, ap}
+use mathlib.Core.Path.{_≡_, refl, sym, _∙_, ap, subst}
 use mathlib.Core.Bool.{Bool, true, false}
 use mathlib.Core.List.{List, [], _∷_, _++_, append-assoc}
 use lib.Dec.{ltb}
@@ -74,8 +74,9 @@ split whole part = rw (zero-plus (size part)) (split-own part)
 split (under o c) part = split-then (unary o (around c part) ∷ []) (split c part)
 split (onLeft o c u) part = split-then (parts u ++ (binary o (around c part) u ∷ [])) (split c part)
 split (onRight o t c) part =
-    let sum : size t + earlier c + size part ≡ length (parts t) + (earlier c + size part) = omega (arith, length-parts t) in
-    rw sum (split-after (parts t) (split-then (binary o t (around c part) ∷ []) (split c part)))
+    let sum : length (parts t) + (earlier c + size part) ≡ size t + earlier c + size part = omega (arith, length-parts t) in
+    subst (λ (n : ℕ). Split (parts (binary o t (around c part))) part n) sum
+    (split-after (parts t) (split-then (binary o t (around c part) ∷ []) (split c part)))
 
 -- a part's place comes before the end of the tree
 pub fits : (c : Surroundings) (part : Tree) → earlier c + size part ≤ size (around c part)
@@ -99,7 +100,8 @@ replace-own (unary o t) n new h = rw (le-ltb n (size t) (omega arith))
 replace-own (binary o t u) n new h =
     rw (le-ltb n (size t) (omega arith), le-ltb n (size t + size u) (omega arith))
 
-replace-in : (c : Surroundings) (part : Tree) (n : ℕ) (new : Tree) → n + 1 ≡ earlier c + size part → replaceAt (around c part) n new ≡ around c new
+replace-in : (c : Surroundings) (part : Tree) (n : ℕ) (new : Tree) → n + 1 ≡ earlier c + size part →
+    replaceAt (around c part) n new ≡ around c new
 unfolding around earlier replaceAt
 replace-in whole part n new h = replace-own part n new (omega arith)
 replace-in (under o c) part n new h =
@@ -155,7 +157,8 @@ spot (unary o t) n h = go (ltb n (size t)) refl (spot t n)
         record { surroundings = whole; part = unary o t; same = refl; counted = omega arith }
 spot (binary o t u) n h = go (ltb n (size t)) refl (ltb n (size t + size u)) refl (spot t n) (spot u (n - size t))
   where
-    go : (b : Bool) → ltb n (size t) ≡ b → (b2 : Bool) → ltb n (size t + size u) ≡ b2 → (n < size t → Spot t n) → (n - size t < size u → Spot u (n - size t)) → Spot (binary o t u) n
+    go : (b : Bool) → ltb n (size t) ≡ b → (b2 : Bool) → ltb n (size t + size u) ≡ b2 → (n < size t → Spot t n) →
+        (n - size t < size u → Spot u (n - size t)) → Spot (binary o t u) n
     go true e b2 e2 rec rec2 =
         let x = rec (ltb-true n (size t) e) in
         record {

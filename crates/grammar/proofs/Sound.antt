@@ -11,7 +11,8 @@ use Rattle.grammar.specs.Code.{Part, operand, one, two, ticksOf}
 use Rattle.texts.specs.Lengths.{isLength, value}
 use Rattle.grammar.specs.Grammar.{Sum, Product, Factor}
 use Rattle.grammar.specs.Kinds as kinds
-use Rattle.grammar.specs.Reader.{State, next, bad, stepped, expect, put, passLength, valueBetween, prefixKind, timed, sumAt, sumsAt, productAt, productsAt, factorAt, latchAt, timerAt}
+use Rattle.grammar.specs.Reader.{State, next, bad, stepped, expect, put, passLength, valueBetween, prefixKind, timed, sumAt, sumsAt}
+use Rattle.grammar.specs.Reader.{productAt, productsAt, factorAt, latchAt, timerAt}
 use Rattle.grammar.specs.Formula.{plainPart, timedPart, spelled}
 use Rattle.grammar.proofs.Bytes.{never, by-cond}
 use Rattle.grammar.proofs.Standing.{At, step-at, expect-at, after, after-at}
@@ -25,12 +26,16 @@ module _ (text : List ℕ) where
   -- what the readers find with so much fuel
   record Sound (n : ℕ) : Type 0 where
     sum : (deep : ℕ) (s : State Part) → Finds text Sum deep s (sumAt (spelled text) text n deep s)
-    sums : (deep : ℕ) (s : State Part) (w : List ℕ) (t : Tree) (d : ℕ) (l : List ℕ) → Sum w t d → At text s (w ++ l) → Finds text Sum deep s (sumsAt (spelled text) text n deep (after w t d deep s))
+    sums : (deep : ℕ) (s : State Part) (w : List ℕ) (t : Tree) (d : ℕ) (l : List ℕ) → Sum w t d → At text s (w ++ l) →
+        Finds text Sum deep s (sumsAt (spelled text) text n deep (after w t d deep s))
     product : (deep : ℕ) (s : State Part) → Finds text Product deep s (productAt (spelled text) text n deep s)
-    products : (deep : ℕ) (s : State Part) (w : List ℕ) (t : Tree) (d : ℕ) (l : List ℕ) → Product w t d → At text s (w ++ l) → Finds text Product deep s (productsAt (spelled text) text n deep (after w t d deep s))
+    products : (deep : ℕ) (s : State Part) (w : List ℕ) (t : Tree) (d : ℕ) (l : List ℕ) → Product w t d → At text s (w ++ l) →
+        Finds text Product deep s (productsAt (spelled text) text n deep (after w t d deep s))
     factor : (deep : ℕ) (s : State Part) → Finds text Factor deep s (factorAt (spelled text) text n deep s)
-    latch : (kind : ℕ) (o : Binary) → plainPart kind ≡ two o → (deep : ℕ) (s : State Part) → (latchAt (spelled text) text n kind deep s) .ok ≡ true → LatchFound text o deep s (latchAt (spelled text) text n kind deep s)
-    timer : (kind deep : ℕ) (s : State Part) → (timerAt (spelled text) text n kind deep s) .ok ≡ true → TimerFound text kind deep s (timerAt (spelled text) text n kind deep s)
+    latch : (kind : ℕ) (o : Binary) → plainPart kind ≡ two o → (deep : ℕ) (s : State Part) →
+        (latchAt (spelled text) text n kind deep s) .ok ≡ true → LatchFound text o deep s (latchAt (spelled text) text n kind deep s)
+    timer : (kind deep : ℕ) (s : State Part) → (timerAt (spelled text) text n kind deep s) .ok ≡ true →
+        TimerFound text kind deep s (timerAt (spelled text) text n kind deep s)
 
   none : Sound zero
   unfolding sumAt bad
@@ -46,7 +51,8 @@ module _ (text : List ℕ) where
       }
 
   -- one more operand of a chain stands after the operator b
-  longer : (w v : List ℕ) (b : ℕ) (t : Tree) (d deep : ℕ) (s : State Part) (l m : List ℕ) → At text s (w ++ l) → next text (after w t d deep s) ≡ b → 0 < b →
+  longer : (w v : List ℕ) (b : ℕ) (t : Tree) (d deep : ℕ) (s : State Part) (l m : List ℕ) → At text s (w ++ l) →
+      next text (after w t d deep s) ≡ b → 0 < b →
       At text (stepped 1 (after w t d deep s)) (v ++ m) → At text s ((w ++ (b ∷ v)) ++ m)
   longer w v b t d deep s l m a e pos c =
       let x = after-at w t d deep a in
@@ -55,18 +61,23 @@ module _ (text : List ℕ) where
       rw (append-assoc w (b ∷ v) m, ← z) a
 
   -- a chain W of operands O
-  module _ {deep byte kind level : ℕ} {operand rest whole : ℕ → State Part → State Part} (C : Chain (spelled text) text deep byte kind level operand rest whole)
+  module _ {deep byte kind level : ℕ} {operand rest whole : ℕ → State Part → State Part}
+      (C : Chain (spelled text) text deep byte kind level operand rest whole)
       (O W : List ℕ → Tree → ℕ → Type 0) (n : ℕ) (reads : (s : State Part) → Finds text O deep s (operand n s))
-      (goes-on : (s : State Part) (w : List ℕ) (t : Tree) (d : ℕ) (l : List ℕ) → W w t d → At text s (w ++ l) → Finds text W deep s (rest n (after w t d deep s))) where
+      (goes-on : (s : State Part) (w : List ℕ) (t : Tree) (d : ℕ) (l : List ℕ) → W w t d → At text s (w ++ l) →
+      Finds text W deep s (rest n (after w t d deep s))) where
     whole-step : ((w : List ℕ) (t : Tree) (d : ℕ) → O w t d → W w t d) → (s : State Part) → Finds text W deep s (whole (suc n) s)
     whole-step up s =
         subst (Finds text W deep s) (sym (C .begins n s))
         (λ h.
         let p = reads s (rest-ok text C n (operand n s) h) in
-        rw (p .gives) (goes-on s (p .bytes) (p .tree) (p .depth) (p .rest) (up (p .bytes) (p .tree) (p .depth) (p .derived)) (p .here) (rw (p .gives) at h)))
+        rw (p .gives) (goes-on s (p .bytes) (p .tree) (p .depth) (p .rest) (up (p .bytes) (p .tree) (p .depth) (p .derived)) (p .here)
+        (rw (p .gives) at h)))
 
-    rest-step : (o : Binary) → plainPart kind ≡ two o → ((w v : List ℕ) (t u : Tree) (d e : ℕ) → W w t d → O v u e → W (w ++ (byte ∷ v)) (binary o t u) (max d e)) →
-        (s : State Part) (w : List ℕ) (t : Tree) (d : ℕ) (l : List ℕ) → W w t d → At text s (w ++ l) → Finds text W deep s (rest (suc n) (after w t d deep s))
+    rest-step : (o : Binary) → plainPart kind ≡ two o →
+        ((w v : List ℕ) (t u : Tree) (d e : ℕ) → W w t d → O v u e → W (w ++ (byte ∷ v)) (binary o t u) (max d e)) →
+        (s : State Part) (w : List ℕ) (t : Tree) (d : ℕ) (l : List ℕ) → W w t d → At text s (w ++ l) →
+        Finds text W deep s (rest (suc n) (after w t d deep s))
     rest-step o q more s w t d l x a =
         subst (Finds text W deep s) (sym (C .goes-on n (after w t d deep s)))
         (by-cond (Finds text W deep s) (eqb (next text (after w t d deep s)) byte)
@@ -75,11 +86,14 @@ module _ (text : List ℕ) where
         let p = reads i (put-ok (plainPart kind) deep 0 (operand n i) (rest-ok text C n (put (plainPart kind) deep 0 (operand n i)) h)) in
         let j = joined o w (p .bytes) t (p .tree) d (p .depth) byte kind deep s q in
         rw (p .gives, j)
-        (goes-on s (w ++ (byte ∷ p .bytes)) (binary o t (p .tree)) (max d (p .depth)) (p .rest) (more w (p .bytes) t (p .tree) d (p .depth) x (p .derived))
-        (longer w (p .bytes) byte t d deep s l (p .rest) a (eqb-true (next text (after w t d deep s)) byte e) (C .some) (p .here)) (rw (p .gives, j) at h)))
+        (goes-on s (w ++ (byte ∷ p .bytes)) (binary o t (p .tree)) (max d (p .depth)) (p .rest)
+        (more w (p .bytes) t (p .tree) d (p .depth) x (p .derived))
+        (longer w (p .bytes) byte t d deep s l (p .rest) a (eqb-true (next text (after w t d deep s)) byte e) (C .some) (p .here))
+        (rw (p .gives, j) at h)))
         (λ e h. record { bytes = w; tree = t; depth = d; rest = l; here = a; derived = x; gives = refl }))
 
-  latch-step : (n : ℕ) → Sound n → (kind : ℕ) (o : Binary) → plainPart kind ≡ two o → (deep : ℕ) (s : State Part) → (latchAt (spelled text) text (suc n) kind deep s) .ok ≡ true →
+  latch-step : (n : ℕ) → Sound n → (kind : ℕ) (o : Binary) → plainPart kind ≡ two o → (deep : ℕ) (s : State Part) →
+      (latchAt (spelled text) text (suc n) kind deep s) .ok ≡ true →
       LatchFound text o deep s (latchAt (spelled text) text (suc n) kind deep s)
   unfolding latchAt
   latch-step n ih kind o p deep s h =
@@ -114,7 +128,8 @@ module _ (text : List ℕ) where
       Finds text Factor deep s (put (plainPart (prefixKind (next text s))) deep 0 (factorAt (spelled text) text n (deep + 1) (stepped 1 s)))
   prefix-found b kind o pk pp tk pos make n ih deep s e h =
       let x = next-inv text s b e pos in
-      let f = ih .factor (deep + 1) (stepped 1 s) (put-ok (plainPart (prefixKind (next text s))) deep 0 (factorAt (spelled text) text n (deep + 1) (stepped 1 s)) h) in
+      let f = ih .factor (deep + 1) (stepped 1 s)
+      (put-ok (plainPart (prefixKind (next text s))) deep 0 (factorAt (spelled text) text n (deep + 1) (stepped 1 s)) h) in
       record {
         bytes = b ∷ f .bytes;
         tree = unary o (f .tree);
@@ -134,41 +149,49 @@ module _ (text : List ℕ) where
   prefix-step n ih deep s e = go (eqb (next text s) 33) refl
     where
       goal : Type 0
-      goal = Finds text Factor deep s (put (plainPart (prefixKind (next text s))) deep 0 (factorAt (spelled text) text n (deep + 1) (stepped 1 s)))
+      goal = Finds text Factor deep s
+          (put (plainPart (prefixKind (next text s))) deep 0 (factorAt (spelled text) text n (deep + 1) (stepped 1 s)))
 
       go3 : eqb (next text s) 33 ≡ false → eqb (next text s) 94 ≡ false → (z : Bool) → eqb (next text s) 126 ≡ z → goal
-      go3 p q true z = prefix-found 126 kinds.FALLING fall refl refl refl (omega arith) (λ w t d x. Factor.falling x) n ih deep s (eqb-true (next text s) 126 z)
+      go3 p q true z = prefix-found 126 kinds.FALLING fall refl refl refl (omega arith) (λ w t d x. Factor.falling x) n ih deep s
+          (eqb-true (next text s) 126 z)
       go3 p q false z = never (rw (p, q, z) at e)
 
       go2 : eqb (next text s) 33 ≡ false → (z : Bool) → eqb (next text s) 94 ≡ z → goal
-      go2 p true z = prefix-found 94 kinds.RISING rise refl refl refl (omega arith) (λ w t d x. Factor.rising x) n ih deep s (eqb-true (next text s) 94 z)
+      go2 p true z = prefix-found 94 kinds.RISING rise refl refl refl (omega arith) (λ w t d x. Factor.rising x) n ih deep s
+          (eqb-true (next text s) 94 z)
       go2 p false z = go3 p z (eqb (next text s) 126) refl
 
       go : (z : Bool) → eqb (next text s) 33 ≡ z → goal
-      go true z = prefix-found 33 kinds.NOT invert refl refl refl (omega arith) (λ w t d x. Factor.inverted x) n ih deep s (eqb-true (next text s) 33 z)
+      go true z = prefix-found 33 kinds.NOT invert refl refl refl (omega arith) (λ w t d x. Factor.inverted x) n ih deep s
+          (eqb-true (next text s) 33 z)
       go false z = go2 z (eqb (next text s) 94) refl
 
-  brackets-step : (n : ℕ) → Sound n → (deep : ℕ) (s : State Part) → next text s ≡ 40 → Finds text Factor deep s (expect text 41 (sumAt (spelled text) text n (deep + 1) (stepped 1 s)))
+  brackets-step : (n : ℕ) → Sound n → (deep : ℕ) (s : State Part) → next text s ≡ 40 →
+      Finds text Factor deep s (expect text 41 (sumAt (spelled text) text n (deep + 1) (stepped 1 s)))
   brackets-step n ih deep s e h =
       let x = next-inv text s 40 e (omega arith) in
       let b = sumAt (spelled text) text n (deep + 1) (stepped 1 s) in
       let x3 = expect-inv text b 41 (omega arith) h in
       let f = ih .sum (deep + 1) (stepped 1 s) (x3 .1 .fine) in
       let q1 : x .0 ≡ f .bytes ++ f .rest = same-left (step-at (x .1)) (f .here) in
-      let q2 : f .rest ≡ 41 ∷ x3 .0 = same-left (after-at (f .bytes) (f .tree) (f .depth) (deep + 1) (f .here)) (moved (f .gives) (x3 .1)) in
+      let q2 : f .rest ≡ 41 ∷ x3 .0 =
+      same-left (after-at (f .bytes) (f .tree) (f .depth) (deep + 1) (f .here)) (moved (f .gives) (x3 .1)) in
       record {
         bytes = 40 ∷ (f .bytes ++ (41 ∷ []));
         tree = f .tree;
         depth = f .depth + 1;
         rest = x3 .0;
-        here = subst (λ (k : List ℕ). At text s (40 ∷ k)) (q1 ∙ ap (λ (k : List ℕ). f .bytes ++ k) q2 ∙ sym (append-assoc (f .bytes) (41 ∷ []) (x3 .0))) (x .1);
+        here = subst (λ (k : List ℕ). At text s (40 ∷ k)) (q1 ∙ ap (λ (k : List ℕ). f .bytes ++ k) q2
+            ∙ sym (append-assoc (f .bytes) (41 ∷ []) (x3 .0))) (x .1);
         derived = Factor.brackets (f .derived);
         gives = expect-at (x3 .1) ∙ ap (stepped 1) (f .gives) ∙ bracketed (f .bytes) (f .tree) (f .depth) deep s;
       }
 
   latch-letters : (b c kind : ℕ) (o : Binary) → plainPart kind ≡ two o → 0 < b → 0 < c →
       ((w v : List ℕ) (t u : Tree) (d e : ℕ) → Sum w t d → Sum v u e → Factor (b ∷ c ∷ Block w v) (binary o t u) (max d e + 1)) →
-      (n : ℕ) → Sound n → (deep : ℕ) (s : State Part) → next text s ≡ b → Finds text Factor deep s (latchAt (spelled text) text n kind deep (expect text c (stepped 1 s)))
+      (n : ℕ) → Sound n → (deep : ℕ) (s : State Part) → next text s ≡ b →
+      Finds text Factor deep s (latchAt (spelled text) text n kind deep (expect text c (stepped 1 s)))
   latch-letters b c kind o p pb pc make n ih deep s e h =
       let x = next-inv text s b e pb in
       let f = ih .latch kind o p deep (expect text c (stepped 1 s)) h in
@@ -189,7 +212,8 @@ module _ (text : List ℕ) where
 
   -- a timer whose three letters end in c
   timer-letters : (c kind : ℕ) (o : ℕ → Unary) → ((n : ℕ) → timedPart kind n ≡ one (o n)) → ((n : ℕ) → ticksOf (o n) ≡ n) →
-      ((w v : List ℕ) (t : Tree) (d : ℕ) → isLength w ≡ true → Sum v t d → Factor (84 ∷ 79 ∷ c ∷ Block w v) (unary (o (value w)) t) (d + 1)) →
+      ((w v : List ℕ) (t : Tree) (d : ℕ) → isLength w ≡ true → Sum v t d →
+      Factor (84 ∷ 79 ∷ c ∷ Block w v) (unary (o (value w)) t) (d + 1)) →
       (n : ℕ) → Sound n → (deep : ℕ) (s r : State Part) → next text s ≡ 84 →
       (l1 : List ℕ) → At text (stepped 1 s) (79 ∷ l1) → (l2 : List ℕ) → At text (stepped 1 (stepped 1 s)) (c ∷ l2) →
       r ≡ stepped 1 (stepped 1 (stepped 1 s)) → Finds text Factor deep s (timerAt (spelled text) text n kind deep r)
@@ -214,7 +238,8 @@ module _ (text : List ℕ) where
 
   timers-step : (n : ℕ) → Sound n → (deep : ℕ) (s : State Part) → next text s ≡ 84 →
       Finds text Factor deep s
-      (cond (eqb (next text (expect text 79 (stepped 1 s))) 78) (timerAt (spelled text) text n kinds.TON deep (stepped 1 (expect text 79 (stepped 1 s))))
+      (cond (eqb (next text (expect text 79 (stepped 1 s))) 78)
+      (timerAt (spelled text) text n kinds.TON deep (stepped 1 (expect text 79 (stepped 1 s))))
       (timerAt (spelled text) text n kinds.TOF deep (expect text 70 (expect text 79 (stepped 1 s)))))
   unfolding timedPart
   timers-step n ih deep s e =
@@ -223,13 +248,15 @@ module _ (text : List ℕ) where
       let y = next-inv text (expect text 79 (stepped 1 s)) 78 (eqb-true (next text (expect text 79 (stepped 1 s))) 78 z) (omega arith) in
       let x = expect-inv text (stepped 1 s) 79 (omega arith) (y .1 .fine) in
       let e2 = expect-at (x .1) in
-      timer-letters 78 kinds.TON ton (λ n. refl) (λ n. refl) (λ w v t d a b. Factor.ton w a b) n ih deep s (stepped 1 (expect text 79 (stepped 1 s))) e (x .0) (x .1) (y .0) (moved e2 (y .1)) (ap (stepped 1) e2) h)
+      timer-letters 78 kinds.TON ton (λ n. refl) (λ n. refl) (λ w v t d a b. Factor.ton w a b) n ih deep s
+      (stepped 1 (expect text 79 (stepped 1 s))) e (x .0) (x .1) (y .0) (moved e2 (y .1)) (ap (stepped 1) e2) h)
       (λ z h.
       let g = ih .timer kinds.TOF deep (expect text 70 (expect text 79 (stepped 1 s))) h in
       let y = expect-inv text (expect text 79 (stepped 1 s)) 70 (omega arith) (g .here .fine) in
       let x = expect-inv text (stepped 1 s) 79 (omega arith) (y .1 .fine) in
       let e2 = expect-at (x .1) in
-      timer-letters 70 kinds.TOF tof (λ n. refl) (λ n. refl) (λ w v t d a b. Factor.tof w a b) n ih deep s (expect text 70 (expect text 79 (stepped 1 s))) e (x .0) (x .1) (y .0) (moved e2 (y .1)) (expect-at (y .1) ∙ ap (stepped 1) e2) h)
+      timer-letters 70 kinds.TOF tof (λ n. refl) (λ n. refl) (λ w v t d a b. Factor.tof w a b) n ih deep s
+      (expect text 70 (expect text 79 (stepped 1 s))) e (x .0) (x .1) (y .0) (moved e2 (y .1)) (expect-at (y .1) ∙ ap (stepped 1) e2) h)
 
   factor-step : (n : ℕ) → Sound n → (deep : ℕ) (s : State Part) → Finds text Factor deep s (factorAt (spelled text) text (suc n) deep s)
   unfolding factorAt
@@ -237,9 +264,11 @@ module _ (text : List ℕ) where
       by-cond (Finds text Factor deep s) (ltb 0 (prefixKind (next text s))) (prefix-step n ih deep s)
       (λ e1. by-cond (Finds text Factor deep s) (eqb (next text s) 40) (λ e. brackets-step n ih deep s (eqb-true (next text s) 40 e))
       (λ e2. by-cond (Finds text Factor deep s) (eqb (next text s) 83)
-      (λ e. latch-letters 83 82 kinds.SR sr refl (omega arith) (omega arith) (λ w v t u d e a b. Factor.sr a b) n ih deep s (eqb-true (next text s) 83 e))
+      (λ e. latch-letters 83 82 kinds.SR sr refl (omega arith) (omega arith) (λ w v t u d e a b. Factor.sr a b) n ih deep s
+      (eqb-true (next text s) 83 e))
       (λ e3. by-cond (Finds text Factor deep s) (eqb (next text s) 82)
-      (λ e. latch-letters 82 83 kinds.RS rs refl (omega arith) (omega arith) (λ w v t u d e a b. Factor.rs a b) n ih deep s (eqb-true (next text s) 82 e))
+      (λ e. latch-letters 82 83 kinds.RS rs refl (omega arith) (omega arith) (λ w v t u d e a b. Factor.rs a b) n ih deep s
+      (eqb-true (next text s) 82 e))
       (λ e4. by-cond (Finds text Factor deep s) (eqb (next text s) 84) (λ e. timers-step n ih deep s (eqb-true (next text s) 84 e))
       (λ e5. leaf-step text deep s)))))
 
@@ -250,7 +279,8 @@ module _ (text : List ℕ) where
         sum = λ deep. whole-step plus Product Sum n (sound n .product deep) (sound n .sums deep) (λ w t d. Sum.product);
         sums = λ deep. rest-step plus Product Sum n (sound n .product deep) (sound n .sums deep) or refl (λ w v t u d e. Sum.plus);
         product = λ deep. whole-step times Factor Product n (sound n .factor deep) (sound n .products deep) (λ w t d. Product.factor);
-        products = λ deep. rest-step times Factor Product n (sound n .factor deep) (sound n .products deep) and refl (λ w v t u d e. Product.dot);
+        products = λ deep. rest-step times Factor Product n (sound n .factor deep) (sound n .products deep) and refl
+            (λ w v t u d e. Product.dot);
         factor = factor-step n (sound n);
         latch = latch-step n (sound n);
         timer = timer-step n (sound n);

@@ -12,7 +12,8 @@ use Rattle.grammar.specs.Code.{Part, code, longest}
 use Rattle.grammar.specs.Reader.{State, next, stepped, expect}
 
 module _ {X : Type 0} where
-  pub state-eq : {a b : State X} → a .ok ≡ b .ok → a .at ≡ b .at → a .out ≡ b .out → a .deepest ≡ b .deepest → a .longest ≡ b .longest → a ≡ b
+  pub state-eq : {a b : State X} → a .ok ≡ b .ok → a .at ≡ b .at → a .out ≡ b .out → a .deepest ≡ b .deepest → a .longest ≡ b .longest →
+      a ≡ b
   state-eq p q r u v = λ i. record { ok = p i; at = q i; out = r i; deepest = u i; longest = v i }
 
   -- all is well and these bytes are left
@@ -40,8 +41,15 @@ module _ {X : Type 0} where
 -- what a reader makes of bytes w that write the tree t to depth d, when it stands at s with so many open
 unfoldable pub after : List ℕ → Tree → ℕ → ℕ → State Part → State Part
 after w t d deep s =
-    record { ok = true; at = s .at + length w; out = s .out ++ code t; deepest = max (s .deepest) (deep + d); longest = max (s .longest) (longest t) }
+    record {
+      ok = true;
+      at = s .at + length w;
+      out = s .out ++ code t;
+      deepest = max (s .deepest) (deep + d);
+      longest = max (s .longest) (longest t);
+    }
 
-pub after-at : {text : List ℕ} {s : State Part} (w : List ℕ) (t : Tree) (d deep : ℕ) {l : List ℕ} → At text s (w ++ l) → At text (after w t d deep s) l
+pub after-at : {text : List ℕ} {s : State Part} (w : List ℕ) (t : Tree) (d deep : ℕ) {l : List ℕ} → At text s (w ++ l) →
+    At text (after w t d deep s) l
 unfolding after stepped
 after-at w t d deep a = record { fine = refl; left = steps-at w a .left }

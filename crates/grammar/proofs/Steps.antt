@@ -33,17 +33,21 @@ pub latched : (kind : ℕ) (o : Binary) → plainPart kind ≡ two o → (w v : 
     ≡ after (40 ∷ (w ++ (44 ∷ (v ++ (41 ∷ []))))) (binary o t u) (max d e + 1) deep s
 unfolding put after stepped code longest
 latched kind o p w v t u d e deep s =
-    state-eq refl (omega (arith, length-append w (44 ∷ (v ++ (41 ∷ []))), length-append v (41 ∷ []))) (rw (p, append-assoc, append-assoc) refl) (omega arith) (omega arith)
+    state-eq refl (omega (arith, length-append w (44 ∷ (v ++ (41 ∷ []))), length-append v (41 ∷ [])))
+    (rw (p, append-assoc, append-assoc) refl) (omega arith) (omega arith)
 
-pub clocked : (kind n : ℕ) (o : Unary) → timedPart kind n ≡ one o → ticksOf o ≡ n → (w v : List ℕ) (t : Tree) (d deep : ℕ) (s : State Part) →
+pub clocked : (kind n : ℕ) (o : Unary) → timedPart kind n ≡ one o → ticksOf o ≡ n →
+    (w v : List ℕ) (t : Tree) (d deep : ℕ) (s : State Part) →
     put (timedPart kind n) deep n (stepped 1 (after v t d (deep + 1) (stepped 1 (stepped (length w) (stepped 1 s)))))
     ≡ after (40 ∷ (w ++ (44 ∷ (v ++ (41 ∷ []))))) (unary o t) (d + 1) deep s
 unfolding put after stepped code longest
 clocked kind n o p tk w v t d deep s =
-    state-eq refl (omega (arith, length-append w (44 ∷ (v ++ (41 ∷ []))), length-append v (41 ∷ []))) (rw p (append-assoc (s .out) (code t) (one o ∷ []))) (omega arith) (omega arith)
+    state-eq refl (omega (arith, length-append w (44 ∷ (v ++ (41 ∷ []))), length-append v (41 ∷ [])))
+    (rw p (append-assoc (s .out) (code t) (one o ∷ []))) (omega arith) (omega arith)
 
 -- letters before a block's bracket
-pub two-letters : (a b : ℕ) (x : List ℕ) (t : Tree) (d deep : ℕ) (s : State Part) → after x t d deep (stepped 1 (stepped 1 s)) ≡ after (a ∷ b ∷ x) t d deep s
+pub two-letters : (a b : ℕ) (x : List ℕ) (t : Tree) (d deep : ℕ) (s : State Part) →
+    after x t d deep (stepped 1 (stepped 1 s)) ≡ after (a ∷ b ∷ x) t d deep s
 unfolding after stepped
 two-letters a b x t d deep s = state-eq refl (omega arith) refl refl refl
 

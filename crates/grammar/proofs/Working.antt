@@ -10,7 +10,8 @@ unfolding code work
 worked (leaf l) ps stack = refl
 worked (unary o t) ps stack = ap (λ (l : List Part). work l stack) (append-assoc (code t) (one o ∷ []) ps) ∙ worked t (one o ∷ ps) stack
 worked (binary o t u) ps stack =
-    ap (λ (l : List Part). work l stack) (append-assoc (code t) (code u ++ (two o ∷ [])) ps ∙ ap (λ (l : List Part). code t ++ l) (append-assoc (code u) (two o ∷ []) ps))
+    ap (λ (l : List Part). work l stack) (append-assoc (code t) (code u ++ (two o ∷ [])) ps
+    ∙ ap (λ (l : List Part). code t ++ l) (append-assoc (code u) (two o ∷ []) ps))
     ∙ worked t (code u ++ (two o ∷ ps)) stack
     ∙ worked u (two o ∷ ps) (t ∷ stack)
 

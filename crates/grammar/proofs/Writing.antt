@@ -25,7 +25,8 @@ unfolding allOf
 all-more c [] e f = rw f refl
 all-more c (b ∷ w) e f = go (digit b) e (λ h. all-more c w h f)
   where
-    go : (z : Bool) → z && allOf digit w ≡ true → (allOf digit w ≡ true → allOf digit (w ++ (c ∷ [])) ≡ true) → z && allOf digit (w ++ (c ∷ [])) ≡ true
+    go : (z : Bool) → z && allOf digit w ≡ true → (allOf digit w ≡ true → allOf digit (w ++ (c ∷ [])) ≡ true) →
+        z && allOf digit (w ++ (c ∷ [])) ≡ true
     go true e g = g e
     go false e g = e
 
@@ -48,7 +49,14 @@ digits-of zero v h pos = absurd (omega arith)
 digits-of (suc n) v h pos = go (decLt v 10) (digits-of n (v / 10))
   where
     go : Dec (v < 10) → (v / 10 ≤ n → 0 < v / 10 → Digits (v / 10)) → Digits v
-    go (yes k) ih = record { first = 48 + v; others = []; leads = digit-is v k; digits = refl; above = ne-eqb (48 + v) 48 (omega arith); number = omega arith }
+    go (yes k) ih = record {
+      first = 48 + v;
+      others = [];
+      leads = digit-is v k;
+      digits = refl;
+      above = ne-eqb (48 + v) 48 (omega arith);
+      number = omega arith;
+    }
     go (no k) ih =
         let r = ih (omega (arith, k)) (omega (arith, k)) in
         let m = value-more 0 (48 + v % 10) (r .first ∷ r .others) in
@@ -65,7 +73,8 @@ digits-of (suc n) v h pos = go (decLt v 10) (digits-of n (v / 10))
 pub length-written : (v : ℕ) → (w : List ℕ) × (isLength w ≡ true) × (value w ≡ v)
 unfolding isLength value valueFrom digit allOf
 length-written zero = (48 ∷ [], refl, refl)
-length-written (suc v) = let r = digits-of (suc v) (suc v) (omega arith) (omega arith) in (r .first ∷ r .others, rw (r .leads, r .digits, r .above) (or-true (eqb (length (r .others)) 0)), r .number)
+length-written (suc v) = let r = digits-of (suc v) (suc v) (omega arith) (omega arith) in
+    (r .first ∷ r .others, rw (r .leads, r .digits, r .above) (or-true (eqb (length (r .others)) 0)), r .number)
   where
     or-true : (a : Bool) → a || true ≡ true
     or-true true = refl
@@ -83,31 +92,45 @@ factor-written (unary (ton n) t) h =
     let l = length-written n in (
       84 ∷ 79 ∷ 78 ∷ 40 ∷ (l .0 ++ (44 ∷ (r .0 ++ (41 ∷ [])))),
       r .1 + 1,
-      subst (λ (k : ℕ). Factor (84 ∷ 79 ∷ 78 ∷ 40 ∷ (l .0 ++ (44 ∷ (r .0 ++ (41 ∷ []))))) (unary (ton k) t) (r .1 + 1)) (l .2) (Factor.ton (l .0) (l .1) (Sum.product (Product.factor (r .2)))),
+      subst (λ (k : ℕ). Factor (84 ∷ 79 ∷ 78 ∷ 40 ∷ (l .0 ++ (44 ∷ (r .0 ++ (41 ∷ []))))) (unary (ton k) t) (r .1 + 1)) (l .2)
+          (Factor.ton (l .0) (l .1) (Sum.product (Product.factor (r .2)))),
     )
 factor-written (unary (tof n) t) h =
     let r = factor-written t h in
     let l = length-written n in (
       84 ∷ 79 ∷ 70 ∷ 40 ∷ (l .0 ++ (44 ∷ (r .0 ++ (41 ∷ [])))),
       r .1 + 1,
-      subst (λ (k : ℕ). Factor (84 ∷ 79 ∷ 70 ∷ 40 ∷ (l .0 ++ (44 ∷ (r .0 ++ (41 ∷ []))))) (unary (tof k) t) (r .1 + 1)) (l .2) (Factor.tof (l .0) (l .1) (Sum.product (Product.factor (r .2)))),
+      subst (λ (k : ℕ). Factor (84 ∷ 79 ∷ 70 ∷ 40 ∷ (l .0 ++ (44 ∷ (r .0 ++ (41 ∷ []))))) (unary (tof k) t) (r .1 + 1)) (l .2)
+          (Factor.tof (l .0) (l .1) (Sum.product (Product.factor (r .2)))),
     )
 factor-written (binary and t u) h =
     let r = factor-written t (h .0) in
-    let q = factor-written u (h .1) in
-    (40 ∷ ((r .0 ++ (46 ∷ q .0)) ++ (41 ∷ [])), max (r .1) (q .1) + 1, Factor.brackets (Sum.product (Product.dot (Product.factor (r .2)) (q .2))))
+    let q = factor-written u (h .1) in (
+      40 ∷ ((r .0 ++ (46 ∷ q .0)) ++ (41 ∷ [])),
+      max (r .1) (q .1) + 1,
+      Factor.brackets (Sum.product (Product.dot (Product.factor (r .2)) (q .2))),
+    )
 factor-written (binary or t u) h =
     let r = factor-written t (h .0) in
-    let q = factor-written u (h .1) in
-    (40 ∷ ((r .0 ++ (43 ∷ q .0)) ++ (41 ∷ [])), max (r .1) (q .1) + 1, Factor.brackets (Sum.plus (Sum.product (Product.factor (r .2))) (Product.factor (q .2))))
+    let q = factor-written u (h .1) in (
+      40 ∷ ((r .0 ++ (43 ∷ q .0)) ++ (41 ∷ [])),
+      max (r .1) (q .1) + 1,
+      Factor.brackets (Sum.plus (Sum.product (Product.factor (r .2))) (Product.factor (q .2))),
+    )
 factor-written (binary sr t u) h =
     let r = factor-written t (h .0) in
-    let q = factor-written u (h .1) in
-    (83 ∷ 82 ∷ 40 ∷ (r .0 ++ (44 ∷ (q .0 ++ (41 ∷ [])))), max (r .1) (q .1) + 1, Factor.sr (Sum.product (Product.factor (r .2))) (Sum.product (Product.factor (q .2))))
+    let q = factor-written u (h .1) in (
+      83 ∷ 82 ∷ 40 ∷ (r .0 ++ (44 ∷ (q .0 ++ (41 ∷ [])))),
+      max (r .1) (q .1) + 1,
+      Factor.sr (Sum.product (Product.factor (r .2))) (Sum.product (Product.factor (q .2))),
+    )
 factor-written (binary rs t u) h =
     let r = factor-written t (h .0) in
-    let q = factor-written u (h .1) in
-    (82 ∷ 83 ∷ 40 ∷ (r .0 ++ (44 ∷ (q .0 ++ (41 ∷ [])))), max (r .1) (q .1) + 1, Factor.rs (Sum.product (Product.factor (r .2))) (Sum.product (Product.factor (q .2))))
+    let q = factor-written u (h .1) in (
+      82 ∷ 83 ∷ 40 ∷ (r .0 ++ (44 ∷ (q .0 ++ (41 ∷ [])))),
+      max (r .1) (q .1) + 1,
+      Factor.rs (Sum.product (Product.factor (r .2))) (Sum.product (Product.factor (q .2))),
+    )
 
 pub every-tree-written : EveryTreeWritten
 every-tree-written t h = let r = factor-written t h in (r .0, r .1, Sum.product (Product.factor (r .2)))

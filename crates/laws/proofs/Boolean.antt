@@ -1,8 +1,11 @@
 -- Laws 1 to 19, the Boolean ones.
 use mathlib.Core.Path.{_≡_, refl, sym}
-use mathlib.Core.Bool.{Bool, true, false, not, _&&_, _||_, and-comm, or-comm, and-assoc, or-assoc, and-or-distrib-left, or-and-distrib-left, Bool·not-not, and-self as bool-and-self, or-self as bool-or-self, and-true, or-false, and-false, or-true, and-not-self, or-not-self}
+use mathlib.Core.Bool.{Bool, true, false, not, _&&_, _||_, and-comm, or-comm, and-assoc, or-assoc, and-or-distrib-left, or-and-distrib-left}
+use mathlib.Core.Bool.{Bool·not-not, and-self as bool-and-self, or-self as bool-or-self, and-true, or-false, and-false, or-true}
+use mathlib.Core.Bool.{and-not-self, or-not-self}
 use Rattle.signals.specs.Signal.{constant, NOT, AND, OR}
-use Rattle.laws.specs.Laws.{andCommutes, orCommutes, andGroups, orGroups, andDistributes, orDistributes, andAbsorbs, orAbsorbs, notOfAnd, notOfOr, notNot, andSelf, orSelf, andOne, orZero, andZero, orOne, andNot, orNot}
+use Rattle.laws.specs.Laws.{andCommutes, orCommutes, andGroups, orGroups, andDistributes, orDistributes, andAbsorbs, orAbsorbs}
+use Rattle.laws.specs.Laws.{notOfAnd, notOfOr, notNot, andSelf, orSelf, andOne, orZero, andZero, orOne, andNot, orNot}
 use Rattle.laws.specs.Scheme.{f, g, h}
 use Rattle.laws.specs.Soundness.{Holds}
 use Rattle.laws.proofs.Letters.{put-for}

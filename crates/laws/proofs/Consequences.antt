@@ -13,7 +13,8 @@ use Rattle.laws.proofs.Soundness.{same-signal}
 lists : (f g : Signal) → f ≡ g → (n m : ℕ) → SettledFrom f n → SettledFrom g m → listOf f n ≡ listOf g m
 lists f g e n m p q = one-list f n m p (rw e q) ∙ ap (λ s. listOf s m) e
 
-verdicts : (f g third : Signal) → f ≡ g → (n m : ℕ) → SettledFrom f n → SettledFrom third n → SettledFrom g m → SettledFrom third m → SameVerdicts f g third n m
+verdicts : (f g third : Signal) → f ≡ g → (n m : ℕ) → SettledFrom f n → SettledFrom third n → SettledFrom g m → SettledFrom third m →
+    SameVerdicts f g third n m
 verdicts f g third e n m a b c d =
     record {
       asSecond = one-verdict f third n m a b (rw e c) d ∙ ap (λ s. verdictOf s third m) e;

@@ -11,7 +11,8 @@ use Rattle.laws.specs.Rewriting.{Direction, forward, backward, before, a
 use Rattle.laws.specs.Places.{OnePartApart, RewritingReachesEveryPart, RewritingGoesBack}
 
 -- a part replaced at its place
-replaced-there : (F : Tree) (n : ℕ) (c : Surroundings) (old new : Tree) → around c old ≡ F → placeIn c old ≡ n → replaceAt F n new ≡ around c new
+replaced-there : (F : Tree) (n : ℕ) (c : Surroundings) (old new : Tree) → around c old ≡ F → placeIn c old ≡ n →
+    replaceAt F n new ≡ around c new
 replaced-there F n c old new e k = rw (← e, ← k) (every-part-is-placed c old .replaced new)
 
 apart : (x : Step) (F G : Tree) → Leads x F G → OnePartApart F G

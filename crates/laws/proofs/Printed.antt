@@ -26,7 +26,8 @@ Alike v w text q =
 
 data Each (v : Letter → List ℕ) (w : LengthTerm → List ℕ) : List String → List Equation → Type 0 where
   done : Each v w [] []
-  _then_ : {text : String} {q : Equation} {l : List String} {m : List Equation} → Alike v w text q → Each v w l m → Each v w (text ∷ l) (q ∷ m)
+  _then_ : {text : String} {q : Equation} {l : List String} {m : List Equation} → Alike v w text q → Each v w l m →
+      Each v w (text ∷ l) (q ∷ m)
 
 -- a line a row
 rows : (v : Letter → List ℕ) (w : LengthTerm → List ℕ) → Each v w texts table
@@ -104,7 +105,8 @@ unfolding equation textOf
 row n from to v w = each-at (rows v w) (n - 1) (omega (arith, number))
 
 -- the printer's text of a side is derived
-side : (v : Letter → List ℕ) (w : LengthTerm → List ℕ) (x : Substitution) → Write v w x → (a : Scheme) (text : List ℕ) → text ≡ shown v w sum a []
+side : (v : Letter → List ℕ) (w : LengthTerm → List ℕ) (x : Substitution) → Write v w x → (a : Scheme) (text : List ℕ) →
+    text ≡ shown v w sum a []
     → (depth : ℕ) × Writes text (put x a) depth
 side v w x h a text e =
     let y = form v w x h sum a in

@@ -5,7 +5,8 @@ use mathlib.Core.List.{List, [], _∷_, _++_, append-assoc}
 use Rattle.grammar.specs.Tree as tree
 use Rattle.grammar.specs.Tree.{Tree, and, or, sr, rs}
 use Rattle.grammar.specs.Grammar.{Sum, Product, Factor}
-use Rattle.laws.specs.Scheme.{Letter, LengthTerm, Scheme, Substitution, put, letter, down, up, unary, binary, invert, rise, fall, ton, tof}
+use Rattle.laws.specs.Scheme.{Letter, LengthTerm, Scheme, Substitution, put, letter, down, up, unary, binary, invert, rise, fall, ton}
+use Rattle.laws.specs.Scheme.{tof}
 use Rattle.laws.specs.Printed.{Write}
 
 -- the three levels of the grammar

@@ -10,7 +10,8 @@ use Rattle.signals.specs.Moment.{opens}
 use Rattle.signals.specs.Signal.{Signal, constant, NOT, AND, OR, SR, RS}
 use Rattle.signals.specs.Quantified.{Up, Down}
 use Rattle.signals.proofs.Truth.{bool-ext, not-both, down-of}
-use Rattle.signals.proofs.Agreement.{NOT-up, NOT-of, AND-up, AND-of, OR-up, OR-of, SR-up, SR-of, RS-up, RS-of, OneRS, RS-up1, RS-of1, le-opens}
+use Rattle.signals.proofs.Agreement.{NOT-up, NOT-of, AND-up, AND-of, OR-up, OR-of, SR-up, SR-of, RS-up, RS-of, OneRS, RS-up1, RS-of1}
+use Rattle.signals.proofs.Agreement.{le-opens}
 use Rattle.laws.specs.Laws.{rsNot, rsResetOne, rsSetOne, rsSetZero, rsSelf, rsAndSet, rsSetUnderReset, rsAsSr, rsResetOr, rsSetOr}
 use Rattle.laws.specs.Scheme.{f, s, r, p}
 use Rattle.laws.specs.Soundness.{Holds}

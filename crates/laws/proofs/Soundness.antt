@@ -10,7 +10,8 @@ use Rattle.laws.proofs.Table.{every-law-holds}
 use Rattle.laws.proofs.Places.{rewriting-reaches-every-part}
 
 -- parts with equal signals in the same surroundings
-around-same : (env : Environment) (c : Surroundings) (a b : Tree) → signal env a ≡ signal env b → signal env (around c a) ≡ signal env (around c b)
+around-same : (env : Environment) (c : Surroundings) (a b : Tree) → signal env a ≡ signal env b →
+    signal env (around c a) ≡ signal env (around c b)
 unfolding around
 around-same env whole a b e = e
 around-same env (under o c) a b e = ap (applyUnary o) (around-same env c a b e)
@@ -18,7 +19,8 @@ around-same env (onLeft o c u) a b e = ap (λ k. applyBinary o k (signal env u))
 around-same env (onRight o t c) a b e = ap (applyBinary o (signal env t)) (around-same env c a b e)
 
 -- in either direction
-sides-same : (q : Equation) → Holds q → (way : Direction) (env : Environment) (x : Substitution) → signal env (put x (before way q)) ≡ signal env (put x (after way q))
+sides-same : (q : Equation) → Holds q → (way : Direction) (env : Environment) (x : Substitution) →
+    signal env (put x (before way q)) ≡ signal env (put x (after way q))
 sides-same q h forward env x = fun-ext (h env x)
 sides-same q h backward env x = sym (fun-ext (h env x))
 

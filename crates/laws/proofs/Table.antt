@@ -7,11 +7,16 @@ use lib.ListN.{length, getD}
 use Rattle.laws.specs.Scheme.{Equation}
 use Rattle.laws.specs.Laws.{table, equation, andCommutes, NumberOfLaws}
 use Rattle.laws.specs.Soundness.{Holds, EveryLawHolds}
-use Rattle.laws.proofs.Boolean.{and-commutes, or-commutes, and-groups, or-groups, and-distributes, or-distributes, and-absorbs, or-absorbs, not-of-and, not-of-or, not-not, and-self, or-self, and-one, or-zero, and-zero, or-one, and-not, or-not}
+use Rattle.laws.proofs.Boolean.{and-commutes, or-commutes, and-groups, or-groups, and-distributes, or-distributes, and-absorbs}
+use Rattle.laws.proofs.Boolean.{or-absorbs, not-of-and, not-of-or, not-not, and-self, or-self, and-one, or-zero, and-zero, or-one}
+use Rattle.laws.proofs.Boolean.{and-not, or-not}
 use Rattle.laws.proofs.SetReset.{sr-not, sr-reset-one, sr-set-one, sr-set-zero, sr-and-reset, sr-reset-or, sr-set-or}
-use Rattle.laws.proofs.ResetSet.{rs-not, rs-reset-one, rs-set-one, rs-set-zero, rs-self, rs-and-set, rs-set-under-reset, rs-as-sr, rs-reset-or, rs-set-or}
-use Rattle.laws.proofs.Timers.{ton-and-input, input-and-tof, ton-of-and, tof-of-or, ton-of-ton, tof-of-tof, ton-and-ton, ton-or-ton, tof-and-tof, tof-or-tof, not-ton, not-tof}
-use Rattle.laws.proofs.Edges.{rising-and-input, rising-of-not, falling-of-not, rising-of-rising, falling-of-rising, rising-of-and, falling-of-or}
+use Rattle.laws.proofs.ResetSet.{rs-not, rs-reset-one, rs-set-one, rs-set-zero, rs-self, rs-and-set, rs-set-under-reset, rs-as-sr}
+use Rattle.laws.proofs.ResetSet.{rs-reset-or, rs-set-or}
+use Rattle.laws.proofs.Timers.{ton-and-input, input-and-tof, ton-of-and, tof-of-or, ton-of-ton, tof-of-tof, ton-and-ton, ton-or-ton}
+use Rattle.laws.proofs.Timers.{tof-and-tof, tof-or-tof, not-ton, not-tof}
+use Rattle.laws.proofs.Edges.{rising-and-input, rising-of-not, falling-of-not, rising-of-rising, falling-of-rising, rising-of-and}
+use Rattle.laws.proofs.Edges.{falling-of-or}
 
 infixr 50 _then_
 pub number-of-laws : NumberOfLaws

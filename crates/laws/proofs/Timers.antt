@@ -10,7 +10,8 @@ use Rattle.signals.specs.Signal.{Signal, constant, NOT, AND, OR, TON, TOF}
 use Rattle.signals.specs.Quantified.{Up, Down, Started, FromTo}
 use Rattle.signals.proofs.Truth.{bool-ext, up-or-down, not-both, down-of}
 use Rattle.signals.proofs.Agreement.{NOT-up, NOT-of, AND-up, AND-of, OR-up, OR-of, TON-up, TON-of, TOF-up, TOF-of}
-use Rattle.laws.specs.Laws.{tonAndInput, inputAndTof, tonOfAnd, tofOfOr, tonOfTon, tofOfTof, tonAndTon, tonOrTon, tofAndTof, tofOrTof, notTon, notTof}
+use Rattle.laws.specs.Laws.{tonAndInput, inputAndTof, tonOfAnd, tofOfOr, tonOfTon, tofOfTof, tonAndTon, tonOrTon, tofAndTof, tofOrTof}
+use Rattle.laws.specs.Laws.{notTon, notTof}
 use Rattle.laws.specs.Scheme.{f, g}
 use Rattle.laws.specs.Soundness.{Holds}
 use Rattle.laws.proofs.Letters.{put-for}
@@ -200,7 +201,8 @@ tof-of-down d a t h dn =
     dn)
     (up-or-down (TOF d (NOT a) t))
 
-ton-complement : (d : ℕ) (a : Signal) (t : ℕ) → AND (NOT (TON d a)) (TON d (constant true)) t ≡ AND (TOF d (NOT a)) (TON d (constant true)) t
+ton-complement : (d : ℕ) (a : Signal) (t : ℕ) →
+    AND (NOT (TON d a)) (TON d (constant true)) t ≡ AND (TOF d (NOT a)) (TON d (constant true)) t
 ton-complement d a t =
     bool-ext _ _
     (λ e.

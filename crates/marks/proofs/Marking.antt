@@ -35,7 +35,8 @@ inside text m b e pos = go (m .ok) refl
     go true z = inside-at text m b z (rw z at e) pos (decLt (m .at) (length text))
 
 -- a run goes on, or ends
-pub run-on : (p : ℕ → Bool) (text : List ℕ) (i : ℕ) → i < length text → p (getD text i 0) ≡ true → run p (drop i text) ≡ suc (run p (drop (i + 1) text))
+pub run-on : (p : ℕ → Bool) (text : List ℕ) (i : ℕ) → i < length text → p (getD text i 0) ≡ true →
+    run p (drop i text) ≡ suc (run p (drop (i + 1) text))
 unfolding run
 run-on p text i h e = rw (drop-cons text i 0 h, e, add-one) refl
 

@@ -1,4 +1,5 @@
--- `formulas::copy` meets its contract. The loop's invariant: the first `i` words are stored over the old ones. The measure is what is left to copy.
+-- `formulas::copy` meets its contract. The loop's invariant: the first `i` words are stored over the old ones. The measure is what is left
+-- to copy.
 use Prim.Native.Nat.{ℕ, _-_, _≤_}
 use native.Mathlib.Omega.{arith}
 use mathlib.Core.Path.{_≡_, refl, ap, _∙_}
@@ -49,4 +50,5 @@ returns c =
     l .inv .1 ∙ ap (λ (k : ℕ). sets (a .code .now) 0 (take k (a .words .now))) e
 
 pub copy-spec : {M : Type 1} → statement M
-copy-spec = tie.close (tie.spec Inv-loop μ-loop loop-holds mul-code shared-slice-read-code mul-code-2 element-write-code add-i loop-less loop-again returns)
+copy-spec = tie.close
+    (tie.spec Inv-loop μ-loop loop-holds mul-code shared-slice-read-code mul-code-2 element-write-code add-i loop-less loop-again returns)

@@ -1,4 +1,5 @@
--- `formulas::lay` meets its contract. The loop's invariant: the first `i` bytes are stored over the old ones. The measure is what is left to copy.
+-- `formulas::lay` meets its contract. The loop's invariant: the first `i` bytes are stored over the old ones. The measure is what is left
+-- to copy.
 use Prim.Native.Nat.{ℕ, _-_, _≤_}
 use native.Mathlib.Omega.{arith}
 use mathlib.Core.Path.{_≡_, refl, ap, _∙_}

@@ -44,7 +44,9 @@ sum-requires c κs =
     begun (s .args .text .now) zeros (lay′ .ensures) zeros-length (if2′ .left) zeros-length
 
 -- the text is read to the mark that its words hold
-read-to : (c : tie.After-sum) → SumRead (c .before .before .before .before .before .before .before .before .before .args .text .now) 0 first zeros (c .sum .last .1 .1 .0) (markOf (c .sum .last .1 .1 .1 .0))
+read-to : (c : tie.After-sum) →
+    SumRead (c .before .before .before .before .before .before .before .before .before .args .text .now) 0 first zeros
+    (c .sum .last .1 .1 .0) (markOf (c .sum .last .1 .1 .1 .0))
 read-to c =
     let s = c .before .before .before .before .before .before .before .before .before in
     let if2′ = c .before .before .before .before .before .before .if2 in
@@ -108,4 +110,5 @@ returns-4 c =
 pub read-spec : {M : Type 1} → statement M
 read-spec =
     tie.close
-    (tie.spec returns returns-2 lay-requires array-write-m sum-requires fault-of-requires array-read-parts slice-aggregate-copy copy-requires returns-3 returns-4)
+    (tie.spec returns returns-2 lay-requires array-write-m sum-requires fault-of-requires array-read-parts slice-aggregate-copy
+    copy-requires returns-3 returns-4)

@@ -17,7 +17,8 @@ is-digit-requires c κs = search needs
 
 returns-2 : tie.Need-returns-2
 unfolding nameByte
-returns-2 c = rw (c .before .before .before .if1 .taken, ← c .before .before .is-letter .ensures, c .before .if2 .left) (c .is-digit .ensures)
+returns-2 c = rw (c .before .before .before .if1 .taken, ← c .before .before .is-letter .ensures, c .before .if2 .left)
+    (c .is-digit .ensures)
 
 is-digit-requires-2 : tie.Need-is-digit-requires-2
 is-digit-requires-2 c κs = search needs

@@ -43,7 +43,13 @@ returns-4 c =
     let e = c .before .before in
     let d = e .before .before in
     let b = d .before .before in
-    simp (eq-eqb _ _ (b .before .before .if1 .taken), le-ltb _ _ (b .if2 .left), le-ltb _ _ (d .if3 .left), le-ltb _ _ (e .if4 .left), lt-ltb _ _ (c .if5 .taken))
+    simp (
+      eq-eqb _ _ (b .before .before .if1 .taken),
+      le-ltb _ _ (b .if2 .left),
+      le-ltb _ _ (d .if3 .left),
+      le-ltb _ _ (e .if4 .left),
+      lt-ltb _ _ (c .if5 .taken),
+    )
 
 returns-5 : tie.Need-returns-5
 unfolding markFault markOf
@@ -51,7 +57,13 @@ returns-5 c =
     let e = c .before .before in
     let d = e .before .before in
     let b = d .before .before in
-    simp (eq-eqb _ _ (b .before .before .if1 .taken), le-ltb _ _ (b .if2 .left), le-ltb _ _ (d .if3 .left), le-ltb _ _ (e .if4 .left), le-ltb _ _ (c .if5 .left))
+    simp (
+      eq-eqb _ _ (b .before .before .if1 .taken),
+      le-ltb _ _ (b .if2 .left),
+      le-ltb _ _ (d .if3 .left),
+      le-ltb _ _ (e .if4 .left),
+      le-ltb _ _ (c .if5 .left),
+    )
 
 returns-6 : tie.Need-returns-6
 unfolding markFault markOf
@@ -60,5 +72,6 @@ returns-6 c = simp (ne-eqb _ _ (c .if1 .left))
 pub fault-of-spec : {M : Type 1} → statement M
 fault-of-spec =
     tie.close
-    (tie.spec element-copy-out-if1 element-copy-out-if2 returns element-copy-out-if3 returns-2 element-copy-out-if4 returns-3 element-copy-out-if5
+    (tie.spec element-copy-out-if1 element-copy-out-if2 returns element-copy-out-if3 returns-2 element-copy-out-if4 returns-3
+    element-copy-out-if5
     returns-4 returns-5 returns-6)

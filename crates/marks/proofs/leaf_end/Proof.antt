@@ -63,8 +63,12 @@ returns-3 c =
     let low = ap letter (sym (n .next .ensures)) ∙ sym (i .is-letter .ensures) ∙ r .before .if3 .taken in
     let k = run nameByte (drop (markOf (a .m .now) .at) (lent (a .text .now) (a .bytes))) in
     let short : k ≤ 8 = omega (arith, r .run-end .ensures, c .if4 .taken) in
-    rw (ne-eqb _ 48 (λ e. i .before .before .if1 .left (n .next .ensures ∙ e)), ne-eqb _ 49 (λ e. i .before .if2 .left (n .next .ensures ∙ e)),
-    low, le-leb k 8 short) (r .run-end .ensures)
+    rw (
+      ne-eqb _ 48 (λ e. i .before .before .if1 .left (n .next .ensures ∙ e)),
+      ne-eqb _ 49 (λ e. i .before .if2 .left (n .next .ensures ∙ e)),
+      low,
+      le-leb k 8 short,
+    ) (r .run-end .ensures)
 
 returns-4 : tie.Need-returns-4
 unfolding leafEnd markOf
@@ -76,8 +80,12 @@ returns-4 c =
     let low = ap letter (sym (n .next .ensures)) ∙ sym (i .is-letter .ensures) ∙ r .before .if3 .taken in
     let k = run nameByte (drop (markOf (a .m .now) .at) (lent (a .text .now) (a .bytes))) in
     let long : 8 < k = omega (arith, r .run-end .ensures, c .if4 .left) in
-    rw (ne-eqb _ 48 (λ e. i .before .before .if1 .left (n .next .ensures ∙ e)), ne-eqb _ 49 (λ e. i .before .if2 .left (n .next .ensures ∙ e)),
-    low, lt-leb k 8 long) refl
+    rw (
+      ne-eqb _ 48 (λ e. i .before .before .if1 .left (n .next .ensures ∙ e)),
+      ne-eqb _ 49 (λ e. i .before .if2 .left (n .next .ensures ∙ e)),
+      low,
+      lt-leb k 8 long,
+    ) refl
 
 returns-5 : tie.Need-returns-5
 unfolding leafEnd
@@ -85,11 +93,15 @@ returns-5 c =
     let i = c .before in
     let n = i .before .before .before in
     let high = ap letter (sym (n .next .ensures)) ∙ sym (i .is-letter .ensures) ∙ c .if3 .left in
-    rw (ne-eqb _ 48 (λ e. i .before .before .if1 .left (n .next .ensures ∙ e)), ne-eqb _ 49 (λ e. i .before .if2 .left (n .next .ensures ∙ e)),
-    high) refl
+    rw (
+      ne-eqb _ 48 (λ e. i .before .before .if1 .left (n .next .ensures ∙ e)),
+      ne-eqb _ 49 (λ e. i .before .if2 .left (n .next .ensures ∙ e)),
+      high,
+    ) refl
 
 pub leaf-end-spec : {M : Type 1} → statement M
 leaf-end-spec =
     tie.close
-    (tie.spec element-copy-out-at next-requires add-result returns add-result-2 returns-2 is-letter-requires run-end-requires sub-if4 returns-3
+    (tie.spec element-copy-out-at next-requires add-result returns add-result-2 returns-2 is-letter-requires run-end-requires sub-if4
+    returns-3
     returns-4 returns-5)

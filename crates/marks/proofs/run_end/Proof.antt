@@ -13,7 +13,8 @@ use Rattle.marks.proofs.run_end.Statement.{statement}
 use Rattle.marks.proofs.run_end.Tie as tie
 
 -- a byte before the end of the text
-held : (page : List ℕ) (bytes i : ℕ) (p : ℕ → Bool) (v : Bool) → i < min bytes 1024 → p (getD page i 0) ≡ v → p (getD (lent page bytes) i 0) ≡ v
+held : (page : List ℕ) (bytes i : ℕ) (p : ℕ → Bool) (v : Bool) → i < min bytes 1024 → p (getD page i 0) ≡ v →
+    p (getD (lent page bytes) i 0) ≡ v
 held page bytes i p v h e = ap p (lent-byte page bytes i h) ∙ e
 
 abbrev Inv-loop : tie.InvT-loop
@@ -75,4 +76,5 @@ returns-2 c =
 pub run-end-spec : {M : Type 1} → statement M
 run-end-spec =
     tie.close
-    (tie.spec Inv-loop μ-loop within-requires loop-holds element-copy-out-belongs belongs-requires add-i loop-less loop-again returns returns-2)
+    (tie.spec Inv-loop μ-loop within-requires loop-holds element-copy-out-belongs belongs-requires add-i loop-less loop-again returns
+    returns-2)

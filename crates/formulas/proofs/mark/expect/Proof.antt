@@ -23,7 +23,8 @@ add-move-to c =
     let s = n .before .before in
     let a = s .args in
     let l = text-long (s .pre .0) in
-    let i = inside (lent (a .text .now) (a .bytes)) (markOf (a .m .now)) (a .b) (sym (n .next .ensures) ∙ c .before .before .if1 .taken) (s .pre .1) in
+    let i = inside (lent (a .text .now) (a .bytes)) (markOf (a .m .now)) (a .b) (sym (n .next .ensures)
+    ∙ c .before .before .if1 .taken) (s .pre .1) in
     omega (arith, i .before, l, s .pre .0 .first)
 
 move-to-requires : tie.Need-move-to-requires
@@ -34,7 +35,8 @@ unfolding expectMark markOf
 returns c =
     let n = c .before .before .before .before in
     let a = n .before .before .args in
-    rw (eq-eqb (nextMark (lent (a .text .now) (a .bytes)) (markOf (a .m .now))) (a .b) (sym (n .next .ensures) ∙ c .before .before .before .if1 .taken)) (c .move-to .ensures)
+    rw (eq-eqb (nextMark (lent (a .text .now) (a .bytes)) (markOf (a .m .now))) (a .b) (sym (n .next .ensures)
+    ∙ c .before .before .before .if1 .taken)) (c .move-to .ensures)
 
 fail-requires : tie.Need-fail-requires
 fail-requires c κs = search needs
@@ -44,7 +46,8 @@ unfolding expectMark
 returns-2 c =
     let n = c .before .before .before in
     let a = n .before .before .args in
-    rw (ne-eqb (nextMark (lent (a .text .now) (a .bytes)) (markOf (a .m .now))) (a .b) (λ e. c .before .before .if1 .left (n .next .ensures ∙ e))) (c .fail .ensures)
+    rw (ne-eqb (nextMark (lent (a .text .now) (a .bytes)) (markOf (a .m .now))) (a .b)
+    (λ e. c .before .before .if1 .left (n .next .ensures ∙ e))) (c .fail .ensures)
 
 pub expect-spec : {M : Type 1} → statement M
 expect-spec = tie.close (tie.spec next-requires element-copy-out-at add-move-to move-to-requires returns fail-requires returns-2)

@@ -53,8 +53,10 @@ unfolding markOf putCode
 returns c =
     let t = c .before .before .before .before in
     let s = t .before .before .before in
-    let a = s .args in
-    (stored (a .m .now) (a .deep) (a .ticks) _ _ (s .pre .0) (t .if1 .taken) (c .before .before .larger .ensures) (c .larger2 .ensures), rw (eq-eqb _ _ (t .if1 .taken)) refl)
+    let a = s .args in (
+      stored (a .m .now) (a .deep) (a .ticks) _ _ (s .pre .0) (t .if1 .taken) (c .before .before .larger .ensures) (c .larger2 .ensures),
+      rw (eq-eqb _ _ (t .if1 .taken)) refl,
+    )
 
 returns-2 : tie.Need-returns-2
 unfolding markOf putMark putCode
@@ -63,5 +65,6 @@ returns-2 c = rw (ne-eqb _ _ (c .if1 .left)) ((c .before .before .before .pre .0
 pub put-spec : {M : Type 1} → statement M
 put-spec =
     tie.close
-    (tie.spec element-copy-out-parts element-copy-out-if1 mul-code element-write-code add-m element-write-m element-copy-out-larger larger-requires
+    (tie.spec element-copy-out-parts element-copy-out-if1 mul-code element-write-code add-m element-write-m element-copy-out-larger
+    larger-requires
     element-write-m-2 element-copy-out-larger-2 larger-requires-2 element-write-m-3 returns returns-2)

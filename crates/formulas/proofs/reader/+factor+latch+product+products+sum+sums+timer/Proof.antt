@@ -113,7 +113,28 @@ abbrev timer-below : ℕ → In 3 timer-kinds.ps
 timer-below t = and 3 timer-kinds.ps (falls 3 timer-kinds.ps _<_ μ-timer t) timer.Pre
 
 abbrev factor-calls : ℕ → factor-lts.Claims
-factor-calls t = (next-reads.Asked, next-reads.Learnt, prefix-kind-reads.Asked, prefix-kind-reads.Learnt, move-to-reads.Asked, move-to-reads.Learnt, factor-below t, factor.Post, put-reads.Asked, put-reads.Learnt, sum-below t, sum.Post, expect-reads.Asked, expect-reads.Learnt, latch-below t, latch.Post, timer-below t, timer.Post, leaf-reads.Asked, leaf-reads.Learnt)
+factor-calls t = (
+  next-reads.Asked,
+  next-reads.Learnt,
+  prefix-kind-reads.Asked,
+  prefix-kind-reads.Learnt,
+  move-to-reads.Asked,
+  move-to-reads.Learnt,
+  factor-below t,
+  factor.Post,
+  put-reads.Asked,
+  put-reads.Learnt,
+  sum-below t,
+  sum.Post,
+  expect-reads.Asked,
+  expect-reads.Learnt,
+  latch-below t,
+  latch.Post,
+  timer-below t,
+  timer.Post,
+  leaf-reads.Asked,
+  leaf-reads.Learnt,
+)
 
 abbrev latch-calls : ℕ → latch-lts.Claims
 latch-calls t = (expect-reads.Asked, expect-reads.Learnt, sum-below t, sum.Post, put-reads.Asked, put-reads.Learnt)
@@ -122,20 +143,54 @@ abbrev product-calls : ℕ → product-lts.Claims
 product-calls t = (factor-below t, factor.Post, products-below t, products.Post)
 
 abbrev products-calls : ℕ → products-lts.Claims
-products-calls t = (next-reads.Asked, next-reads.Learnt, move-to-reads.Asked, move-to-reads.Learnt, factor-below t, factor.Post, put-reads.Asked, put-reads.Learnt, products-below t, products.Post)
+products-calls t = (
+  next-reads.Asked,
+  next-reads.Learnt,
+  move-to-reads.Asked,
+  move-to-reads.Learnt,
+  factor-below t,
+  factor.Post,
+  put-reads.Asked,
+  put-reads.Learnt,
+  products-below t,
+  products.Post,
+)
 
 abbrev sum-calls : ℕ → sum-lts.Claims
 sum-calls t = (product-below t, product.Post, sums-below t, sums.Post)
 
 abbrev sums-calls : ℕ → sums-lts.Claims
-sums-calls t = (next-reads.Asked, next-reads.Learnt, move-to-reads.Asked, move-to-reads.Learnt, product-below t, product.Post, put-reads.Asked, put-reads.Learnt, sums-below t, sums.Post)
+sums-calls t = (
+  next-reads.Asked,
+  next-reads.Learnt,
+  move-to-reads.Asked,
+  move-to-reads.Learnt,
+  product-below t,
+  product.Post,
+  put-reads.Asked,
+  put-reads.Learnt,
+  sums-below t,
+  sums.Post,
+)
 
 abbrev timer-calls : ℕ → timer-lts.Claims
-timer-calls t = (expect-reads.Asked, expect-reads.Learnt, pass-length-reads.Asked, pass-length-reads.Learnt, ticks-reads.Asked, ticks-reads.Learnt, sum-below t, sum.Post, put-reads.Asked, put-reads.Learnt)
+timer-calls t = (
+  expect-reads.Asked,
+  expect-reads.Learnt,
+  pass-length-reads.Asked,
+  pass-length-reads.Learnt,
+  ticks-reads.Asked,
+  ticks-reads.Learnt,
+  sum-below t,
+  sum.Post,
+  put-reads.Asked,
+  put-reads.Learnt,
+)
 
 -- past the byte b at the front of a factor, at x
 abbrev Factor-step : (t : ℕ) → factor-lts.Start (factor-calls t) (factor-at t) factor.Post → ℕ → Mark → Type 0
-Factor-step t s b x = paths.Step (lent (s .args .text .now) (s .args .bytes)) (s .args .code .now) (markOf (s .args .m .now)) (s .args .deep) 2 t b x
+Factor-step t s b x =
+    paths.Step (lent (s .args .text .now) (s .args .bytes)) (s .args .code .now) (markOf (s .args .m .now)) (s .args .deep) 2 t b x
 
 factor-add-move-to : (t : ℕ) → factor-lts.Need-add-move-to (factor-calls t) (factor-at t) factor.Post
 unfolding markOf
@@ -147,7 +202,9 @@ factor-add-factor t c =
     let s = c .before .before .before .before .before .before .before .before .before in
     let g = s .pre .1 .1 in omega (arith, g .opened, g .within, g .short)
 
-prefix-step : (t : ℕ) (c : factor-lts.After-move-to (factor-calls t) (factor-at t) factor.Post) → Factor-step t (c .before .before .before .before .before .before .before) (c .before .before .before .before .next .result) (markOf (c .move-to .last .0))
+prefix-step : (t : ℕ) (c : factor-lts.After-move-to (factor-calls t) (factor-at t) factor.Post) →
+    Factor-step t (c .before .before .before .before .before .before .before) (c .before .before .before .before .next .result)
+    (markOf (c .move-to .last .0))
 unfolding markOf
 prefix-step t c =
     let s = c .before .before .before .before .before .before .before in
@@ -192,7 +249,8 @@ factor-add-sum t c =
     let s = c .before .before .before .before .before .before .before .before .before .before in
     let g = s .pre .1 .1 in omega (arith, g .opened, g .within, g .short)
 
-bracket-step : (t : ℕ) (c : factor-lts.After-move-to2 (factor-calls t) (factor-at t) factor.Post) → Factor-step t (c .before .before .before .before .before .before .before .before) 40 (markOf (c .move-to2 .last .0))
+bracket-step : (t : ℕ) (c : factor-lts.After-move-to2 (factor-calls t) (factor-at t) factor.Post) →
+    Factor-step t (c .before .before .before .before .before .before .before .before) 40 (markOf (c .move-to2 .last .0))
 unfolding markOf
 bracket-step t c =
     let s = c .before .before .before .before .before .before .before .before in
@@ -228,7 +286,8 @@ unfolding markOf
 factor-add-move-to-3 t c =
     let g = c .before .before .before .before .before .before .before .before .pre .1 .1 in omega (arith, g .within, g .short)
 
-sr-step : (t : ℕ) (c : factor-lts.After-move-to3 (factor-calls t) (factor-at t) factor.Post) → Factor-step t (c .before .before .before .before .before .before .before .before .before) 83 (markOf (c .move-to3 .last .0))
+sr-step : (t : ℕ) (c : factor-lts.After-move-to3 (factor-calls t) (factor-at t) factor.Post) →
+    Factor-step t (c .before .before .before .before .before .before .before .before .before) 83 (markOf (c .move-to3 .last .0))
 unfolding markOf
 sr-step t c =
     let s = c .before .before .before .before .before .before .before .before .before in
@@ -266,7 +325,8 @@ unfolding markOf
 factor-add-move-to-4 t c =
     let g = c .before .before .before .before .before .before .before .before .before .pre .1 .1 in omega (arith, g .within, g .short)
 
-rs-step : (t : ℕ) (c : factor-lts.After-move-to4 (factor-calls t) (factor-at t) factor.Post) → Factor-step t (c .before .before .before .before .before .before .before .before .before .before) 82 (markOf (c .move-to4 .last .0))
+rs-step : (t : ℕ) (c : factor-lts.After-move-to4 (factor-calls t) (factor-at t) factor.Post) →
+    Factor-step t (c .before .before .before .before .before .before .before .before .before .before) 82 (markOf (c .move-to4 .last .0))
 unfolding markOf
 rs-step t c =
     let s = c .before .before .before .before .before .before .before .before .before .before in
@@ -305,7 +365,9 @@ factor-add-move-to-5 t c =
     let s = c .before .before .before .before .before .before .before .before .before .before in
     let g = s .pre .1 .1 in omega (arith, g .within, g .short)
 
-t-step : (t : ℕ) (c : factor-lts.After-move-to5 (factor-calls t) (factor-at t) factor.Post) → Factor-step t (c .before .before .before .before .before .before .before .before .before .before .before) 84 (markOf (c .move-to5 .last .0))
+t-step : (t : ℕ) (c : factor-lts.After-move-to5 (factor-calls t) (factor-at t) factor.Post) →
+    Factor-step t (c .before .before .before .before .before .before .before .before .before .before .before) 84
+    (markOf (c .move-to5 .last .0))
 unfolding markOf
 t-step t c =
     let s = c .before .before .before .before .before .before .before .before .before .before .before in
@@ -333,7 +395,8 @@ factor-move-to-requires-6 t c κs = c .before .before .before .before .before .e
 factor-timer-requires : (t : ℕ) → factor-lts.Need-timer-requires (factor-calls t) (factor-at t) factor.Post
 unfolding markOf
 factor-timer-requires t c κs =
-    let s = c .before .before .before .before .before .before .before .before .before .before .before .before .before .before .before .before .before .before .before .before .before in
+    let s = c .before .before .before .before .before .before .before .before .before .before .before .before .before .before .before
+    .before .before .before .before .before .before in
     let expect4′ = c .before .before .before .before .before .before .before .before .expect4 in
     let next2′ = c .before .before .before .before .before .before .next2 in
     let if6′ = c .before .before .before .before .before .if6 in
@@ -358,13 +421,15 @@ factor-returns-5 t c =
 
 factor-expect-requires-5 : (t : ℕ) → factor-lts.Need-expect-requires-5 (factor-calls t) (factor-at t) factor.Post
 factor-expect-requires-5 t c κs =
-    let s = c .before .before .before .before .before .before .before .before .before .before .before .before .before .before .before .before .before in
+    let s = c .before .before .before .before .before .before .before .before .before .before .before .before .before .before .before
+    .before .before in
     let expect4′ = c .before .before .before .before .expect4 in
     (lent-on (s .pre .1 .0) (expect4′ .ensures .0), omega arith)
 
 factor-timer-requires-2 : (t : ℕ) → factor-lts.Need-timer-requires-2 (factor-calls t) (factor-at t) factor.Post
 factor-timer-requires-2 t c κs =
-    let s = c .before .before .before .before .before .before .before .before .before .before .before .before .before .before .before .before .before .before .before .before in
+    let s = c .before .before .before .before .before .before .before .before .before .before .before .before .before .before .before
+    .before .before .before .before .before in
     let expect4′ = c .before .before .before .before .before .before .before .expect4 in
     let expect5′ = c .before .before .expect5 in
     let k = t-step t (c .before .before .before .before .before .before .before .before .before) in
@@ -497,9 +562,11 @@ products-add-move-to t c =
 
 -- past the byte b at the front of the rest of a chain, at x
 abbrev Products-step : (t : ℕ) → products-lts.Start (products-calls t) (products-at t) products.Post → ℕ → Mark → Type 0
-Products-step t s b x = paths.Step (lent (s .args .text .now) (s .args .bytes)) (s .args .code .now) (markOf (s .args .m .now)) (s .args .deep) 1 t b x
+Products-step t s b x =
+    paths.Step (lent (s .args .text .now) (s .args .bytes)) (s .args .code .now) (markOf (s .args .m .now)) (s .args .deep) 1 t b x
 
-times-step : (t : ℕ) (c : products-lts.After-move-to (products-calls t) (products-at t) products.Post) → Products-step t (c .before .before .before .before .before .before) 46 (markOf (c .move-to .last .0))
+times-step : (t : ℕ) (c : products-lts.After-move-to (products-calls t) (products-at t) products.Post) →
+    Products-step t (c .before .before .before .before .before .before) 46 (markOf (c .move-to .last .0))
 unfolding markOf
 times-step t c =
     let s = c .before .before .before .before .before .before in
@@ -573,9 +640,11 @@ sums-add-move-to t c =
 
 -- past the byte b at the front of the rest of a chain, at x
 abbrev Sums-step : (t : ℕ) → sums-lts.Start (sums-calls t) (sums-at t) sums.Post → ℕ → Mark → Type 0
-Sums-step t s b x = paths.Step (lent (s .args .text .now) (s .args .bytes)) (s .args .code .now) (markOf (s .args .m .now)) (s .args .deep) 1 t b x
+Sums-step t s b x = paths.Step (lent (s .args .text .now) (s .args .bytes)) (s .args .code .now) (markOf (s .args .m .now))
+    (s .args .deep) 1 t b x
 
-plus-step : (t : ℕ) (c : sums-lts.After-move-to (sums-calls t) (sums-at t) sums.Post) → Sums-step t (c .before .before .before .before .before .before) 43 (markOf (c .move-to .last .0))
+plus-step : (t : ℕ) (c : sums-lts.After-move-to (sums-calls t) (sums-at t) sums.Post) →
+    Sums-step t (c .before .before .before .before .before .before) 43 (markOf (c .move-to .last .0))
 unfolding markOf
 plus-step t c =
     let s = c .before .before .before .before .before .before in
@@ -663,14 +732,17 @@ timer-mul-put t c =
 
 timer-add-put : (t : ℕ) → timer-lts.Need-add-put (timer-calls t) (timer-at t) timer.Post
 timer-add-put t c =
-    let s = c .before .before .before .before .before .before .before .before .before .before .before .before .before .before .before .before in
+    let s = c .before .before .before .before .before .before .before .before .before .before .before .before .before .before .before
+    .before in
     let ticks′ = c .before .before .before .before .before .before .before .before .before .ticks in
     omega (arith, capped-most _ _ (ticks′ .ensures), s .pre .1 .1)
 
 timer-put-requires : (t : ℕ) → timer-lts.Need-put-requires (timer-calls t) (timer-at t) timer.Post
 timer-put-requires t c κs =
-    let s = c .before .before .before .before .before .before .before .before .before .before .before .before .before .before .before .before in
-    let expect′ = c .before .before .before .before .before .before .before .before .before .before .before .before .before .before .expect in
+    let s = c .before .before .before .before .before .before .before .before .before .before .before .before .before .before .before
+    .before in
+    let expect′ = c .before .before .before .before .before .before .before .before .before .before .before .before .before .before .expect
+    in
     let pass-length′ = c .before .before .before .before .before .before .before .before .before .before .before .pass-length in
     let expect2′ = c .before .before .before .before .before .before .before .expect2 in
     let sum′ = c .before .before .before .before .sum in
@@ -682,8 +754,10 @@ timer-put-requires t c κs =
 timer-returns : (t : ℕ) → timer-lts.Need-returns (timer-calls t) (timer-at t) timer.Post
 unfolding markOf
 timer-returns t c =
-    let s = c .before .before .before .before .before .before .before .before .before .before .before .before .before .before .before .before .before in
-    let expect′ = c .before .before .before .before .before .before .before .before .before .before .before .before .before .before .before .expect in
+    let s = c .before .before .before .before .before .before .before .before .before .before .before .before .before .before .before
+    .before .before in
+    let expect′ = c .before .before .before .before .before .before .before .before .before .before .before .before .before .before .before
+    .expect in
     let pass-length′ = c .before .before .before .before .before .before .before .before .before .before .before .before .pass-length in
     let ticks′ = c .before .before .before .before .before .before .before .before .before .before .ticks in
     let expect2′ = c .before .before .before .before .before .before .before .before .expect2 in
@@ -707,23 +781,30 @@ pub +factor+latch+product+products+sum+sums+timer-spec : {M : Type 1} → statem
 +factor+latch+product+products+sum+sums+timer-spec =
     close μ-factor μ-latch μ-product μ-products μ-sum μ-sums μ-timer
     (λ t. factor-lts.spec (factor-calls t) (factor-at t) factor.Post (λ c. search needs) (λ c κs. search needs) (λ c κs. search needs)
-    (factor-add-move-to t) (λ c κs. search needs) (factor-add-factor t) (factor-factor-requires t) (factor-put-requires t) (factor-returns t)
-    (factor-add-move-to-2 t) (λ c κs. search needs) (factor-add-sum t) (factor-sum-requires t) (factor-expect-requires t) (factor-returns-2 t)
+    (factor-add-move-to t) (λ c κs. search needs) (factor-add-factor t) (factor-factor-requires t) (factor-put-requires t)
+    (factor-returns t)
+    (factor-add-move-to-2 t) (λ c κs. search needs) (factor-add-sum t) (factor-sum-requires t) (factor-expect-requires t)
+    (factor-returns-2 t)
     (factor-add-move-to-3 t) (λ c κs. search needs) (factor-expect-requires-2 t) (factor-latch-requires t) (factor-returns-3 t)
     (factor-add-move-to-4 t) (λ c κs. search needs) (factor-expect-requires-3 t) (factor-latch-requires-2 t) (factor-returns-4 t)
     (factor-add-move-to-5 t) (λ c κs. search needs) (factor-expect-requires-4 t) (λ c κs. search needs) (λ c. search needs)
     (factor-add-move-to-6 t) (factor-move-to-requires-6 t) (factor-timer-requires t) (factor-returns-5 t) (factor-expect-requires-5 t)
     (factor-timer-requires-2 t) (factor-returns-6 t) (factor-leaf-requires t) (factor-returns-7 t))
     (λ t. latch-lts.spec (latch-calls t) (latch-at t) latch.Post (latch-expect-requires t) (latch-add-sum t) (latch-sum-requires t)
-    (latch-expect-requires-2 t) (latch-add-sum-2 t) (latch-sum-requires-2 t) (latch-expect-requires-3 t) (latch-put-requires t) (latch-returns t))
+    (latch-expect-requires-2 t) (latch-add-sum-2 t) (latch-sum-requires-2 t) (latch-expect-requires-3 t) (latch-put-requires t)
+    (latch-returns t))
     (λ t. product-lts.spec (product-calls t) (product-at t) product.Post (product-factor-requires t) (product-products-requires t)
     (product-returns t))
-    (λ t. products-lts.spec (products-calls t) (products-at t) products.Post (λ c κs. search needs) (λ c. search needs) (products-add-move-to t)
+    (λ t. products-lts.spec (products-calls t) (products-at t) products.Post (λ c κs. search needs) (λ c. search needs)
+    (products-add-move-to t)
     (λ c κs. search needs) (products-factor-requires t) (products-put-requires t) (products-products-requires t) (products-returns t)
     (products-returns-2 t))
     (λ t. sum-lts.spec (sum-calls t) (sum-at t) sum.Post (sum-product-requires t) (sum-sums-requires t) (sum-returns t))
-    (λ t. sums-lts.spec (sums-calls t) (sums-at t) sums.Post (λ c κs. search needs) (λ c. search needs) (sums-add-move-to t) (λ c κs. search needs)
+    (λ t. sums-lts.spec (sums-calls t) (sums-at t) sums.Post (λ c κs. search needs) (λ c. search needs) (sums-add-move-to t)
+    (λ c κs. search needs)
     (sums-product-requires t) (sums-put-requires t) (sums-sums-requires t) (sums-returns t) (sums-returns-2 t))
-    (λ t. timer-lts.spec (timer-calls t) (timer-at t) timer.Post (timer-expect-requires t) (λ c. search needs) (timer-pass-length-requires t)
-    (λ c. search needs) (λ c κs. search needs) (timer-expect-requires-2 t) (timer-add-sum t) (timer-sum-requires t) (timer-expect-requires-3 t)
+    (λ t. timer-lts.spec (timer-calls t) (timer-at t) timer.Post (timer-expect-requires t) (λ c. search needs)
+    (timer-pass-length-requires t)
+    (λ c. search needs) (λ c κs. search needs) (timer-expect-requires-2 t) (timer-add-sum t) (timer-sum-requires t)
+    (timer-expect-requires-3 t)
     (timer-mul-put t) (timer-add-put t) (timer-put-requires t) (timer-returns t))

@@ -57,9 +57,11 @@ returns c =
     let end = t .before .leaf-end in
     let at = markOf (s .args .m .now) .at in
     let b = nextMark (lent (s .args .text .now) (s .args .bytes)) (markOf (s .args .m .now)) in
-    let word = w .leaf-word .ensures ∙ ap (λ (x : ℕ). leafWord x at (end .result)) (n .next .ensures) ∙ ap (leafWord b at) (end .ensures) in (
+    let word = w .leaf-word .ensures ∙ ap (λ (x : ℕ). leafWord x at (end .result)) (n .next .ensures)
+    ∙ ap (leafWord b at) (end .ensures) in (
       c .put .ensures .0 .0,
-      leaf-path _ _ _ _ (s .pre .1) (some t) _ word _ _ _ (m .move-to .ensures .1 ∙ ap (movedMark (markOf (s .args .m .now))) (end .ensures))
+      leaf-path _ _ _ _ (s .pre .1) (some t) _ word _ _ _ (m .move-to .ensures .1
+          ∙ ap (movedMark (markOf (s .args .m .now))) (end .ensures))
           (c .put .ensures .0 .1) (c .put .ensures .1),
     )
 
@@ -76,5 +78,6 @@ returns-2 c =
 pub leaf-spec : {M : Type 1} → statement M
 leaf-spec =
     tie.close
-    (tie.spec leaf-end-requires next-requires element-copy-out-leaf-word leaf-word-requires move-to-requires put-requires returns fail-requires
+    (tie.spec leaf-end-requires next-requires element-copy-out-leaf-word leaf-word-requires move-to-requires put-requires returns
+    fail-requires
     returns-2)
