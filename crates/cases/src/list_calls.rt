@@ -7,18 +7,26 @@ use crate::answers::written;
 use crate::shown::with_words;
 use fields::byte_at;
 use fields::notation::head;
+use operations::SlotAnswer;
 use signals::Date;
 use signals::Length;
+use signals::Told;
+use signals::Written;
 
-fn answer(call: usize, a: &[u32], b: &[u32], out: &mut [u32]) -> Answer {
+fn question(call: usize, a: &[u32], b: &[u32], k: u32) -> Told {
+    match call {
+        1 => lists::value_at(a, k),
+        2 => lists::value_in(a, k),
+        _ => lists::equal(a, b),
+    }
+}
+
+fn answer(call: usize, a: &[u32], b: &[u32], d: u32, k: u32) -> Answer {
     match call {
         0 => answers::number(lists::list_fault(a)),
-        1 => told(lists::value_at(a, head(b))),
-        2 => told(lists::value_in(a, head(b))),
-        3 => told(lists::equal(a, b)),
         4 => answers::verdict(lists::implies(a, b)),
-        5 => answers::sum(signals::date_plus_length(Date(head(a)), Length(head(b)))),
-        _ => written(lists::tidy(a, out)),
+        5 => answers::sum(signals::date_plus_length(Date(d), Length(k))),
+        _ => told(question(call, a, b, k)),
     }
 }
 
@@ -32,52 +40,57 @@ fn table(digits: &[u8]) -> [[bool; 2]; 2] {
 
 fn operation(
     call: usize,
-    digits: &[u8],
+    t: [[bool; 2]; 2],
+    d: u32,
     a: &[u32],
     b: &[u32],
     c: &[u32],
     out: &mut [u32],
-) -> Answer {
+) -> Written {
     match call {
-        7 => written(operations::not(a, out)),
-        8 => written(operations::rising(a, out)),
-        9 => written(operations::falling(a, out)),
-        10 => written(operations::sr(a, b, out)),
-        11 => written(operations::rs(a, b, out)),
-        12 => written(operations::delay::ton(Length(head(a)), b, out)),
-        13 => written(operations::delay::tof(Length(head(a)), b, out)),
-        _ => written(operations::connective(table(digits), b, c, out)),
+        6 => lists::tidy(a, out),
+        7 => operations::not(a, out),
+        8 => operations::rising(a, out),
+        9 => operations::falling(a, out),
+        10 => operations::sr(a, b, out),
+        11 => operations::rs(a, b, out),
+        12 => operations::delay::ton(Length(d), b, out),
+        13 => operations::delay::tof(Length(d), b, out),
+        _ => operations::connective(t, b, c, out),
     }
 }
 
 fn operation_in(
     call: usize,
-    digits: &[u8],
+    t: [[bool; 2]; 2],
+    d: u32,
     a: &[u32],
     b: &[u32],
     c: &[u32],
     out: &mut [u32],
-) -> Answer {
+) -> SlotAnswer {
     match call {
-        15 => slot(operations::not_in(a, out)),
-        16 => slot(operations::rising_in(a, out)),
-        17 => slot(operations::falling_in(a, out)),
-        18 => slot(operations::sr_in(a, b, out)),
-        19 => slot(operations::rs_in(a, b, out)),
-        20 => slot(operations::delay::ton_in(Length(head(a)), b, out)),
-        21 => slot(operations::delay::tof_in(Length(head(a)), b, out)),
-        _ => slot(operations::connective_in(table(digits), b, c, out)),
+        15 => operations::not_in(a, out),
+        16 => operations::rising_in(a, out),
+        17 => operations::falling_in(a, out),
+        18 => operations::sr_in(a, b, out),
+        19 => operations::rs_in(a, b, out),
+        20 => operations::delay::ton_in(Length(d), b, out),
+        21 => operations::delay::tof_in(Length(d), b, out),
+        _ => operations::connective_in(t, b, c, out),
     }
 }
 
 fn of_call(call: usize, digits: &[u8], a: &[u32], b: &[u32], c: &[u32], out: &mut [u32]) -> Answer {
-    if call < 7 {
-        return answer(call, a, b, out);
+    let d = head(a);
+    if call < 6 {
+        return answer(call, a, b, d, head(b));
     }
+    let t = table(digits);
     if call < 15 {
-        return operation(call, digits, a, b, c, out);
+        return written(operation(call, t, d, a, b, c, out));
     }
-    operation_in(call, digits, a, b, c, out)
+    slot(operation_in(call, t, d, a, b, c, out))
 }
 
 pub fn shown(call: usize, digits: &[u8], a: &[u32], b: &[u32], c: &[u32], out: &mut [u32]) {
