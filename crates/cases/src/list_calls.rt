@@ -7,18 +7,26 @@ use crate::answers::written;
 use crate::shown::with_words;
 use fields::byte_at;
 use fields::notation::head;
+use building::SlotAnswer;
 use signals::Date;
 use signals::Length;
+use signals::Told;
+use signals::Written;
 
-fn answer(call: usize, a: &[u32], b: &[u32], out: &mut [u32]) -> Answer {
+fn question(call: usize, a: &[u32], b: &[u32], k: u32) -> Told {
+    match call {
+        1 => asking::value_at(a, k),
+        2 => asking::value_in(a, k),
+        _ => comparing::equal(a, b),
+    }
+}
+
+fn answer(call: usize, a: &[u32], b: &[u32], d: u32, k: u32) -> Answer {
     match call {
         0 => answers::number(lists::list_fault(a)),
-        1 => told(asking::value_at(a, head(b))),
-        2 => told(asking::value_in(a, head(b))),
-        3 => told(comparing::equal(a, b)),
         4 => answers::verdict(comparing::implies(a, b)),
-        5 => answers::sum(signals::date_plus_length(Date(head(a)), Length(head(b)))),
-        _ => written(tidying::tidy(a, out)),
+        5 => answers::sum(signals::date_plus_length(Date(d), Length(k))),
+        _ => told(question(call, a, b, k)),
     }
 }
 
@@ -32,52 +40,57 @@ fn table(digits: &[u8]) -> [[bool; 2]; 2] {
 
 fn operation(
     call: usize,
-    digits: &[u8],
+    t: [[bool; 2]; 2],
+    d: u32,
     a: &[u32],
     b: &[u32],
     c: &[u32],
     out: &mut [u32],
-) -> Answer {
+) -> Written {
     match call {
-        7 => written(merging::not(a, out)),
-        8 => written(merging::rising(a, out)),
-        9 => written(merging::falling(a, out)),
-        10 => written(merging::sr(a, b, out)),
-        11 => written(merging::rs(a, b, out)),
-        12 => written(delays::ton(Length(head(a)), b, out)),
-        13 => written(delays::tof(Length(head(a)), b, out)),
-        _ => written(merging::connective(table(digits), b, c, out)),
+        6 => tidying::tidy(a, out),
+        7 => merging::not(a, out),
+        8 => merging::rising(a, out),
+        9 => merging::falling(a, out),
+        10 => merging::sr(a, b, out),
+        11 => merging::rs(a, b, out),
+        12 => delays::ton(Length(d), b, out),
+        13 => delays::tof(Length(d), b, out),
+        _ => merging::connective(t, b, c, out),
     }
 }
 
 fn operation_in(
     call: usize,
-    digits: &[u8],
+    t: [[bool; 2]; 2],
+    d: u32,
     a: &[u32],
     b: &[u32],
     c: &[u32],
     out: &mut [u32],
-) -> Answer {
+) -> SlotAnswer {
     match call {
-        15 => slot(merging::not_in(a, out)),
-        16 => slot(merging::rising_in(a, out)),
-        17 => slot(merging::falling_in(a, out)),
-        18 => slot(merging::sr_in(a, b, out)),
-        19 => slot(merging::rs_in(a, b, out)),
-        20 => slot(delays::ton_in(Length(head(a)), b, out)),
-        21 => slot(delays::tof_in(Length(head(a)), b, out)),
-        _ => slot(merging::connective_in(table(digits), b, c, out)),
+        15 => merging::not_in(a, out),
+        16 => merging::rising_in(a, out),
+        17 => merging::falling_in(a, out),
+        18 => merging::sr_in(a, b, out),
+        19 => merging::rs_in(a, b, out),
+        20 => delays::ton_in(Length(d), b, out),
+        21 => delays::tof_in(Length(d), b, out),
+        _ => merging::connective_in(t, b, c, out),
     }
 }
 
 fn of_call(call: usize, digits: &[u8], a: &[u32], b: &[u32], c: &[u32], out: &mut [u32]) -> Answer {
-    if call < 7 {
-        return answer(call, a, b, out);
+    let d = head(a);
+    if call < 6 {
+        return answer(call, a, b, d, head(b));
     }
+    let t = table(digits);
     if call < 15 {
-        return operation(call, digits, a, b, c, out);
+        return written(operation(call, t, d, a, b, c, out));
     }
-    operation_in(call, digits, a, b, c, out)
+    slot(operation_in(call, t, d, a, b, c, out))
 }
 
 pub fn shown(call: usize, digits: &[u8], a: &[u32], b: &[u32], c: &[u32], out: &mut [u32]) {

@@ -13,4 +13,5 @@ abbrev μ-loop : tie.MeasureT-loop
 μ-loop cells₀ q₀ cells q = 6 - q
 
 pub letters-drawn-spec : {M : Type 1} → statement M
-letters-drawn-spec = tie.close (tie.spec Inv-loop μ-loop (λ c. search needs) (λ c κs. search needs) (λ c. search needs) (λ c. search needs) (λ c. search needs) (λ c. search needs) (λ c. search needs))
+letters-drawn-spec = tie.close (tie.spec Inv-loop μ-loop (λ c. search needs) (λ c κs. search needs) (λ c. search needs)
+    (λ c. search needs) (λ c. search needs) (λ c. search needs) (λ c. search needs))

@@ -13,4 +13,5 @@ pub put-formula-spec : {M : Type 1} → statement M
 put-formula-spec =
     tie.close
     (tie.spec
-    (λ c κs. search needs) (λ c. search needs) slice-aggregate-put-parts (λ c κs. search needs) (λ c. search needs) (λ c. search needs) (λ c. search needs))
+    (λ c κs. search needs) (λ c. search needs) slice-aggregate-put-parts (λ c κs. search needs) (λ c. search needs) (λ c. search needs)
+    (λ c. search needs))
