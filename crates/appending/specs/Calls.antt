@@ -1,4 +1,4 @@
--- The whole of a call: its answer and the output at exit, from its arguments and the output at entry.
+-- Believed: The whole of a call: its answer and the output at exit, from its arguments and the output at entry.
 use Prim.Native.Nat.{ℕ}
 use mathlib.Core.Path.{_≡_}
 use mathlib.Core.List.{List, []}

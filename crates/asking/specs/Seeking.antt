@@ -1,4 +1,4 @@
--- What the contract of the search says.
+-- Mirrored: What the contract of the search says.
 use Prim.Native.Nat.{ℕ}
 use mathlib.Core.Path.{_≡_}
 use mathlib.Core.List.{List}

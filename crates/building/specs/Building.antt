@@ -1,4 +1,4 @@
--- Definitions that only mirror the code, not to be believed: how an answer is built word by word in a slot, and handed over.
+-- Mirrored: how an answer is built word by word in a slot, and handed over.
 use Prim.Native.Nat.{ℕ, _+_, _%_}
 use mathlib.Core.Path.{_≡_}
 use mathlib.Core.Bool.{Bool, false, not, cond, Bool·beq, _&&_, _||_}

@@ -1,4 +1,4 @@
--- The calls that the evaluator makes work in a slot that it lends, of 256 words or more: scratch, not an output. They are no
+-- Mirrored: The calls that the evaluator makes work in a slot that it lends, of 256 words or more: scratch, not an output. They are no
 -- entry points, and answer by cases of their own, without document 01's numbers.
 use Prim.Native.Nat.{ℕ}
 use mathlib.Core.Path.{_≡_}

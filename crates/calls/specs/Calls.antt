@@ -1,4 +1,5 @@
--- The formula call and the claim of two formulas: their faults in document 01's order, the words, the output at exit and the verdict.
+-- Believed: The formula call and the claim of two formulas: their faults in document 01's order, the words, the output at exit and the
+-- verdict.
 use Prim.Native.Nat.{ℕ, max}
 use mathlib.Core.Bool.{cond}
 use mathlib.Core.List.{List, [], _∷_}

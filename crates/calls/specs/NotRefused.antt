@@ -1,4 +1,4 @@
--- When the defined calls are not refused: document 01, "such a call is not refused" and "can meet no fault but 18".
+-- Statement: When the defined calls are not refused: document 01, "such a call is not refused" and "can meet no fault but 18".
 use Prim.Native.Nat.{ℕ, _≤_, _<_}
 use mathlib.Core.Path.{_≡_}
 use mathlib.Core.Logic.{_↔_}

@@ -1,4 +1,4 @@
--- A formula's tree on a sheet: the date from which its signal is constant, its normal list, and whether the sheet has its names.
+-- Believed: A formula's tree on a sheet: the date from which its signal is constant, its normal list, and whether the sheet has its names.
 use Prim.Native.Nat.{ℕ, _+_, max}
 use mathlib.Core.Bool.{Bool, true, _&&_}
 use mathlib.Core.List.{List}

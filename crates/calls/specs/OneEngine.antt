@@ -1,4 +1,4 @@
--- What the demands leave open: demand 2 nothing, demand 3 nothing of answered formulas and of claims of two answered formulas.
+-- Statement: What the demands leave open: demand 2 nothing, demand 3 nothing of answered formulas and of claims of two answered formulas.
 use Prim.Native.Nat.{ℕ}
 use mathlib.Core.Path.{_≡_}
 use mathlib.Core.Logic.{_↔_}

@@ -1,4 +1,4 @@
--- The checks of a call leave one fault, so each number is given only as tabled.
+-- Statement: The checks of a call leave one fault, so each number is given only as tabled.
 use Prim.Native.Nat.{ℕ, _≤_}
 use mathlib.Core.Path.{_≡_}
 use mathlib.Core.Logic.{_⊎_}

@@ -1,4 +1,4 @@
--- Document 01, "Checked by hand": F is a, G is TON(2,a), on the printed sheet; the claim that is printed as "fails at 5".
+-- Statement: Document 01, "Checked by hand": F is a, G is TON(2,a), on the printed sheet; the claim that is printed as "fails at 5".
 use Prim.Native.Nat.{ℕ}
 use mathlib.Core.Path.{_≡_}
 use mathlib.Core.List.{List, [], _∷_}

@@ -1,4 +1,4 @@
--- On an accepted sheet every tree's signal settles and has the one normal list; names and constants never meet 5 or 6.
+-- Statement: On an accepted sheet every tree's signal settles and has the one normal list; names and constants never meet 5 or 6.
 use Prim.Native.Nat.{ℕ}
 use mathlib.Core.Path.{_≡_}
 use mathlib.Core.Bool.{true}

@@ -1,5 +1,5 @@
--- The whole of a formula call and of a claim: the answer, the output at exit, and the work area: untouched by a call that does not pass
--- check 18, free after one that does.
+-- Believed: The whole of a formula call and of a claim: the answer, the output at exit, and the work area: untouched by a call that does
+-- not pass check 18, free after one that does.
 use Prim.Native.Nat.{ℕ}
 use mathlib.Core.Path.{_≡_}
 use mathlib.Core.List.{List}

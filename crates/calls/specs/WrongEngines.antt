@@ -1,4 +1,5 @@
--- Seven wrong engines, document 01's six in its order first, each the defined one but for the thing named; demands 2 and 3 shut out each.
+-- Statement: Seven wrong engines, document 01's six in its order first, each the defined one but for the thing named; demands 2 and 3 shut
+-- out each.
 use Prim.Native.Nat.{ℕ, _+_}
 use mathlib.Core.Bool.{cond}
 use mathlib.Core.List.{List, [], _∷_}

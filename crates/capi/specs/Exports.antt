@@ -1,5 +1,5 @@
--- The whole of an exported call that writes or works: the number it returns, the output and the work area at exit, in the definitions of
--- the library's calls.
+-- Believed: The whole of an exported call that writes or works: the number it returns, the output and the work area at exit, in the
+-- definitions of the library's calls.
 use Prim.Native.Nat.{ℕ}
 use mathlib.Core.Path.{_≡_}
 use mathlib.Core.List.{List}

@@ -1,5 +1,5 @@
--- Document 01: "The program reads standard input: formula F to the first line feed, G to the second, then the sheet (of the first 65,536
--- bytes; those past them are dropped). [..] Without a line feed, what follows is empty."
+-- Believed: Document 01: "The program reads standard input: formula F to the first line feed, G to the second, then the sheet (of the
+-- first 65,536 bytes; those past them are dropped). [..] Without a line feed, what follows is empty."
 use Prim.Native.Nat.{ℕ}
 use mathlib.Core.List.{List}
 use lib.ListN.{take}

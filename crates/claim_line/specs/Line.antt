@@ -1,4 +1,4 @@
--- Document 01: "It prints one line: holds, fails at k, fails after k, or refused n." The line as bytes, with its line feed.
+-- Believed: Document 01: "It prints one line: holds, fails at k, fails after k, or refused n." The line as bytes, with its line feed.
 use Prim.Native.Nat.{ℕ}
 use mathlib.Core.List.{List, [], _∷_, _++_}
 use Rattle.texts.specs.Decimal.{decimal}

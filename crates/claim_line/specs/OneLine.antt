@@ -1,4 +1,5 @@
--- Document 01: "It prints one line: holds, fails at k, fails after k, or refused n." How long it can be, where it ends, which n can come.
+-- Statement: Document 01: "It prints one line: holds, fails at k, fails after k, or refused n." How long it can be, where it ends, which n
+-- can come.
 use Prim.Native.Nat.{ℕ, _^_, _≤_, _<_}
 use mathlib.Core.Path.{_≡_}
 use mathlib.Core.List.{List, [], _∷_, _++_}

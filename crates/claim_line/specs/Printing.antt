@@ -1,4 +1,4 @@
--- The program's work on an input: the claim that the input makes, the line of its answer, and the output that it is written to.
+-- Believed: The program's work on an input: the claim that the input makes, the line of its answer, and the output that it is written to.
 use Prim.Native.Nat.{ℕ, _≤_}
 use mathlib.Core.Path.{_≡_}
 use mathlib.Core.List.{List, _++_}

@@ -1,4 +1,4 @@
--- The first moment from a moment on at which a table's value of two signals is the one wanted: what the scan's contract says.
+-- Mirrored: The first moment from a moment on at which a table's value of two signals is the one wanted: what the scan's contract says.
 use Prim.Native.Nat.{ℕ, _≤_, _<_, max}
 use mathlib.Core.Bool.{Bool, cond, Bool·beq, _&&_}
 use lib.Dec.{ltb}

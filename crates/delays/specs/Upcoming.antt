@@ -1,4 +1,4 @@
--- A definition that only mirrors the code, not to be believed: the date that a delay looks at next.
+-- Mirrored: A definition that only mirrors the code, not to be believed: the date that a delay looks at next.
 use Prim.Native.Nat.{ℕ}
 use mathlib.Core.Bool.{cond, _&&_}
 use mathlib.Core.List.{List}

@@ -1,4 +1,4 @@
--- The calls on sheets, by document 01: begin, check, lookup with its sister, append.
+-- Believed: The calls on sheets, by document 01: begin, check, lookup with its sister, append.
 use Prim.Native.Nat.{ℕ, zero, suc, _+_, _*_}
 use mathlib.Core.Bool.{not, cond, _||_}
 use mathlib.Core.List.{List, [], _∷_, _++_}

@@ -1,5 +1,5 @@
--- The place that a lookup names is that of the name's own words: past mark, version and count, the signals before it, its name and its
--- word count; and it holds all the words of its list.
+-- Statement: The place that a lookup names is that of the name's own words: past mark, version and count, the signals before it, its name
+-- and its word count; and it holds all the words of its list.
 use Prim.Native.Nat.{ℕ, _+_, _*_}
 use mathlib.Core.Path.{_≡_}
 use mathlib.Core.List.{List, _∷_, _++_}

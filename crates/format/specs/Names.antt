@@ -1,4 +1,4 @@
--- Document 01, "Sheets": names as a sheet holds them.
+-- Believed: Document 01, "Sheets": names as a sheet holds them.
 use Prim.Native.Nat.{ℕ, _-_}
 use mathlib.Core.Bool.{Bool, true, false, _&&_, _||_}
 use mathlib.Core.List.{List, [], _∷_, _++_}

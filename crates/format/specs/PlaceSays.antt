@@ -1,4 +1,5 @@
--- Of a lookup's place, its reading and the answer of a fault number and values are one definition of the cases, as for the other answers.
+-- Statement: Of a lookup's place, its reading and the answer of a fault number and values are one definition of the cases, as for the
+-- other answers.
 use Prim.Native.Nat.{ℕ, _≤_}
 use mathlib.Core.Path.{_≡_}
 use Rattle.format.specs.Calls.{faultOfPlace, firstByte, byteCount, placeFor}

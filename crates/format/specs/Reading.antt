@@ -1,4 +1,4 @@
--- Document 01, "Sheets": a sheet is read front to back, first fault; what an accepted sheet holds.
+-- Believed: Document 01, "Sheets": a sheet is read front to back, first fault; what an accepted sheet holds.
 use Prim.Native.Nat.{ℕ, zero, suc, _+_, _*_, _-_}
 use mathlib.Core.Bool.{Bool, not, cond, _||_}
 use mathlib.Core.List.{List, [], _∷_, _++_}

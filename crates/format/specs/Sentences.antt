@@ -1,4 +1,4 @@
--- When each fault of document 01's table is given on a sheet, in its sentences: what stands before the fault has none.
+-- Statement: When each fault of document 01's table is given on a sheet, in its sentences: what stands before the fault has none.
 use Prim.Native.Nat.{ℕ, suc, _≤_, _<_}
 use mathlib.Core.Path.{_≡_}
 use mathlib.Core.Bool.{true, false}

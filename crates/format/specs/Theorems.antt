@@ -1,4 +1,4 @@
--- The theorems about sheets, each as a type. Bytes are below 256 and words below 2^32, as the slices that hold them are.
+-- Statement: The theorems about sheets, each as a type. Bytes are below 256 and words below 2^32, as the slices that hold them are.
 use Prim.Native.Nat.{ℕ, _/_, _≤_}
 use mathlib.Core.Path.{_≡_}
 use mathlib.Core.List.{List, [], _∷_, _++_}

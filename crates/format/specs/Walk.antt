@@ -1,4 +1,4 @@
--- What private functions assume while they walk a sheet. No rule of document 01 rests on it.
+-- Mirrored: What private functions assume while they walk a sheet.
 use Prim.Native.Nat.{ℕ, zero, suc, _+_, _≤_}
 use mathlib.Core.List.{List}
 use lib.ListN.{length, drop}

@@ -1,4 +1,4 @@
--- Document 01, "Sheets": the bytes of a sheet that holds these signals, and which signals a sheet can hold.
+-- Believed: Document 01, "Sheets": the bytes of a sheet that holds these signals, and which signals a sheet can hold.
 use Prim.Native.Nat.{ℕ, _≤_}
 use mathlib.Core.Path.{_≡_}
 use mathlib.Core.Bool.{true, false}

@@ -1,14 +1,12 @@
--- The reader's steps on marks, as its private contracts cite them: they mirror the steps on states.
+-- Mirrored: The reader's steps on marks, as its private contracts cite them: they mirror the steps on states.
 use Prim.Native.Nat.{ℕ, _+_, _*_, _-_, _≤_, max}
 use mathlib.Core.Path.{_≡_}
 use mathlib.Core.Bool.{true, false, cond}
 use mathlib.Core.List.{List}
 use lib.Dec.{ltb, eqb}
 use lib.ListN.{length, take, set}
-use Rattle.signals.specs.Answers.{writtenOf}
-use Rattle.signals.specs.declared.Written.{Written}
 use Rattle.grammar.specs.Kinds as kinds
-use Rattle.grammar.specs.Formula.{coded, nameWord, formulaFault, codeOf, codeAfter}
+use Rattle.grammar.specs.Formula.{coded, nameWord}
 use Rattle.grammar.specs.Reader.{State, leafAt, sumAt, sumsAt, productAt, productsAt, factorAt, latchAt, timerAt}
 use Rattle.marks.specs.Marks.{Mark, markOf, lent, nextMark, lengthEnd}
 
@@ -102,7 +100,3 @@ Begun page bytes code m deep = (Lent page bytes m) × (Ready (lent page bytes) c
 
 abbrev pub Left : (Mark → List ℕ → List ℕ → Mark → Type 0) → List ℕ → List ℕ → List ℕ → List ℕ → Type 0
 Left R m old new r = (length r ≡ 5) × (R (markOf m) old new (markOf r))
-
--- the answer of a call of `read` and the code words after it
-abbrev pub CallOfRead : List ℕ → List ℕ → Written → List ℕ → Type 0
-CallOfRead text code answer after = (answer ≡ writtenOf (formulaFault text) (codeOf text)) × (after ≡ codeAfter text code)

@@ -6,7 +6,7 @@ ghost use mathlib.Core.Path.{_≡_};
 ghost use Prim.Native.Nat.{_≤_};
 ghost use lib.ListN.{length, take};
 ghost use lib.Seq.{sets};
-ghost use Rattle.formulas.specs.Readers.{CallOfRead};
+ghost use Rattle.formulas.specs.Calls.{CallOfRead};
 use marks::OK;
 use marks::PARTS;
 use marks::fault_of;

@@ -1,4 +1,4 @@
--- The parts of a formula in working-out order: left operand, right operand, then their operator.
+-- Believed: The parts of a formula in working-out order: left operand, right operand, then their operator.
 use Prim.Native.Nat.{ℕ, max}
 use mathlib.Core.List.{List, [], _∷_, _++_}
 use Rattle.grammar.specs.Tree.{Tree, Leaf, Unary, Binary, leaf, unary, binary, ton, tof, invert, rise, fall}

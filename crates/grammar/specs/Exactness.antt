@@ -1,4 +1,4 @@
--- Statements on the grammar and its reader, and the sentences of faults 10, 11, 8 and 12 through the grammar.
+-- Statement: Statements on the grammar and its reader, and the sentences of faults 10, 11, 8 and 12 through the grammar.
 use Prim.Native.Nat.{_≤_, ℕ, _<_}
 use mathlib.Core.Path.{_≡_}
 use mathlib.Core.Bool.{true}

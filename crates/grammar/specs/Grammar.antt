@@ -1,4 +1,4 @@
--- Document 01, "Formulas": the grammar, rule by rule, as a relation between bytes, tree and depth.
+-- Believed: Document 01, "Formulas": the grammar, rule by rule, as a relation between bytes, tree and depth.
 use Prim.Native.Nat.{ℕ, _+_, max}
 use mathlib.Core.Path.{_≡_}
 use mathlib.Core.Bool.{true}

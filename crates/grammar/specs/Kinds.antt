@@ -1,4 +1,4 @@
--- The kinds of parts: the low four bits of a code word.
+-- Mirrored: The kinds of parts: the low four bits of a code word. Tied to what is believed by `AcceptedCode`.
 use Prim.Native.Nat.{ℕ}
 
 -- 0 and 1

@@ -1,4 +1,4 @@
--- The parts of a tree, each taken with its operands, and their places in working-out order.
+-- Believed: The parts of a tree, each taken with its operands, and their places in working-out order.
 use Prim.Native.Nat.{ℕ, _+_, _-_}
 use mathlib.Core.Bool.{cond}
 use mathlib.Core.List.{List, [], _∷_, _++_}

@@ -1,5 +1,5 @@
--- A part in its surroundings, and statements on places: each place in working-out order has exactly one part, each part is found and
--- replaced at its place, and replacing it is replacing its segment of the code.
+-- Statement: A part in its surroundings, and statements on places: each place in working-out order has exactly one part, each part is
+-- found and replaced at its place, and replacing it is replacing its segment of the code.
 use Prim.Native.Nat.{ℕ, suc, _+_, _-_, _<_}
 use mathlib.Core.Path.{_≡_}
 use mathlib.Core.List.{_++_}

@@ -1,4 +1,4 @@
--- A reader that computes: sum, product and factor readers by fuel. Not to be believed: proved to accept exactly what the grammar derives.
+-- Mirrored: A reader that computes: sum, product and factor readers by fuel. Tied to what is believed by `ReaderExact`.
 use Prim.Native.Nat.{ℕ, zero, suc, _+_, _*_, _-_, max}
 use mathlib.Core.Bool.{Bool, true, false, cond}
 use mathlib.Core.List.{List, [], _∷_, _++_}

@@ -1,4 +1,4 @@
--- The tree of a formula, and the signal that it stands for when each name stands for a signal.
+-- Believed: The tree of a formula, and the signal that it stands for when each name stands for a signal.
 use Prim.Native.Nat.{ℕ}
 use mathlib.Core.Bool.{Bool, true, false}
 use mathlib.Core.List.{List}

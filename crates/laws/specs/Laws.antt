@@ -1,4 +1,5 @@
--- Document 01, "Law table": the equations, one a definition, and the table of them in the document's order, numbered from 1.
+-- Mirrored: Document 01, "Law table": the equations, one a definition, and the table of them in the document's order, numbered from 1.
+-- Tied to what is believed by `NumberOfLaws`, `RowsAsPrinted`.
 use Prim.Native.Nat.{ℕ, _-_}
 use mathlib.Core.Path.{_≡_}
 use mathlib.Core.List.{List, [], _∷_}

@@ -1,4 +1,4 @@
--- Rewriting by places said again by surroundings: it reaches every part, and goes back.
+-- Statement: Rewriting by places said again by surroundings: it reaches every part, and goes back.
 use Prim.Native.Nat.{ℕ, _≤_}
 use mathlib.Core.Path.{_≡_}
 use mathlib.Core.Logic.{_↔_}

@@ -1,4 +1,5 @@
--- Document 01, "Law table", as it is printed: the texts of the equations, and what it is for the rows of the table to be their texts.
+-- Believed: Document 01, "Law table", as it is printed: the texts of the equations, and what it is for the rows of the table to be their
+-- texts.
 use Prim.Native.Nat.{ℕ, zero, suc, _-_, _≤_}
 use Prim.Native.Char.{code}
 use Prim.Native.String.{String, [] as none, _∷_ as _then_}

@@ -1,4 +1,5 @@
--- One step of rewriting a formula's tree: one part, the whole included, found by its place in working-out order, by an equation either way.
+-- Believed: One step of rewriting a formula's tree: one part, the whole included, found by its place in working-out order, by an equation
+-- either way.
 use Prim.Native.Nat.{ℕ, _≤_, _<_}
 use mathlib.Core.Path.{_≡_}
 use lib.ListN.{length}

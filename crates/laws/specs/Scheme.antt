@@ -1,4 +1,5 @@
--- Schemes: formulas over the letters f g h s r p with length terms in d and e, and what putting formulas and lengths for them gives.
+-- Believed: Schemes: formulas over the letters f g h s r p with length terms in d and e, and what putting formulas and lengths for them
+-- gives.
 use Prim.Native.Nat.{ℕ, _+_, _≤_}
 use mathlib.Core.Bool.{cond}
 use lib.Dec.{leb}

@@ -1,4 +1,4 @@
--- Soundness of the laws and of rewriting by them: equal signals at every moment, in every environment of names.
+-- Statement: Soundness of the laws and of rewriting by them: equal signals at every moment, in every environment of names.
 use Prim.Native.Nat.{ℕ, _≤_}
 use mathlib.Core.Path.{_≡_}
 use lib.ListN.{length}

@@ -1,5 +1,5 @@
--- "f, g, h, s, r, p are any formulas; d, e lengths with d+e ≤ M": every such choice is a substitution, and none has other lengths. Letters
--- may stand for any tree.
+-- Statement: "f, g, h, s, r, p are any formulas; d, e lengths with d+e ≤ M": every such choice is a substitution, and none has other
+-- lengths. Letters may stand for any tree.
 use Prim.Native.Nat.{ℕ, _+_, _≤_}
 use mathlib.Core.Path.{_≡_}
 use Rattle.grammar.specs.Tree.{Tree}

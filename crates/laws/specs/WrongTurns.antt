@@ -1,4 +1,4 @@
--- Document 01, "Wrong turns": each with signals and a moment that refute it.
+-- Statement: Document 01, "Wrong turns": each with signals and a moment that refute it.
 use Prim.Native.Nat.{ℕ}
 use mathlib.Core.Path.{_≡_}
 use mathlib.Core.Bool.{true, false}

@@ -1,5 +1,5 @@
--- Document 01: "A reader goes along each operand's words and knows how many it has passed." What a reader says of an
--- accepted list that it has passed p words of, the first word counting as passed, in terms of the list's signal and dates.
+-- Statement: Document 01: "A reader goes along each operand's words and knows how many it has passed." What a reader says of an accepted
+-- list that it has passed p words of, the first word counting as passed, in terms of the list's signal and dates.
 use Prim.Native.Nat.{ℕ, _+_, _-_, _≤_, _<_}
 use mathlib.Core.List.{List}
 use mathlib.Core.Logic.{_↔_}

@@ -1,4 +1,5 @@
--- Reading along a list's words: the next word's date, what passing a date gives, and how many words are dated up to one.
+-- Mirrored: Reading along a list's words: the next word's date, what passing a date gives, and how many words are dated up to one. Tied to
+-- what is believed by `ReaderSays`.
 use Prim.Native.Nat.{ℕ, suc}
 use mathlib.Core.Bool.{cond}
 use mathlib.Core.List.{List, [], _∷_}

@@ -1,4 +1,4 @@
--- Working a formula's parts out on a stack of lists, each in a slot of 256 words of the work area.
+-- Mirrored: Working a formula's parts out on a stack of lists, each in a slot of 256 words of the work area.
 use Prim.Native.Nat.{ℕ, _+_, _*_, _-_, _/_, _%_, _≤_}
 use mathlib.Core.Path.{_≡_}
 use mathlib.Core.Bool.{Bool, true, false, cond, _&&_}

@@ -1,4 +1,4 @@
--- Where the reader of a formula is, as five words, and what stands there in a text that is lent.
+-- Mirrored: Where the reader of a formula is, as five words, and what stands there in a text that is lent.
 use Prim.Native.Nat.{ℕ, zero, suc, _+_, _*_, _-_, min}
 use mathlib.Core.Bool.{Bool, true, false, cond}
 use mathlib.Core.List.{List}

@@ -1,4 +1,4 @@
--- Document 01's rule of names, for formulas and for sheets.
+-- Believed: Document 01's rule of names, for formulas and for sheets.
 use Prim.Native.Nat.{ℕ}
 use mathlib.Core.Bool.{Bool, true, false, _&&_, _||_}
 use mathlib.Core.List.{List, [], _∷_}

@@ -1,4 +1,4 @@
--- The sentence that document 01 has for names, and that the test is it.
+-- Statement: The sentence that document 01 has for names, and that the test is it.
 use Prim.Native.Nat.{ℕ, _≤_, _<_}
 use mathlib.Core.Path.{_≡_}
 use mathlib.Core.Bool.{true}

@@ -1,4 +1,4 @@
--- Faults 5 to 8 of a call are given exactly when their sentence of document 01's table holds and no earlier one does.
+-- Statement: Faults 5 to 8 of a call are given exactly when their sentence of document 01's table holds and no earlier one does.
 use Prim.Native.Nat.{ℕ, _-_, _≤_, _<_, _^_}
 use mathlib.Core.List.{List}
 use mathlib.Core.Logic.{_⊎_, _↔_}

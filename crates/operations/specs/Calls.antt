@@ -1,4 +1,4 @@
--- Each operation on lists as a call: its faults in document 01's order, its exact answer, its output.
+-- Believed: Each operation on lists as a call: its faults in document 01's order, its exact answer, its output.
 use Prim.Native.Nat.{ℕ, _+_, max}
 use mathlib.Core.Path.{_≡_}
 use mathlib.Core.Bool.{Bool, false, cond, _||_}

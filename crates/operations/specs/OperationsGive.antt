@@ -1,5 +1,5 @@
--- A named theorem for each operation on lists: a call without a fault gives the accepted normal list of the operation's
--- signal, word by word.
+-- Statement: A named theorem for each operation on lists: a call without a fault gives the accepted normal list of the operation's signal,
+-- word by word.
 use Prim.Native.Nat.{ℕ}
 use mathlib.Core.List.{List}
 use mathlib.Core.Path.{_≡_}

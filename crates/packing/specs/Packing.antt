@@ -1,4 +1,5 @@
--- The answers of the library as the one number that an exported function returns, and that number in its 32 or 64 bits for every answer.
+-- Believed: The answers of the library as the one number that an exported function returns, and that number in its 32 or 64 bits for every
+-- answer.
 use Prim.Native.Nat.{ℕ, _+_, _*_, _/_, _%_}
 use mathlib.Core.Bool.{Bool}
 use mathlib.Core.List.{[], _∷_}

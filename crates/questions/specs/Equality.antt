@@ -1,4 +1,5 @@
--- Equality of two accepted lists answers yes exactly when the two signals agree at every moment, which is when the words are the same.
+-- Statement: Equality of two accepted lists answers yes exactly when the two signals agree at every moment, which is when the words are
+-- the same.
 use Prim.Native.Nat.{ℕ}
 use mathlib.Core.List.{List}
 use mathlib.Core.Path.{_≡_}

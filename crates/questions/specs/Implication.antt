@@ -1,4 +1,4 @@
--- Implication of two accepted lists holds exactly when no moment refutes it, and otherwise names the earliest moment that does.
+-- Statement: Implication of two accepted lists holds exactly when no moment refutes it, and otherwise names the earliest moment that does.
 use Prim.Native.Nat.{ℕ, _≤_}
 use mathlib.Core.List.{List}
 use mathlib.Core.Path.{_≡_}

@@ -1,4 +1,4 @@
--- Document 01's questions about lists as calls: the faults in order, the values by the signals at moments.
+-- Believed: Document 01's questions about lists as calls: the faults in order, the values by the signals at moments.
 use Prim.Native.Nat.{ℕ, max}
 use mathlib.Core.Bool.{cond, Bool·beq, _||_}
 use mathlib.Core.List.{List}

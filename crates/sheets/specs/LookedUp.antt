@@ -1,4 +1,4 @@
--- What a lookup gives: a part of the caller's own slice.
+-- Believed: What a lookup gives: a part of the caller's own slice.
 use Prim.Native.Nat.{ℕ, _+_}
 use mathlib.Core.Path.{_≡_}
 use mathlib.Core.List.{List}

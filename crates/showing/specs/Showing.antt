@@ -1,4 +1,4 @@
--- Definitions that only mirror the merge, not to be believed: which signal it builds, and what it shows at each date.
+-- Mirrored: which signal it builds, and what it shows at each date.
 use Prim.Native.Nat.{ℕ}
 use mathlib.Core.Bool.{Bool, true, false, not, _&&_}
 use Rattle.signals.specs.Signal.{Signal, Table, cell, connective, rising, falling, SR, RS}

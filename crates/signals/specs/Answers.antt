@@ -1,5 +1,6 @@
--- Document 01's number and values for each case of the answers, by one definition for each enum: what every case is read as (its fault
--- number, 0 for none, and its values), and the one answer of a call with this fault number and these values. Contracts use the latter.
+-- Believed: Document 01's number and values for each case of the answers, by one definition for each enum: what every case is read as (its
+-- fault number, 0 for none, and its values), and the one answer of a call with this fault number and these values. Contracts use the
+-- latter.
 use Prim.Native.Nat.{ℕ, _+_}
 use mathlib.Core.Bool.{Bool, true, false, cond}
 use mathlib.Core.List.{List, _++_}

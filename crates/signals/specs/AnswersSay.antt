@@ -1,5 +1,6 @@
--- Of each answer, its reading and the answer of a call with a fault number and values are one definition of the cases: an answer is read as
--- what it was given of, each answer that a call can give is given of what it is read as, and no refusal is without a number.
+-- Statement: Of each answer, its reading and the answer of a call with a fault number and values are one definition of the cases: an
+-- answer is read as what it was given of, each answer that a call can give is given of what it is read as, and no refusal is without a
+-- number.
 use Prim.Native.Nat.{ℕ, _≤_, _<_}
 use mathlib.Core.Path.{_≡_}
 use mathlib.Core.Bool.{Bool, false}

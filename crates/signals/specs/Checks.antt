@@ -1,4 +1,5 @@
--- Document 01's order of faults: the checks of a call are taken one after another, and the first whose sentence holds gives its number.
+-- Statement: Document 01's order of faults: the checks of a call are taken one after another, and the first whose sentence holds gives its
+-- number.
 use Prim.Native.Nat.{ℕ}
 use mathlib.Core.Path.{_≡_}
 use mathlib.Core.Logic.{_⊎_, _↔_}

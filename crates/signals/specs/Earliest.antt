@@ -1,4 +1,5 @@
--- Document 01: "implication f to g, which answers holds, fails at k, or fails after k (gap k), always the earliest failing moment".
+-- Statement: Document 01: "implication f to g, which answers holds, fails at k, or fails after k (gap k), always the earliest failing
+-- moment".
 use Prim.Native.Nat.{ℕ, _≤_, _<_}
 use mathlib.Core.Path.{_≡_}
 use mathlib.Core.Logic.{_⊎_, _↔_}

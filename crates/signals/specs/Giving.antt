@@ -1,4 +1,4 @@
--- What a call without a fault gives, word by word: the one normal list of a signal. Tidying and every operation on lists do.
+-- Statement: What a call without a fault gives, word by word: the one normal list of a signal. Tidying and every operation on lists do.
 use Prim.Native.Nat.{ℕ, _≤_, _<_}
 use mathlib.Core.List.{List, _++_}
 use mathlib.Core.Path.{_≡_}

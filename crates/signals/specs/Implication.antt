@@ -1,4 +1,4 @@
--- Document 01, implication f to g: holds, fails at k, or fails after k (gap k), always the earliest failing moment.
+-- Believed: Document 01, implication f to g: holds, fails at k, or fails after k (gap k), always the earliest failing moment.
 use Prim.Native.Nat.{ℕ, zero, suc, _+_}
 use mathlib.Core.Bool.{cond}
 use mathlib.Core.Option.{Option, none, some}

@@ -1,4 +1,4 @@
--- SR and RS from moment to moment, by one bit carried through the gaps; and the statement that they are those of document 01.
+-- Statement: SR and RS from moment to moment, by one bit carried through the gaps; and the statement that they are those of document 01.
 use Prim.Native.Nat.{ℕ, zero, suc}
 use mathlib.Core.Path.{_≡_}
 use mathlib.Core.Bool.{Bool, true, false, not, _&&_, _||_}

@@ -1,4 +1,4 @@
--- Faults 1 to 4 are given exactly when their sentence of document 01's table holds and no earlier one does.
+-- Statement: Faults 1 to 4 are given exactly when their sentence of document 01's table holds and no earlier one does.
 use Prim.Native.Nat.{ℕ, zero, suc, _≤_, _<_}
 use mathlib.Core.Bool.{Bool, false}
 use mathlib.Core.List.{List}

@@ -1,4 +1,4 @@
--- Document 01, "Time and words": ticks, dates, lengths and moments, and the spans of moments that "Operations" speaks of.
+-- Believed: Document 01, "Time and words": ticks, dates, lengths and moments, and the spans of moments that "Operations" speaks of.
 use Prim.Native.Nat.{ℕ, zero, suc, _+_, _*_, _-_, _/_, _%_, _≤_}
 use mathlib.Core.Bool.{Bool, true, false, _&&_}
 use lib.Dec.{leb, eqb}

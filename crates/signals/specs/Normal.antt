@@ -1,4 +1,4 @@
--- The statements on normal lists: a signal has one, it denotes the signal, and it is read back from the signal it denotes.
+-- Statement: The statements on normal lists: a signal has one, it denotes the signal, and it is read back from the signal it denotes.
 use Prim.Native.Nat.{ℕ, _≤_, _<_}
 use mathlib.Core.List.{List, [], _∷_}
 use mathlib.Core.Logic.{_↔_}

@@ -1,4 +1,4 @@
--- Going along a list's words by the number passed (at least the first word): not to be believed, proved equal to the signal.
+-- Mirrored: Going along a list's words by the number passed (at least the first word). Tied to what is believed by `ReaderSays`.
 use Prim.Native.Nat.{ℕ, _+_, _-_}
 use mathlib.Core.Bool.{Bool, cond, _&&_}
 use mathlib.Core.List.{List}

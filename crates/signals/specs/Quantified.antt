@@ -1,4 +1,5 @@
--- Document 01, "Operations", with real quantifiers as the document writes them, and the statement that the definitions that compute agree.
+-- Statement: Document 01, "Operations", with real quantifiers as the document writes them, and the statement that the definitions that
+-- compute agree.
 use Prim.Native.Nat.{ℕ, _+_, _*_, _≤_}
 use mathlib.Core.Path.{_≡_}
 use mathlib.Core.Logic.{_⊎_, _↔_}

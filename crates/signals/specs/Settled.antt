@@ -1,4 +1,4 @@
--- A signal that no longer changes, and the words that one date gives.
+-- Statement: A signal that no longer changes, and the words that one date gives.
 use Prim.Native.Nat.{ℕ, _≤_}
 use mathlib.Core.Bool.{Bool, cond, Bool·beq, _&&_}
 use mathlib.Core.List.{List, [], _∷_}

@@ -1,4 +1,4 @@
--- The operations of signals that settle settle, and when: so each answer has a last date computed from its operands.
+-- Statement: The operations of signals that settle settle, and when: so each answer has a last date computed from its operands.
 use Prim.Native.Nat.{ℕ, _+_, max}
 use mathlib.Core.Bool.{Bool}
 use Rattle.signals.specs.Signal.{Signal, Table, constant, NOT, connective, AND, OR, rising, falling, SR, RS, TON, TOF}

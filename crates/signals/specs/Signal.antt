@@ -1,4 +1,4 @@
--- Document 01, "Operations", over moments, as definitions that compute.
+-- Believed: Document 01, "Operations", over moments, as definitions that compute.
 use Prim.Native.Nat.{ℕ, zero, suc, _+_, _*_, _-_, _≤_}
 use mathlib.Core.Bool.{Bool, true, false, not, cond, _&&_, _||_}
 use mathlib.Core.List.{List, [], _∷_}

@@ -1,4 +1,4 @@
--- Document 01, "Checked by hand": the starred cases, in one joint statement.
+-- Statement: Document 01, "Checked by hand": the starred cases, in one joint statement.
 use Prim.Native.Nat.{ℕ, _≤_, _<_}
 use mathlib.Core.Path.{_≡_}
 use mathlib.Core.Logic.{_↔_}

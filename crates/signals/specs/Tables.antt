@@ -1,4 +1,4 @@
--- Document 01: "each connective is a 2 by 2 table, row by the first operand, column by the second".
+-- Statement: Document 01: "each connective is a 2 by 2 table, row by the first operand, column by the second".
 use Prim.Native.Nat.{ℕ}
 use mathlib.Core.Path.{_≡_}
 use mathlib.Core.Bool.{Bool, true, false, _&&_, _||_}

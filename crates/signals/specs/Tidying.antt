@@ -1,4 +1,4 @@
--- Tidying takes lists that break only rule 4 and returns the normal list.
+-- Believed: Tidying takes lists that break only rule 4 and returns the normal list.
 use Prim.Native.Nat.{ℕ, _≤_}
 use mathlib.Core.List.{List}
 use mathlib.Core.Path.{_≡_}

@@ -1,4 +1,4 @@
--- The numbers of Moment.antt say what document 01 says of instants and gaps: each field beside its sentence.
+-- Statement: The numbers of Moment.antt say what document 01 says of instants and gaps: each field beside its sentence.
 use Prim.Native.Nat.{ℕ, _+_, _-_, _≤_, _<_}
 use mathlib.Core.Path.{_≡_}
 use mathlib.Core.Logic.{_⊎_, _↔_}

@@ -1,4 +1,4 @@
--- Document 01, "Time and words": words, lists, which lists are accepted, what a list denotes, and the one list of a signal.
+-- Believed: Document 01, "Time and words": words, lists, which lists are accepted, what a list denotes, and the one list of a signal.
 use Prim.Native.Nat.{ℕ, zero, suc, _+_, _*_, _/_, _%_}
 use mathlib.Core.Bool.{Bool, false, cond, Bool·beq, _&&_}
 use mathlib.Core.List.{List, [], _∷_}

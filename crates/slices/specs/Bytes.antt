@@ -1,4 +1,4 @@
--- Document 01, "Sheets": 16-bit numbers and 32-bit words as bytes, low byte first.
+-- Believed: Document 01, "Sheets": 16-bit numbers and 32-bit words as bytes, low byte first.
 use Prim.Native.Nat.{ℕ, zero, suc, _+_, _*_, _/_, _%_, _<_}
 use mathlib.Core.List.{List, [], _∷_, _++_}
 use lib.ListN.{getD, drop}

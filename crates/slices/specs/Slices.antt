@@ -1,4 +1,4 @@
--- Bytes before and after a stop byte, and bytes written at a place of an output.
+-- Believed: Bytes before and after a stop byte, and bytes written at a place of an output.
 use Prim.Native.Nat.{ℕ, _+_}
 use mathlib.Core.Bool.{cond}
 use mathlib.Core.List.{List, [], _∷_, _++_}

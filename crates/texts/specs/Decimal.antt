@@ -1,4 +1,5 @@
--- A number of at most ten digits in decimal, as document 01 has it of lengths: without needless leading zeros, and it writes the number.
+-- Believed: A number of at most ten digits in decimal, as document 01 has it of lengths: without needless leading zeros, and it writes the
+-- number.
 use Prim.Native.Nat.{ℕ, zero, suc, _+_, _/_, _%_, _^_, _<_}
 use mathlib.Core.Path.{_≡_}
 use mathlib.Core.Bool.{true, cond}

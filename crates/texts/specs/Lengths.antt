@@ -1,4 +1,4 @@
--- Decimal lengths as bytes, and what a text that should be a length is read as.
+-- Believed: Decimal lengths as bytes, and what a text that should be a length is read as.
 use Prim.Native.Nat.{ℕ, _+_, _*_, _-_, min}
 use mathlib.Core.Bool.{Bool, false, not, cond, _&&_, _||_}
 use mathlib.Core.List.{List, [], _∷_}

@@ -1,4 +1,4 @@
--- The first line of a text, and what follows it.
+-- Believed: The first line of a text, and what follows it.
 use Prim.Native.Nat.{ℕ}
 use mathlib.Core.List.{List}
 use Rattle.slices.specs.Slices.{before, past}

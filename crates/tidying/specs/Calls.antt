@@ -1,4 +1,4 @@
--- Tidying as a call: its faults in document 01's order, and its whole answer and output.
+-- Believed: Tidying as a call: its faults in document 01's order, and its whole answer and output.
 use Prim.Native.Nat.{ℕ}
 use mathlib.Core.Path.{_≡_}
 use mathlib.Core.Bool.{cond}

@@ -1,4 +1,4 @@
--- Definitions that only mirror the code of tidying, not to be believed: words laid over an output one by one.
+-- Mirrored: words laid over an output one by one.
 use Prim.Native.Nat.{ℕ, _+_}
 use mathlib.Core.Path.{_≡_}
 use mathlib.Core.List.{List, [], _∷_}

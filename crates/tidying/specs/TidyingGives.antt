@@ -1,4 +1,4 @@
--- Tidying without a fault gives the one normal list of the signal that the list denotes.
+-- Statement: Tidying without a fault gives the one normal list of the signal that the list denotes.
 use Prim.Native.Nat.{ℕ}
 use mathlib.Core.Path.{_≡_}
 use mathlib.Core.List.{List}

@@ -1,4 +1,4 @@
--- Definitions that only mirror the code, not to be believed: how a delay follows its input from moment to moment.
+-- Mirrored: how a delay follows its input from moment to moment.
 use Prim.Native.Nat.{ℕ}
 use mathlib.Core.Bool.{Bool, true, false, not, cond, _&&_, _||_}
 use mathlib.Core.List.{List}
