@@ -89,7 +89,11 @@ def paths(tokens):
             i += 1
         elif is_name(tokens[i]):
             path = [tokens[i]]
-            while tokens[i + 1 : i + 2] == ["."] and all(t.touches for t in tokens[i + 1 : i + 3]) and any(map(is_name, tokens[i + 2 : i + 3])):
+            while (
+                tokens[i + 1 : i + 2] == ["."]
+                and all(t.touches for t in tokens[i + 1 : i + 3])
+                and any(map(is_name, tokens[i + 2 : i + 3]))
+            ):
                 path.append(tokens[i + 2])
                 i += 2
             found.append(tuple(path))

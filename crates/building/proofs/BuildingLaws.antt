@@ -51,7 +51,8 @@ unfolding upToM changesAfterM
 upToM-late [] w e = true-false (sym e)
 upToM-late (x ∷ l) w e = go (ltb M (dateOf x)) e (λ h. upToM-late l w h)
   where
-    go : (t : Bool) → (t || changesAfterM l) ≡ true → (changesAfterM l ≡ true → upToM (l ++ (w ∷ [])) ≡ upToM l) → cond t [] (x ∷ upToM (l ++ (w ∷ []))) ≡ cond t [] (x ∷ upToM l)
+    go : (t : Bool) → (t || changesAfterM l) ≡ true → (changesAfterM l ≡ true → upToM (l ++ (w ∷ [])) ≡ upToM l)
+        → cond t [] (x ∷ upToM (l ++ (w ∷ []))) ≡ cond t [] (x ∷ upToM l)
     go true h rec = refl
     go false h rec = rw (rec h)
 
@@ -60,7 +61,8 @@ unfolding upToM changesAfterM
 upToM-stop [] w e h = rw (lt-ltb M (dateOf w) h)
 upToM-stop (x ∷ l) w e h = go (ltb M (dateOf x)) e (λ q. upToM-stop l w q h)
   where
-    go : (t : Bool) → (t || changesAfterM l) ≡ false → (changesAfterM l ≡ false → upToM (l ++ (w ∷ [])) ≡ l) → cond t [] (x ∷ upToM (l ++ (w ∷ []))) ≡ x ∷ l
+    go : (t : Bool) → (t || changesAfterM l) ≡ false → (changesAfterM l ≡ false → upToM (l ++ (w ∷ [])) ≡ l)
+        → cond t [] (x ∷ upToM (l ++ (w ∷ []))) ≡ x ∷ l
     go true q rec = true-false q
     go false q rec = rw (rec q)
 
@@ -110,8 +112,14 @@ module _ (l old : List ℕ) (w : ℕ) where
       → slotWith (l ++ (w ∷ [])) old ≡ set (slotWith l old) (length l) w
   slot-stored e h k =
       let long : length (l ++ (w ∷ [])) ≡ suc (length l) = length-append l (w ∷ []) ∙ omega arith in
-      rw (slot-short (l ++ (w ∷ [])) old (not-late e h) (omega arith), slot-short l old e (omega arith), long, drop-cons old (length l) 0 (omega arith))
-      (append-assoc l (w ∷ []) (drop (suc (length l)) old) ∙ sym (set-at l (getD old (length l) 0) (drop (suc (length l)) old) w (length l) refl))
+      rw (
+        slot-short (l ++ (w ∷ [])) old (not-late e h) (omega arith),
+        slot-short l old e (omega arith),
+        long,
+        drop-cons old (length l) 0 (omega arith),
+      )
+      (append-assoc l (w ∷ []) (drop (suc (length l)) old) ∙
+      sym (set-at l (getD old (length l) 0) (drop (suc (length l)) old) w (length l) refl))
 
 -- an empty slot takes no word
 pub no-place : (old : List ℕ) (w : ℕ) → length old ≡ 0 → old ≡ set old 0 w
@@ -197,6 +205,7 @@ module _ (exact old slot rest : List ℕ) (made : Made) (date : ℕ) (at after :
     unfolding entry idle
     advance left = go (idle (made .value) at after) refl
       where
-        go : (t : Bool) → idle (made .value) at after ≡ t → Advanced exact old rest (emittedIn slot made date at after) (emitted made date at after)
+        go : (t : Bool) → idle (made .value) at after ≡ t
+            → Advanced exact old rest (emittedIn slot made date at after) (emitted made date at after)
         go true e = advance-idle e (rw e at left)
         go false e = advance-word e (rw e at left)

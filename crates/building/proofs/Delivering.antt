@@ -39,14 +39,18 @@ module _ (made : Made) (slot out : List ℕ) where
   module _ (h : made .count ≤ 256) where
     pub not-held : length slot < made .count → Delivers made slot out (Refused 5) out
     unfolding madeFault writtenOf outputOf
-    not-held s =
-        (rw (le-ltb 256 (made .count) h, lt-ltb (length slot) (made .count) s), rw (le-ltb 256 (made .count) h, lt-ltb (length slot) (made .count) s))
+    not-held s = (
+      rw (le-ltb 256 (made .count) h, lt-ltb (length slot) (made .count) s),
+      rw (le-ltb 256 (made .count) h, lt-ltb (length slot) (made .count) s),
+    )
 
     module _ (s : made .count ≤ length slot) where
       pub too-late : made .late ≡ true → Delivers made slot out (Refused 6) out
       unfolding madeFault writtenOf outputOf
-      too-late l =
-          (rw (le-ltb 256 (made .count) h, le-ltb (length slot) (made .count) s, l), rw (le-ltb 256 (made .count) h, le-ltb (length slot) (made .count) s, l))
+      too-late l = (
+        rw (le-ltb 256 (made .count) h, le-ltb (length slot) (made .count) s, l),
+        rw (le-ltb 256 (made .count) h, le-ltb (length slot) (made .count) s, l),
+      )
 
       pub no-room : made .late ≡ false → length out < made .count → Delivers made slot out (Refused 7) out
       unfolding madeFault writtenOf outputOf
@@ -55,7 +59,8 @@ module _ (made : Made) (slot out : List ℕ) where
         rw (le-ltb 256 (made .count) h, le-ltb (length slot) (made .count) s, l, lt-ltb (length out) (made .count) o),
       )
 
-      pub whole : made .late ≡ false → made .count ≤ length out → (after : List ℕ) → after ≡ take (made .count) slot ++ drop (made .count) out
+      pub whole : made .late ≡ false → made .count ≤ length out → (after : List ℕ)
+          → after ≡ take (made .count) slot ++ drop (made .count) out
           → Delivers made slot out (Count (made .count)) after
       unfolding madeFault writtenOf outputOf
       whole l o after q =
@@ -104,7 +109,8 @@ module _ (exact old slot : List ℕ) (made : Made) (b : Built exact old slot mad
     unfolding answerFault
     same-words z =
         let p = part-none exact (both-none (partFault exact) (roomFault exact (length out)) z .0) in
-        rw (b .count-is, b .slot-is, slot-short exact old (p .1) (omega (arith, p .0))) (take-at exact (drop (length exact) old) (length exact) refl)
+        rw (b .count-is, b .slot-is, slot-short exact old (p .1) (omega (arith, p .0)))
+        (take-at exact (drop (length exact) old) (length exact) refl)
 
     pub delivered : (r : Written) (after : List ℕ) → Delivers made slot out r after
         → (r ≡ writtenOf (answerFault exact (length out)) exact) × (after ≡ outputOf (answerFault exact (length out)) exact out)

@@ -24,7 +24,8 @@ built-answer : (exact old slot : List ℕ) (made : Made) → Built exact old slo
 unfolding madeAnswer builtAnswer
 built-answer exact old slot made b = rw (b .count-is, b .late-is)
 
-pub slot-built : (fault : ℕ) (exact old slot : List ℕ) (made : Made) (r : SlotAnswer) → fault ≡ 0 → 256 ≤ length old → Built exact old slot made
+pub slot-built : (fault : ℕ) (exact old slot : List ℕ) (made : Made) (r : SlotAnswer) → fault ≡ 0 → 256 ≤ length old
+    → Built exact old slot made
     → r ≡ madeAnswer made → CallInSlot fault exact old r slot
 unfolding slotAnswer slotAfter begins
 slot-built fault exact old slot made r z h b e =

@@ -25,7 +25,9 @@ emitted-value : (made : Made) (date : ℕ) (at after : Bool) → after ≡ (emit
 unfolding emitted idle
 emitted-value made date at after = go (made .value) at after refl
   where
-    go : (v a b : Bool) → made .value ≡ v → b ≡ (cond (Bool·beq a v && Bool·beq b v) made (record { count = oneMore (made .count); value = b; late = lateWith (made .late) date })) .value
+    go : (v a b : Bool) → made .value ≡ v
+        → b ≡ (cond (Bool·beq a v && Bool·beq b v) made
+        (record { count = oneMore (made .count); value = b; late = lateWith (made .late) date })) .value
     go true true true e = sym e
     go true true false e = refl
     go true false b e = refl
@@ -39,7 +41,8 @@ unfolding wordsOf
 words-length F k zero = omega arith
 words-length F k (suc n) = go (Bool·beq (F (gap k + 1)) (F (gap k)) && Bool·beq (F (gap k + 2)) (F (gap k))) (words-length F (suc k) n)
   where
-    go : (t : Bool) → length (wordsOf F (suc k) n) ≤ n → length (cond t (wordsOf F (suc k) n) (word (suc k) (F (gap k + 1)) (F (gap k + 2)) ∷ wordsOf F (suc k) n)) ≤ suc n
+    go : (t : Bool) → length (wordsOf F (suc k) n) ≤ n
+        → length (cond t (wordsOf F (suc k) n) (word (suc k) (F (gap k + 1)) (F (gap k + 2)) ∷ wordsOf F (suc k) n)) ≤ suc n
     go true h = omega arith
     go false h = omega arith
 
@@ -57,7 +60,8 @@ module _ (F : Signal) (n : ℕ) (old : List ℕ) where
       zero-left = omega arith
 
   -- a date at which, or after which, F may change
-  pub scanning-emit : (k d : ℕ) (v a b : Bool) (slot : List ℕ) (made : Made) → Scanning F n k old slot made → Held F k d v a b → d ≤ n → n + 1 < 4294967296
+  pub scanning-emit : (k d : ℕ) (v a b : Bool) (slot : List ℕ) (made : Made) → Scanning F n k old slot made → Held F k d v a b → d ≤ n
+      → n + 1 < 4294967296
       → Scanning F n d old (emittedIn slot made d a b) (emitted made d a b)
   scanning-emit k d v a b slot made s h le small =
       record { building = next .building; left = next .left; value-is = h .after ∙ emitted-value made d a b }
@@ -66,10 +70,12 @@ module _ (F : Signal) (n : ℕ) (old : List ℕ) where
       same = sym (h .still (gap k) (omega arith) (omega (arith, h .later))) ∙ s .value-is
 
       next : Advanced (listOf F n) old (wordsOf F d (n - d)) (emittedIn slot made d a b) (emitted made d a b)
-      next = advance (listOf F n) old slot (wordsOf F d (n - d)) made d a b (s .building) (omega (arith, list-length F n)) (rw same at (s .left ∙ scan-to F n k d v a b h le))
+      next = advance (listOf F n) old slot (wordsOf F d (n - d)) made d a b (s .building) (omega (arith, list-length F n))
+          (rw same at (s .left ∙ scan-to F n k d v a b h le))
 
   -- F changes no more: the answer is whole
-  pub scanning-done : (k : ℕ) (slot : List ℕ) (made : Made) → Scanning F n k old slot made → ((t : ℕ) → gap k ≤ t → F t ≡ F (gap k)) → Built (listOf F n) old slot made
+  pub scanning-done : (k : ℕ) (slot : List ℕ) (made : Made) → Scanning F n k old slot made → ((t : ℕ) → gap k ≤ t → F t ≡ F (gap k))
+      → Built (listOf F n) old slot made
   scanning-done k slot made s still =
       record {
         count-is = whole;
@@ -81,13 +87,15 @@ module _ (F : Signal) (n : ℕ) (old : List ℕ) where
       none = s .left ∙ scan-settled F (n - k) k (F (gap k)) still
 
       whole : made .count ≡ length (listOf F n)
-      whole = let e : length (listOf F n) - made .count ≡ 0 = sym (length-drop (made .count) (listOf F n)) ∙ ap length none in omega (arith, s .building .counted)
+      whole = let e : length (listOf F n) - made .count ≡ 0 =
+          sym (length-drop (made .count) (listOf F n)) ∙ ap length none in omega (arith, s .building .counted)
 
       all : take (made .count) (listOf F n) ≡ listOf F n
       all = take-all (made .count) (listOf F n) (omega (arith, whole))
 
 -- what stood in the first place of the slot does not matter
-pub built-over : (F : Signal) (n : ℕ) (old slot : List ℕ) (made : Made) (x : ℕ) → Built (listOf F n) (set old 0 x) slot made → Built (listOf F n) old slot made
+pub built-over : (F : Signal) (n : ℕ) (old slot : List ℕ) (made : Made) (x : ℕ) → Built (listOf F n) (set old 0 x) slot made
+    → Built (listOf F n) old slot made
 unfolding listOf slotWith fitting upToM dateOf
 built-over F n old slot made x b = record { count-is = b .count-is; late-is = b .late-is; slot-is = b .slot-is ∙ over old (F 0) }
   where

@@ -18,7 +18,8 @@ use Rattle.calls.specs.OnSheet.{signalOn, exactOn}
 use Rattle.calls.specs.Calls.{neededWork, readingFault, workFault, partsFault, workingFault, wordsOn, callFault, claimFault}
 use Rattle.operations.specs.Calls.{roomFault}
 use Rattle.calls.specs.NormalLists.{ListFor}
-use Rattle.calls.specs.Tabled.{Breaks18, Meets5, Meets6, FineBefore, Breaks5, Breaks6, Breaks7, ReadingChecks, WorkingChecks, CallFaultIs, ClaimFaultIs}
+use Rattle.calls.specs.Tabled.{Breaks18, Meets5, Meets6, FineBefore, Breaks5, Breaks6, Breaks7, ReadingChecks, WorkingChecks}
+use Rattle.calls.specs.Tabled.{CallFaultIs, ClaimFaultIs}
 use Rattle.signals.specs.Checks.{FaultCheck, Check, NoFault}
 use Rattle.calls.proofs.FirstFault.{zero-or-not}
 use Rattle.signals.proofs.Checks.{check-by, fault-check}
@@ -34,7 +35,8 @@ At5 sheet t = (i : ℕ) × (i < length (parts t)) × FineBefore sheet t i × Mee
 
 abbrev At6 : List ℕ → Tree → Type 0
 At6 sheet t =
-    (i : ℕ) × (i < length (parts t)) × FineBefore sheet t i × (¬ Meets5 (signalOn sheet (partAt t i))) × Meets6 (signalOn sheet (partAt t i))
+    (i : ℕ) × (i < length (parts t)) × FineBefore sheet t i × (¬ Meets5 (signalOn sheet (partAt t i)))
+    × Meets6 (signalOn sheet (partAt t i))
 
 tree-parts : (sheet : List ℕ) → sheetFault sheet ≡ 0 → (t : Tree)
     → Check 5 (At5 sheet t) (Check 6 (At6 sheet t) NoFault) (partsFault sheet (parts t))

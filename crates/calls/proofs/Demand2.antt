@@ -33,7 +33,8 @@ use Rattle.format.proofs.Named.{among-snoc, named-new}
 use Rattle.format.proofs.Appending.{appends}
 use Rattle.format.proofs.Theorems.{append-keeps-sheet}
 use Rattle.calls.specs.OnSheet.{signalOn, settlingDate, exactOn}
-use Rattle.calls.specs.Calls.{neededWork, workingFault, wordsOn, callFault, callAnswer, callOutput, claimFault, claimFails, claimVerdict, claimAnswer}
+use Rattle.calls.specs.Calls.{neededWork, workingFault, wordsOn, callFault, callAnswer, callOutput, claimFault, claimFails}
+use Rattle.calls.specs.Calls.{claimVerdict, claimAnswer}
 use Rattle.calls.specs.NormalLists.{ListFor, TheList, JudgedAs}
 use Rattle.calls.specs.Engine.{Engine, defined}
 use Rattle.calls.specs.Tabled.{CallFaultIs}
@@ -47,7 +48,8 @@ use Rattle.calls.proofs.ReadingFaults.{derived, text-fine}
 use Rattle.calls.proofs.SheetNumbers.{call-sheet, claim-sheet}
 use Rattle.calls.proofs.CallFaults.{call-fault, claim-fault}
 use Rattle.calls.proofs.NamedFormula.{name-served}
-use Rattle.calls.proofs.NotRefused.{Clear, call-clear, clear-call, claim-clear, fault-shown, no-fault, counted, claim-given, claim-fault-shown}
+use Rattle.calls.proofs.NotRefused.{Clear, call-clear, clear-call, claim-clear, fault-shown, no-fault, counted, claim-given}
+use Rattle.calls.proofs.NotRefused.{claim-fault-shown}
 
 -- a part without 5 or 6: its list is accepted and has no date past M
 pub part-accepted : (s : Signal) (l : List ℕ) → ListFor s l → partFault l ≡ 0 → TheList s l

@@ -31,7 +31,8 @@ use Rattle.calls.specs.Demand2.{Delivered}
 use Rattle.calls.specs.Demand3.{Served, wordsGiven, RefusedAs, Demand3}
 use Rattle.calls.specs.OneEngine.{AgreesWhereAnswered}
 use Rattle.calls.proofs.ReadingFaults.{derived, text-fine}
-use Rattle.calls.proofs.NotRefused.{Clear, answered-clear, clear-answered, clear-short, clear-tight, no-fault, call-refused, enough-served}
+use Rattle.calls.proofs.NotRefused.{Clear, answered-clear, clear-answered, clear-short, clear-tight, no-fault, call-refused}
+use Rattle.calls.proofs.NotRefused.{enough-served}
 use Rattle.calls.proofs.NotRefused.{claim-clear, claim-fault-shown, given-claim, short-claim, not-refused}
 use Rattle.calls.proofs.Demand2.{clear-list, output-kept, delivered, words-given, shown, judged-as, claim-judged}
 
@@ -139,8 +140,10 @@ module _ (E : Engine) (A : AgreesWhereAnswered E) where
         third = λ F G H f g d e w v r sheet a b c.
             let s = one-signal F G f g d e w v r sheet in
             record {
-              asFirst = λ work. A .claim sheet H F c a work ∙ one-answer sheet H F H G c a c b refl s work ∙ sym (A .claim sheet H G c b work);
-              asSecond = λ work. A .claim sheet F H a c work ∙ one-answer sheet F H G H a c b c s refl work ∙ sym (A .claim sheet G H b c work);
+              asFirst =
+                  λ work. A .claim sheet H F c a work ∙ one-answer sheet H F H G c a c b refl s work ∙ sym (A .claim sheet H G c b work);
+              asSecond =
+                  λ work. A .claim sheet F H a c work ∙ one-answer sheet F H G H a c b c s refl work ∙ sym (A .claim sheet G H b c work);
             };
         claims = λ sheet F G f g d e w v a b work z.
             rw (A .claim sheet F G a b work) (claim-judged sheet F G work (sym (claim-shows sheet F G a b work) ∙ z) f g d e w v);

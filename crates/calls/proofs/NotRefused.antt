@@ -17,7 +17,8 @@ use Rattle.signals.specs.declared.Verdict.the-variants as verdict
 use Rattle.grammar.specs.Tree.{Tree}
 use Rattle.grammar.specs.Formula.{formulaTree}
 use Rattle.format.specs.Reading.{sheetFault}
-use Rattle.calls.specs.Calls.{neededWork, readingFault, workFault, workingFault, wordsOn, callFault, callAnswer, claimFault, claimFails, claimVerdict, claimAnswer}
+use Rattle.calls.specs.Calls.{neededWork, readingFault, workFault, workingFault, wordsOn, callFault, callAnswer, claimFault}
+use Rattle.calls.specs.Calls.{claimFails, claimVerdict, claimAnswer}
 use Rattle.operations.specs.Calls.{roomFault}
 use Rattle.calls.specs.Answered.{Answered, Enough}
 use Rattle.calls.specs.NotRefused.{NotRefused}
@@ -61,7 +62,8 @@ pub call-clear : (sheet formula : List ℕ) (work room : ℕ) → callFault shee
 unfolding callFault
 call-clear sheet formula work room e =
     let r = roomFault (wordsOn sheet formula) room in
-    let a = both-none (sheetFault sheet) (firstOf (readingFault sheet formula) (firstOf (workFault sheet work) (firstOf (workingFault sheet formula) r))) e in
+    let a = both-none (sheetFault sheet)
+    (firstOf (readingFault sheet formula) (firstOf (workFault sheet work) (firstOf (workingFault sheet formula) r))) e in
     let b = both-none (readingFault sheet formula) (firstOf (workFault sheet work) (firstOf (workingFault sheet formula) r)) (a .1) in
     let c = both-none (workFault sheet work) (firstOf (workingFault sheet formula) r) (b .1) in
     let d = both-none (workingFault sheet formula) r (c .1) in (
@@ -176,7 +178,8 @@ claim-no-fault sheet f g = answers-say .verdict .fault 0 (claimFails sheet f g)
 -- the fault that a claim's answer shows
 pub claim-fault-shown : (sheet F G : List ℕ) (work : ℕ) → faultOfVerdict (claimAnswer sheet F G work) ≡ claimFault sheet F G work
 unfolding claimAnswer
-claim-fault-shown sheet F G work = answers-say .verdict .fault (claimFault sheet F G work) (claimFails sheet (formulaTree F) (formulaTree G))
+claim-fault-shown sheet F G work =
+    answers-say .verdict .fault (claimFault sheet F G work) (claimFails sheet (formulaTree F) (formulaTree G))
 
 pub answered-claim : (sheet F G : List ℕ) → Answered sheet F → Answered sheet G → (work : ℕ)
     → claimFault sheet F G work ≡ workFault sheet work

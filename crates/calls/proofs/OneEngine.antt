@@ -28,7 +28,8 @@ use Rattle.signals.proofs.Checks.{Single, check-single}
 use Rattle.format.proofs.FaultNumbers.{sheet-of}
 use Rattle.calls.proofs.ReadingFaults.{derived, text-fine}
 use Rattle.calls.proofs.CallFaults.{call-fault, claim-fault}
-use Rattle.calls.proofs.NotRefused.{Clear, call-clear, answered-clear, clear-short, clear-tight, call-refused, enough-served, claim-fault-shown, short-claim}
+use Rattle.calls.proofs.NotRefused.{Clear, call-clear, answered-clear, clear-short, clear-tight, call-refused, enough-served}
+use Rattle.calls.proofs.NotRefused.{claim-fault-shown, short-claim}
 use Rattle.calls.proofs.Demand2.{demand2, clear-list, delivered, output-kept, claim-judged}
 use Rattle.calls.proofs.Demand3.{meets3, demand3, one-verdict}
 
@@ -76,13 +77,15 @@ refused-claim (verdict.Refused f) h = refl
 -- a call of an engine and the defined one
 abbrev Alike : Engine → List ℕ → List ℕ → ℕ → List ℕ → Type 0
 Alike E sheet formula work old =
-    (E .answer sheet formula work old ≡ callAnswer sheet formula work old) × (E .output sheet formula work old ≡ callOutput sheet formula work old)
+    (E .answer sheet formula work old ≡ callAnswer sheet formula work old)
+    × (E .output sheet formula work old ≡ callOutput sheet formula work old)
 
 alike-given : (E : Engine) (sheet formula : List ℕ) (work : ℕ) (old : List ℕ) → callFault sheet formula work (length old) ≡ 0
     → GivesTheList E sheet formula work old → Alike E sheet formula work old
 alike-given E sheet formula work old z g =
     let c = call-clear sheet formula work (length old) z .0 in
-    let q : g .words ≡ wordsOn sheet formula = clear-list sheet formula c (g .tree) (g .depth) (g .writes) .only (g .words) (g .theList .listed) in
+    let q : g .words ≡ wordsOn sheet formula =
+    clear-list sheet formula c (g .tree) (g .depth) (g .writes) .only (g .words) (g .theList .listed) in
     let h = delivered sheet formula work old z in (
       g .delivered .count ∙ ap (λ (l : List ℕ). written.Count (length l)) q ∙ sym (h .count),
       g .delivered .output ∙ ap (λ (l : List ℕ). l ++ drop (length l) old) q ∙ sym (h .output),
@@ -100,7 +103,8 @@ module _ (E : Engine) (D : Demand2 E) where
   same-fault : (sheet formula : List ℕ) (work : ℕ) (old : List ℕ)
       → faultIn (E .answer sheet formula work old) ≡ callFault sheet formula work (length old)
   same-fault sheet formula work old =
-      one-fault .oneOfCall sheet formula work (length old) (faultIn (E .answer sheet formula work old)) (D .callFaults sheet formula work old)
+      one-fault .oneOfCall sheet formula work (length old) (faultIn (E .answer sheet formula work old))
+      (D .callFaults sheet formula work old)
 
   alike : (sheet formula : List ℕ) (work : ℕ) (old : List ℕ) → Alike E sheet formula work old
   alike sheet formula work old = go (zero-or-not (faultIn (E .answer sheet formula work old)))
@@ -116,7 +120,8 @@ module _ (E : Engine) (D : Demand2 E) where
           (record { answer = refused (E .answer sheet formula work old) e; output = D .refusedKeeps sheet formula work old e })
 
   same-claim-fault : (sheet F G : List ℕ) (work : ℕ) → faultOfVerdict (E .claim sheet F G work) ≡ claimFault sheet F G work
-  same-claim-fault sheet F G work = one-fault .oneOfClaim sheet F G work (faultOfVerdict (E .claim sheet F G work)) (D .claimFaults sheet F G work)
+  same-claim-fault sheet F G work =
+      one-fault .oneOfClaim sheet F G work (faultOfVerdict (E .claim sheet F G work)) (D .claimFaults sheet F G work)
 
   same-claim : (sheet F G : List ℕ) (work : ℕ) → E .claim sheet F G work ≡ claimAnswer sheet F G work
   same-claim sheet F G work = go (zero-or-not (faultOfVerdict (E .claim sheet F G work)))

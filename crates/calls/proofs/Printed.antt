@@ -7,7 +7,8 @@ use mathlib.Core.List.{List, [], _∷_}
 use lib.ListN.{length}
 use Rattle.signals.specs.Moment.{isGap, tick, started, fromTo}
 use Rattle.signals.specs.Signal.{every, TON, refuted}
-use Rattle.signals.specs.Words.{word, dateOf, valueAt, valueAfter, headValue, changesNothing, valueFrom, signalOf, lastFrom, lastDate, wordsOf, listOf}
+use Rattle.signals.specs.Words.{word, dateOf, valueAt, valueAfter, headValue, changesNothing, valueFrom, signalOf, lastFrom, lastDate}
+use Rattle.signals.specs.Words.{wordsOf, listOf}
 use Rattle.signals.specs.Implication.{earliest, failsIn, firstFailing}
 use Rattle.signals.specs.declared.Verdict.the-variants.{FailsAt}
 use Rattle.operations.specs.Calls.{changesAfterM, partFault}
@@ -17,7 +18,8 @@ use Rattle.names.specs.Names.{digit, allOf, letter, nameByte, wellNamed}
 use Rattle.texts.specs.Lengths.{isLength, value}
 use Rattle.grammar.specs.Grammar.{Writes, Sum, Product, Factor}
 use Rattle.texts.specs.Lengths as lengths
-use Rattle.grammar.specs.Reader.{run, next, bad, stepped, expect, put, passLength, valueBetween, prefixKind, leafAt, timed, sumAt, sumsAt, productAt, productsAt, factorAt, latchAt, timerAt, readText}
+use Rattle.grammar.specs.Reader.{run, next, bad, stepped, expect, put, passLength, valueBetween, prefixKind, leafAt, timed, sumAt, sumsAt}
+use Rattle.grammar.specs.Reader.{productAt, productsAt, factorAt, latchAt, timerAt, readText}
 use Rattle.grammar.specs.Formula.{timedPart, nameAt, accepted, partsOf, depthOf, longestOf, formulaFault}
 use Rattle.grammar.proofs.Reading.{tree-of}
 use Rattle.grammar.specs.Parts.{parts}
@@ -25,7 +27,8 @@ use Rattle.slices.specs.Bytes.{low16, low32, wordsIn}
 use Rattle.slices.specs.Slices.{before}
 use Rattle.format.specs.Names.{zeros, fieldFits, same, among}
 use Rattle.format.specs.Reading as reading
-use Rattle.format.specs.Reading.{wordCount, signalSize, laterWordsFault, sheetWordsFault, signalFault, signalsFault, frontFault, countOn, sheetFault, signalsFrom, signalsOn, names, listNamed, environmentOn}
+use Rattle.format.specs.Reading.{wordCount, signalSize, laterWordsFault, sheetWordsFault, signalFault, signalsFault, frontFault, countOn}
+use Rattle.format.specs.Reading.{sheetFault, signalsFrom, signalsOn, names, listNamed, environmentOn}
 use Rattle.calls.specs.OnSheet.{settlingDate, exactOn, namesFound}
 use Rattle.calls.specs.Calls.{neededWork, partsFault, wordsOn, claimFails, claimVerdict}
 use Rattle.calls.specs.Engine.{defined}
@@ -44,7 +47,8 @@ g = tree.Tree.unary (tree.Unary.ton 2) f
 
 -- the sheet is accepted and gives a the list [0,23,36]
 sheet-fine : sheetFault printedSheet ≡ 0
-unfolding sheetFault frontFault signalsFault signalFault sheetWordsFault laterWordsFault countOn wordCount signalSize reading.nameAt low16 low32 same among fieldFits wellNamed letter digit allOf nameByte before zeros dateOf valueAt valueAfter headValue changesNothing firstOf
+unfolding sheetFault frontFault signalsFault signalFault sheetWordsFault laterWordsFault countOn wordCount signalSize reading.nameAt low16
+    low32 same among fieldFits wellNamed letter digit allOf nameByte before zeros dateOf valueAt valueAfter headValue changesNothing firstOf
 sheet-fine = refl
 
 list-f : listNamed printedF (signalsOn printedSheet) ≡ 0 ∷ 23 ∷ 36 ∷ []
@@ -72,11 +76,13 @@ unfolding value lengths.valueFrom
 g-writes = Sum.product (Product.factor (Factor.ton (50 ∷ []) length-two f-writes))
 
 f-fine : formulaFault printedF ≡ 0
-unfolding formulaFault accepted longestOf partsOf depthOf readText sumAt sumsAt productAt productsAt factorAt leafAt next stepped put bad expect prefixKind letter digit nameByte run
+unfolding formulaFault accepted longestOf partsOf depthOf readText sumAt sumsAt productAt productsAt factorAt leafAt next stepped put bad
+    expect prefixKind letter digit nameByte run
 f-fine = refl
 
 g-fine : formulaFault printedG ≡ 0
-unfolding formulaFault accepted longestOf partsOf depthOf readText sumAt sumsAt productAt productsAt factorAt latchAt timerAt timed timedPart passLength valueBetween value lengths.valueFrom leafAt next stepped put bad expect prefixKind letter digit nameByte run
+unfolding formulaFault accepted longestOf partsOf depthOf readText sumAt sumsAt productAt productsAt factorAt latchAt timerAt timed
+    timedPart passLength valueBetween value lengths.valueFrom leafAt next stepped put bad expect prefixKind letter digit nameByte run
 g-fine = refl
 
 -- their lists
@@ -85,7 +91,8 @@ unfolding exactOn settlingDate environmentOn listOf wordsOf word signalOf valueF
 exact-f = rw list-f refl
 
 exact-g : exactOn printedSheet g ≡ 0 ∷ 31 ∷ 36 ∷ []
-unfolding exactOn settlingDate environmentOn TON started every fromTo listOf wordsOf word signalOf valueFrom headValue dateOf valueAt valueAfter lastDate lastFrom
+unfolding exactOn settlingDate environmentOn TON started every fromTo listOf wordsOf word signalOf valueFrom headValue dateOf valueAt
+    valueAfter lastDate lastFrom
 exact-g = rw list-f refl
 
 -- no part meets 5 or 6
@@ -124,14 +131,16 @@ given formula words c e l =
     rw (← e) (delivered printedSheet formula 8192 old (clear-call printedSheet formula c 8192 4 enough-work (rw e l)))
 
 claimed : claimVerdict printedSheet f g ≡ FailsAt 5
-unfolding claimFails settlingDate environmentOn firstFailing earliest refuted failsIn isGap tick TON started every fromTo signalOf valueFrom headValue dateOf valueAt valueAfter lastDate lastFrom
+unfolding claimFails settlingDate environmentOn firstFailing earliest refuted failsIn isGap tick TON started every fromTo signalOf valueFrom
+    headValue dateOf valueAt valueAfter lastDate lastFrom
 claimed = rw list-f refl
 
 pub printed : Printed
 printed =
     record {
       fails =
-          given-claim printedSheet printedF printedG (clear-answered printedSheet printedF f-clear) (clear-answered printedSheet printedG g-clear) 8192 enough-work
+          given-claim printedSheet printedF printedG (clear-answered printedSheet printedF f-clear)
+          (clear-answered printedSheet printedG g-clear) 8192 enough-work
           ∙ rw (tree-of printedF f 0 f-writes, tree-of printedG g 1 g-writes) claimed;
       countF = given printedF (0 ∷ 23 ∷ 36 ∷ []) f-clear f-words (omega arith) .count;
       wordsF = given printedF (0 ∷ 23 ∷ 36 ∷ []) f-clear f-words (omega arith) .output;

@@ -61,7 +61,8 @@ abbrev missing : List ℕ → List ℕ → ℕ
 missing sheet formula = cond (namesFound sheet (formulaTree formula)) 0 13
 
 -- 13 and what is checked after it
-names-check : (sheet formula : List ℕ) (later : ℕ → Type 0) (rest : ℕ) → formulaFault formula ≡ 0 → (readingFault sheet formula ≡ 0 → later rest)
+names-check : (sheet formula : List ℕ) (later : ℕ → Type 0) (rest : ℕ) → formulaFault formula ≡ 0
+    → (readingFault sheet formula ≡ 0 → later rest)
     → Check 13 (Breaks13 sheet formula) later (firstOf (missing sheet formula) rest)
 unfolding readingFault
 names-check sheet formula later rest z next = go (namesFound sheet (formulaTree formula)) refl
@@ -71,7 +72,8 @@ names-check sheet formula later rest z next = go (namesFound sheet (formulaTree 
     go true q =
         let found : missing sheet formula ≡ 0 = ap (λ b. cond b 0 13) q in
         inr (
-          λ h. not-both (has sheet (h .0) (ap (namesFound sheet) (sym (tree-of formula (h .0) (h .1) (h .2))) ∙ q) (h .3 .0) (h .3 .1)) (h .3 .2),
+          λ h. not-both (has sheet (h .0) (ap (namesFound sheet) (sym (tree-of formula (h .0) (h .1) (h .2))) ∙ q) (h .3 .0) (h .3 .1))
+              (h .3 .2),
           rw (next-is (missing sheet formula) rest found)
               (next (next-is (formulaFault formula) (missing sheet formula) z ∙ found)),
         )

@@ -14,11 +14,14 @@ use Rattle.calls.specs.Calls.{neededWork, wordsOn, callFault, callAnswer
 use Rattle.operations.specs.Calls.{roomFault}
 use Rattle.calls.specs.Engine.{Engine}
 use Rattle.calls.specs.OneEngine.{AgreesWhereAnswered}
-use Rattle.calls.specs.WrongEngines.{zeroOutput, givesZero, trueClaim, claimsTrue, faultsAs5, leavesOld, operandWords, copyFault, copyOutput, copiesOperand, oneMore, inventsCount, shortClaim, holdsWhenShort, ShutOut, SevenShutOut}
+use Rattle.calls.specs.WrongEngines.{zeroOutput, givesZero, trueClaim, claimsTrue, faultsAs5, leavesOld, operandWords, copyFault}
+use Rattle.calls.specs.WrongEngines.{copyOutput, copiesOperand, oneMore, inventsCount, shortClaim, holdsWhenShort, ShutOut}
+use Rattle.calls.specs.WrongEngines.{SevenShutOut}
 use Rattle.calls.proofs.NotRefused.{work-ok, work-short, answered-claim, given-claim, short-claim, enough-served}
 use Rattle.calls.proofs.Demand2.{delivered}
 use Rattle.calls.proofs.OneEngine.{one-engine, one-engine-where-answered, agreeing-meets}
-use Rattle.calls.proofs.SmallCases.{emptySheet, one, none, notOne, up, down, one-writes, none-writes, notOne-writes, one-answered, none-answered, notOne-answered, one-words, notOne-words, up-words, enough-of, one-to-none}
+use Rattle.calls.proofs.SmallCases.{emptySheet, one, none, notOne, up, down, one-writes, none-writes, notOne-writes, one-answered}
+use Rattle.calls.proofs.SmallCases.{none-answered, notOne-answered, one-words, notOne-words, up-words, enough-of, one-to-none}
 use Rattle.signals.proofs.FirstFault.{next-is}
 
 -- what each demand says of these calls
@@ -108,11 +111,13 @@ unfolding shortClaim
 short-holds = rw (eq-eqb (claimFault emptySheet one none 8191) 18 claim-at-18) refl
 
 not-zero : ¬ Says givesZero
-not-zero h = let a : zeroOutput emptySheet one 8192 (0 ∷ []) ≡ 1 ∷ [] = h .writes in let b = zero-writes in let z : _≡_ {A = ℕ} 0 1 = cc in omega arith
+not-zero h = let a : zeroOutput emptySheet one 8192 (0 ∷ []) ≡ 1 ∷ [] = h .writes in let b = zero-writes in let z : _≡_ {A = ℕ} 0 1 =
+    cc in omega arith
 
 not-true : ¬ Says claimsTrue
 not-true h =
-    let a : trueClaim emptySheet one none 8192 ≡ verdict.FailsAfter 0 = h .fails in let b = true-claims in let z : _≡_ {A = ℕ} 0 1 = cc in omega arith
+    let a : trueClaim emptySheet one none 8192 ≡ verdict.FailsAfter 0 = h .fails in let b = true-claims in let z : _≡_ {A = ℕ} 0 1 =
+    cc in omega arith
 
 not-five : ¬ Says faultsAs5
 not-five h = let a : written.Refused 5 ≡ written.Count 1 = h .counts in let z : _≡_ {A = ℕ} 0 1 = cc in omega arith
@@ -121,7 +126,8 @@ not-old : ¬ Says leavesOld
 not-old h = let a : _≡_ {A = List ℕ} (0 ∷ []) (1 ∷ []) = h .writes in let z : _≡_ {A = ℕ} 0 1 = cc in omega arith
 
 not-copy : ¬ Says copiesOperand
-not-copy h = let a : copyOutput emptySheet notOne 8192 (1 ∷ []) ≡ 0 ∷ [] = h .inverts in let b = copy-writes in let z : _≡_ {A = ℕ} 0 1 = cc in omega arith
+not-copy h = let a : copyOutput emptySheet notOne 8192 (1 ∷ []) ≡ 0 ∷ [] = h .inverts in let b = copy-writes in let z : _≡_ {A = ℕ} 0 1 =
+    cc in omega arith
 
 not-count : ¬ Says inventsCount
 not-count h =
@@ -132,7 +138,8 @@ not-count h =
 
 not-short : ¬ Says holdsWhenShort
 not-short h =
-    let a : shortClaim emptySheet one none 8191 ≡ verdict.Refused 18 = h .short in let b = short-holds in let z : _≡_ {A = ℕ} 0 1 = cc in omega arith
+    let a : shortClaim emptySheet one none 8191 ≡ verdict.Refused 18 = h .short in let b = short-holds in let z : _≡_ {A = ℕ} 0 1 =
+    cc in omega arith
 
 pub seven-shut-out : SevenShutOut
 seven-shut-out =

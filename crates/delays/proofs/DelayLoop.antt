@@ -43,7 +43,8 @@ pub record Delaying (level waits : Bool) (d : ℕ) (l old slot : List ℕ) (pass
   pub date-is : date ≡ upcomingDate l passed s
 
 -- one level of a signal stands still with it; and back
-held-on : (level : Bool) (f : Signal) (k e : ℕ) (v a b : Bool) → Held f k e v a b → Held (levelOf level f) k e (onLevel level v) (onLevel level a) (onLevel level b)
+held-on : (level : Bool) (f : Signal) (k e : ℕ) (v a b : Bool) → Held f k e v a b
+    → Held (levelOf level f) k e (onLevel level v) (onLevel level a) (onLevel level b)
 unfolding levelOf
 held-on level f k e v a b h =
     record {
@@ -53,7 +54,8 @@ held-on level f k e v a b h =
       after = ap (onLevel level) (h .after);
     }
 
-held-out : (level waits : Bool) (d : ℕ) (f : Signal) (k e : ℕ) (v a b : Bool) → Held (delayed waits d (levelOf level f)) k e v a b → Held (delayOf level waits d f) k e (onLevel level v) (onLevel level a) (onLevel level b)
+held-out : (level waits : Bool) (d : ℕ) (f : Signal) (k e : ℕ) (v a b : Bool) → Held (delayed waits d (levelOf level f)) k e v a b
+    → Held (delayOf level waits d f) k e (onLevel level v) (onLevel level a) (onLevel level b)
 unfolding delayOf
 held-out level waits d f k e v a b h =
     record {
@@ -77,7 +79,8 @@ first-value level l h =
 module _ (level waits : Bool) (d : ℕ) (l old : List ℕ) where
   pub delaying-begin : listFault l ≡ 0 → d ≤ M → lastDate l ≤ M
       → (value : Bool) → value ≡ onLevel level (heldValue l 1) → (s : Timer) → s ≡ firstTimer waits d value
-      → (shown : Bool) → shown ≡ onLevel level (s .level) → (slot : List ℕ) → slot ≡ set old 0 (num shown) → (made : Made) → made ≡ begun shown
+      → (shown : Bool) → shown ≡ onLevel level (s .level) → (slot : List ℕ) → slot ≡ set old 0 (num shown) → (made : Made)
+      → made ≡ begun shown
       → (date : ℕ) → date ≡ upcomingDate l 1 s → Delaying level waits d l old slot 1 s made date
   unfolding delayOf
   delaying-begin accepted short early value ve s se shown he slot le made me date de =
@@ -98,128 +101,144 @@ module _ (level waits : Bool) (d : ℕ) (l old : List ℕ) where
           subst
           (λ (x : Timer). Timed (levelOf level (signalOf l)) (delayed waits d (levelOf level (signalOf l))) (lastDate l + d) x 0)
           (sym se)
-          (timed-first waits d (levelOf level (signalOf l)) (lastDate l + d) short (omega arith) value (first-value level l accepted ∙ sym ve))
+          (timed-first waits d (levelOf level (signalOf l)) (lastDate l + d) short (omega arith) value
+          (first-value level l accepted ∙ sym ve))
 
       shows : shown ≡ delayOf level waits d (signalOf l) 0
       shows =
           he
-          ∙ ap (onLevel level) (sym (timed-value (levelOf level (signalOf l)) (delayed waits d (levelOf level (signalOf l))) (lastDate l + d) (delayed-down waits d (levelOf level (signalOf l))) s 0 timed))
+          ∙ ap (onLevel level)
+          (sym (timed-value (levelOf level (signalOf l)) (delayed waits d (levelOf level (signalOf l))) (lastDate l + d)
+          (delayed-down waits d (levelOf level (signalOf l))) s 0 timed))
 
-  module _ (slot : List ℕ) (passed : ℕ) (s : Timer) (made : Made) (date : ℕ) (i : Delaying level waits d l old slot passed s made date) where
-    pub next : Upcoming l passed s (i .k) (lastDate l + d) date
-    next =
-        subst
-        (λ (e : ℕ). Upcoming l passed s (i .k) (lastDate l + d) e)
-        (sym (i .date-is))
-        (upcoming-is
-        (signalOf l)
-        (levelOf level (signalOf l))
-        (delayed waits d (levelOf level (signalOf l)))
-        l
-        passed
-        (i .k)
-        (lastDate l + d)
-        s
-        (i .at)
-        (i .timed)
-        (i .within)
-        (i .early)
-        (omega arith)
-        (omega (arith, i .early, i .short)))
+  module _ (slot : List ℕ) (passed : ℕ) (s : Timer) (made : Made) (date : ℕ) (i : Delaying level waits d l old slot passed s made date)
+    where
+      pub next : Upcoming l passed s (i .k) (lastDate l + d) date
+      next =
+          subst
+          (λ (e : ℕ). Upcoming l passed s (i .k) (lastDate l + d) e)
+          (sym (i .date-is))
+          (upcoming-is
+          (signalOf l)
+          (levelOf level (signalOf l))
+          (delayed waits d (levelOf level (signalOf l)))
+          l
+          passed
+          (i .k)
+          (lastDate l + d)
+          s
+          (i .at)
+          (i .timed)
+          (i .within)
+          (i .early)
+          (omega arith)
+          (omega (arith, i .early, i .short)))
 
-    -- no word is left and nothing is pending: the answer is whole
-    pub delaying-done : NEVER ≤ date → Built (exactOfDelay (delayOf level waits d) d l) old slot made
-    unfolding exactOfDelay delayOf levelOf
-    delaying-done h =
-        scanning-done (delayOf level waits d (signalOf l)) (lastDate l + d) old (i .k) slot made (i .scanning) still
-      where
-        none : (length l ≤ passed) × Down (s .waiting)
-        none = next .none h
+      -- no word is left and nothing is pending: the answer is whole
+      pub delaying-done : NEVER ≤ date → Built (exactOfDelay (delayOf level waits d) d l) old slot made
+      unfolding exactOfDelay delayOf levelOf
+      delaying-done h =
+          scanning-done (delayOf level waits d (signalOf l)) (lastDate l + d) old (i .k) slot made (i .scanning) still
+        where
+          none : (length l ≤ passed) × Down (s .waiting)
+          none = next .none h
 
-        stands : (t : ℕ) → gap (i .k) ≤ t → levelOf level (signalOf l) t ≡ onLevel level (heldValue l passed)
-        stands t le = ap (onLevel level) (at-end (signalOf l) l passed (i .k) (i .at) (none .0) t le)
+          stands : (t : ℕ) → gap (i .k) ≤ t → levelOf level (signalOf l) t ≡ onLevel level (heldValue l passed)
+          stands t le = ap (onLevel level) (at-end (signalOf l) l passed (i .k) (i .at) (none .0) t le)
 
-        timed : (t : ℕ) → gap (i .k) ≤ t → Timed (levelOf level (signalOf l)) (delayed waits d (levelOf level (signalOf l))) (lastDate l + d) s t
-        timed t le =
-            timed-still
-            (levelOf level (signalOf l))
-            (delayed waits d (levelOf level (signalOf l)))
-            (lastDate l + d)
-            s
-            (gap (i .k))
-            t
-            le
-            (λ u a b. stands u a ∙ sym (stands (gap (i .k)) (omega arith)))
-            (λ w. not-both w (none .1))
-            (i .timed)
+          timed : (t : ℕ) → gap (i .k) ≤ t
+              → Timed (levelOf level (signalOf l)) (delayed waits d (levelOf level (signalOf l))) (lastDate l + d) s t
+          timed t le =
+              timed-still
+              (levelOf level (signalOf l))
+              (delayed waits d (levelOf level (signalOf l)))
+              (lastDate l + d)
+              s
+              (gap (i .k))
+              t
+              le
+              (λ u a b. stands u a ∙ sym (stands (gap (i .k)) (omega arith)))
+              (λ w. not-both w (none .1))
+              (i .timed)
 
-        value : (t : ℕ) → gap (i .k) ≤ t → delayed waits d (levelOf level (signalOf l)) t ≡ s .level
-        value t le =
-            timed-value (levelOf level (signalOf l)) (delayed waits d (levelOf level (signalOf l))) (lastDate l + d) (delayed-down waits d (levelOf level (signalOf l))) s t (timed t le)
+          value : (t : ℕ) → gap (i .k) ≤ t → delayed waits d (levelOf level (signalOf l)) t ≡ s .level
+          value t le =
+              timed-value (levelOf level (signalOf l)) (delayed waits d (levelOf level (signalOf l))) (lastDate l + d)
+              (delayed-down waits d (levelOf level (signalOf l))) s t (timed t le)
 
-        still : (t : ℕ) → gap (i .k) ≤ t → delayOf level waits d (signalOf l) t ≡ delayOf level waits d (signalOf l) (gap (i .k))
-        still t le = ap (onLevel level) (value t le ∙ sym (value (gap (i .k)) (omega arith)))
+          still : (t : ℕ) → gap (i .k) ≤ t → delayOf level waits d (signalOf l) t ≡ delayOf level waits d (signalOf l) (gap (i .k))
+          still t le = ap (onLevel level) (value t le ∙ sym (value (gap (i .k)) (omega arith)))
 
-    -- one turn: the date's word is passed, the delay follows, and what it shows is put into the slot
-    pub delaying-turn : date < NEVER → (step : Step) → step ≡ stepPast l passed date
-        → (a : Bool) → a ≡ onLevel level (step .at) → (s1 : Timer) → s1 ≡ timerNext s d date true a
-        → (b : Bool) → b ≡ onLevel level (step .after) → (s2 : Timer) → s2 ≡ timerNext s1 d date false b
-        → (x : Bool) → x ≡ onLevel level (s1 .level) → (y : Bool) → y ≡ onLevel level (s2 .level)
-        → (slot' : List ℕ) → slot' ≡ emittedIn slot made date x y → (made' : Made) → made' ≡ emitted made date x y
-        → (date' : ℕ) → date' ≡ upcomingDate l (step .passed) s2
-        → (j : Delaying level waits d l old slot' (step .passed) s2 made' date') × (j .k ≡ date)
-    delaying-turn h step e0 a e1 s1 e2 b e3 s2 e4 x e5 y e6 slot' e7 made' e8 date' e9 = (
-      record {
-        accepted = i .accepted;
-        short = i .short;
-        early = i .early;
-        k = date;
-        within = next .within h;
-        scanning = rw (e7, e8, e5, e6) (scanning-emit (delayOf level waits d (signalOf l)) (lastDate l + d) old (i .k) date (onLevel level (s .level)) (onLevel level (s1 .level)) (onLevel level (s2 .level)) slot made (i .scanning) out (next .within h) (omega (arith, i .early, i .short)));
-        at = rw e0 (pass .on);
-        timed = timed;
-        date-is = e9;
-      },
-      refl,
-    )
-      where
-        pass : Passed (signalOf l) l passed (i .k) date
-        pass = at-pass (signalOf l) l passed (i .k) date (i .at) (next .later) (next .by-word)
+      -- one turn: the date's word is passed, the delay follows, and what it shows is put into the slot
+      pub delaying-turn : date < NEVER → (step : Step) → step ≡ stepPast l passed date
+          → (a : Bool) → a ≡ onLevel level (step .at) → (s1 : Timer) → s1 ≡ timerNext s d date true a
+          → (b : Bool) → b ≡ onLevel level (step .after) → (s2 : Timer) → s2 ≡ timerNext s1 d date false b
+          → (x : Bool) → x ≡ onLevel level (s1 .level) → (y : Bool) → y ≡ onLevel level (s2 .level)
+          → (slot' : List ℕ) → slot' ≡ emittedIn slot made date x y → (made' : Made) → made' ≡ emitted made date x y
+          → (date' : ℕ) → date' ≡ upcomingDate l (step .passed) s2
+          → (j : Delaying level waits d l old slot' (step .passed) s2 made' date') × (j .k ≡ date)
+      delaying-turn h step e0 a e1 s1 e2 b e3 s2 e4 x e5 y e6 slot' e7 made' e8 date' e9 = (
+        record {
+          accepted = i .accepted;
+          short = i .short;
+          early = i .early;
+          k = date;
+          within = next .within h;
+          scanning =
+              rw (e7, e8, e5, e6)
+              (scanning-emit (delayOf level waits d (signalOf l)) (lastDate l + d) old (i .k) date (onLevel level (s .level))
+              (onLevel level (s1 .level)) (onLevel level (s2 .level)) slot made (i .scanning) out (next .within h)
+              (omega (arith, i .early, i .short)));
+          at = rw e0 (pass .on);
+          timed = timed;
+          date-is = e9;
+        },
+        refl,
+      )
+        where
+          pass : Passed (signalOf l) l passed (i .k) date
+          pass = at-pass (signalOf l) l passed (i .k) date (i .at) (next .later) (next .by-word)
 
-        inward : Held (levelOf level (signalOf l)) (i .k) date (onLevel level (heldValue l passed)) a b
-        inward =
-            rw
-            (e1, e3, e0)
-            (held-on level (signalOf l) (i .k) date (heldValue l passed) (atDate l passed date) (afterDate l passed date) (pass .held))
+          inward : Held (levelOf level (signalOf l)) (i .k) date (onLevel level (heldValue l passed)) a b
+          inward =
+              rw
+              (e1, e3, e0)
+              (held-on level (signalOf l) (i .k) date (heldValue l passed) (atDate l passed date) (afterDate l passed date) (pass .held))
 
-        timed : Timed (levelOf level (signalOf l)) (delayed waits d (levelOf level (signalOf l))) (lastDate l + d) s2 (gap date)
-        timed =
-            rw
-            (e4, e2)
-            (timed-after waits d (levelOf level (signalOf l)) (lastDate l) (lastDate l + d) (i .short) (i .early) (omega arith) (level-settled level l (i .accepted)) s (i .k) date (onLevel level (heldValue l passed)) a b inward (next .by-due) (i .timed))
+          timed : Timed (levelOf level (signalOf l)) (delayed waits d (levelOf level (signalOf l))) (lastDate l + d) s2 (gap date)
+          timed =
+              rw
+              (e4, e2)
+              (timed-after waits d (levelOf level (signalOf l)) (lastDate l) (lastDate l + d) (i .short) (i .early) (omega arith)
+              (level-settled level l (i .accepted)) s (i .k) date (onLevel level (heldValue l passed)) a b inward (next .by-due) (i .timed))
 
-        out : Held (delayOf level waits d (signalOf l)) (i .k) date (onLevel level (s .level)) (onLevel level (s1 .level)) (onLevel level (s2 .level))
-        out =
-            held-out
-            level
-            waits
-            d
-            (signalOf l)
-            (i .k)
-            date
-            (s .level)
-            (s1 .level)
-            (s2 .level)
-            (rw
-            (e4, e2)
-            (delay-held waits d (levelOf level (signalOf l)) (lastDate l) (lastDate l + d) (i .short) (i .early) (omega arith) (level-settled level l (i .accepted)) s (i .k) date (onLevel level (heldValue l passed)) a b inward (next .by-due) (i .timed)))
+          out : Held (delayOf level waits d (signalOf l)) (i .k) date (onLevel level (s .level)) (onLevel level (s1 .level))
+              (onLevel level (s2 .level))
+          out =
+              held-out
+              level
+              waits
+              d
+              (signalOf l)
+              (i .k)
+              date
+              (s .level)
+              (s1 .level)
+              (s2 .level)
+              (rw
+              (e4, e2)
+              (delay-held waits d (levelOf level (signalOf l)) (lastDate l) (lastDate l + d) (i .short) (i .early) (omega arith)
+              (level-settled level l (i .accepted)) s (i .k) date (onLevel level (heldValue l passed)) a b inward (next .by-due)
+              (i .timed)))
 
 -- the slot where the loop begins stands for the old one: it holds the first word already
 pub first-word : (entry slot : List ℕ) (x : ℕ) → slot ≡ set entry 0 x → slot ≡ set slot 0 x
 first-word entry slot x e = e ∙ sym (ap (λ (l : List ℕ). set l 0 x) e ∙ set-set entry 0 x x)
 
 pub delaying-end : (level waits : Bool) (d : ℕ) (l entry start slot : List ℕ) (x passed : ℕ) (s : Timer) (made : Made) (date : ℕ)
-    → start ≡ set entry 0 x → Delaying level waits d l start slot passed s made date → NEVER ≤ date → Built (exactOfDelay (delayOf level waits d) d l) entry slot made
+    → start ≡ set entry 0 x → Delaying level waits d l start slot passed s made date → NEVER ≤ date
+    → Built (exactOfDelay (delayOf level waits d) d l) entry slot made
 unfolding exactOfDelay
 delaying-end level waits d l entry start slot x passed s made date e i h =
-    built-over (delayOf level waits d (signalOf l)) (lastDate l + d) entry slot made x (rw e at (delaying-done level waits d l start slot passed s made date i h))
+    built-over (delayOf level waits d (signalOf l)) (lastDate l + d) entry slot made x
+    (rw e at (delaying-done level waits d l start slot passed s made date i h))

@@ -47,8 +47,10 @@ next-within f [] p k a h = absurd (omega arith)
 next-within f (x ∷ ws) zero k a h = absurd (omega (arith, a .one))
 next-within f (x ∷ ws) (suc j) k a h =
     let left : drop j ws ≡ getD (x ∷ ws) (suc j) 0 ∷ drop (suc j + 1) (x ∷ ws) = words-left (x ∷ ws) (suc j) h in
-    let rises : Rising k (getD (x ∷ ws) (suc j) 0 ∷ drop (suc j + 1) (x ∷ ws)) = subst (λ (r : List ℕ). Rising k r) left (a .ahead .rises) in
-    let e : lastFrom 0 ws ≡ lastFrom k (getD (x ∷ ws) (suc j) 0 ∷ drop (suc j + 1) (x ∷ ws)) = last-drop 0 k j ws (omega arith) ∙ ap (lastFrom k) left in
+    let rises : Rising k (getD (x ∷ ws) (suc j) 0 ∷ drop (suc j + 1) (x ∷ ws)) =
+    subst (λ (r : List ℕ). Rising k r) left (a .ahead .rises) in
+    let e : lastFrom 0 ws ≡ lastFrom k (getD (x ∷ ws) (suc j) 0 ∷ drop (suc j + 1) (x ∷ ws)) =
+    last-drop 0 k j ws (omega arith) ∙ ap (lastFrom k) left in
     omega (arith, e, last-le (dateOf (getD (x ∷ ws) (suc j) 0)) (drop (suc j + 1) (x ∷ ws)) (rises .1))
 
 next-in : (l : List ℕ) (p : ℕ) → p < length l → nextDate l p ≡ dateOf (getD l p 0)
@@ -73,7 +75,8 @@ record NextWord (l : List ℕ) (p k n e : ℕ) : Type 0 where
   within : e < NEVER → e ≤ n
   none : NEVER ≤ e → length l ≤ p
 
-next-word : (f : Signal) (l : List ℕ) (p k n : ℕ) → At f l p k → k ≤ n → lastDate l ≤ M → lastDate l ≤ n → n < NEVER → NextWord l p k n (nextDate l p)
+next-word : (f : Signal) (l : List ℕ) (p k n : ℕ) → At f l p k → k ≤ n → lastDate l ≤ M → lastDate l ≤ n → n < NEVER
+    → NextWord l p k n (nextDate l p)
 next-word f l p k n a le early far small = go (ltb p (length l)) refl
   where
     go : (b : Bool) → ltb p (length l) ≡ b → NextWord l p k n (nextDate l p)
@@ -92,7 +95,8 @@ next-word f l p k n a le early far small = go (ltb p (length l)) refl
         let e = next-end l p h in
         record { later = omega arith; by-word = λ i. absurd (omega arith); within = λ i. absurd (omega arith); none = λ i. h }
 
-module _ (f g E : Signal) (l : List ℕ) (p k n : ℕ) (s : Timer) (a : At f l p k) (h : Timed g E n s (gap k)) (le : k ≤ n) (early : lastDate l ≤ M) (far : lastDate l ≤ n) (small : n < NEVER) where
+module _ (f g E : Signal) (l : List ℕ) (p k n : ℕ) (s : Timer) (a : At f l p k) (h : Timed g E n s (gap k)) (le : k ≤ n)
+    (early : lastDate l ≤ M) (far : lastDate l ≤ n) (small : n < NEVER) where
   due-later : Up (s .waiting) → k < s .due .0
   due-later w = go (s .at) (timed-ahead g E n s (gap k) h w .0)
     where

@@ -36,7 +36,8 @@ fn upcoming(words: &[u32], passed: usize, timer: Timer) -> Date
 // The delay of one level of an accepted list, built in a slot.
 fn run(level: bool, waits: bool, d: Length, words: &[u32], slot: &mut [u32]) -> Made
     requires { ⌜ (listFault (now words) ≡ 0) × (d .0 ≤ M) ⌝ }
-    ensures { λ r. ⌜ Built (exactOfDelay (delayOf level waits (d .0)) (d .0) (now (words .entry))) (now (slot .entry)) (now (slot .exit)) r ⌝ }
+    ensures { λ r.
+        ⌜ Built (exactOfDelay (delayOf level waits (d .0)) (d .0) (now (words .entry))) (now (slot .entry)) (now (slot .exit)) r ⌝ }
 {
     let mut passed: usize = 1;
     let mut timer = timing::first(

@@ -7,7 +7,8 @@ use mathlib.Core.List.{List}
 use lib.Dec.{eqb}
 use lib.ListN.{length}
 use borrow.Author.Tests.{lt-ltb, le-ltb}
-use Rattle.grammar.specs.Reader.{State, next, stepped, expect, passLength, valueBetween, prefixKind, timed, sumAt, factorAt, latchAt, timerAt}
+use Rattle.grammar.specs.Reader.{State, next, stepped, expect, passLength, valueBetween, prefixKind, timed, sumAt, factorAt, latchAt}
+use Rattle.grammar.specs.Reader.{timerAt}
 use Rattle.grammar.specs.Formula.{coded, timerWord}
 use Rattle.texts.specs.Lengths.{capped}
 use Rattle.marks.specs.Marks.{Mark, nextMark}

@@ -37,7 +37,8 @@ module _ (w : List ℕ) where
 
   long-true : long ≡ true → Breaks10 w
   long-true e =
-      ⊎-elim (λ h. inl (eqb-true (length w) 0 h)) (λ h. inr (ltb-true 1024 (length w) h)) (or-cases (eqb (length w) 0) (ltb 1024 (length w)) e)
+      ⊎-elim (λ h. inl (eqb-true (length w) 0 h)) (λ h. inr (ltb-true 1024 (length w) h))
+      (or-cases (eqb (length w) 0) (ltb 1024 (length w)) e)
 
   long-false : long ≡ false → ¬ Breaks10 w
   long-false e =

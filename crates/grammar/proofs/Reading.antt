@@ -83,7 +83,8 @@ unfolding longest
 longest-in m (leaf l) h = absurd (omega arith)
 longest-in m (unary o t) h = go o (ltb m (longest t)) refl (longest-in m t) h
   where
-    go : (o : Unary) (z : Bool) → ltb m (longest t) ≡ z → (m < longest t → (n : ℕ) × LengthIn n t × (m < n)) → m < max (longest t) (ticksOf o) → (n : ℕ) × LengthIn n (unary o t) × (m < n)
+    go : (o : Unary) (z : Bool) → ltb m (longest t) ≡ z → (m < longest t → (n : ℕ) × LengthIn n t × (m < n))
+        → m < max (longest t) (ticksOf o) → (n : ℕ) × LengthIn n (unary o t) × (m < n)
     go o true z ih h = let r = ih (ltb-true m (longest t) z) in (r .0, under (r .1), r .2)
     go (ton n) false z ih h = let k = ltb-false m (longest t) z in (n, of-ton, omega arith)
     go (tof n) false z ih h = let k = ltb-false m (longest t) z in (n, of-tof, omega arith)
@@ -92,7 +93,8 @@ longest-in m (unary o t) h = go o (ltb m (longest t)) refl (longest-in m t) h
     go fall false z ih h = let k = ltb-false m (longest t) z in absurd (omega arith)
 longest-in m (binary o t u) h = go (ltb m (longest t)) refl (longest-in m t) (longest-in m u)
   where
-    go : (z : Bool) → ltb m (longest t) ≡ z → (m < longest t → (n : ℕ) × LengthIn n t × (m < n)) → (m < longest u → (n : ℕ) × LengthIn n u × (m < n)) → (n : ℕ) × LengthIn n (binary o t u) × (m < n)
+    go : (z : Bool) → ltb m (longest t) ≡ z → (m < longest t → (n : ℕ) × LengthIn n t × (m < n))
+        → (m < longest u → (n : ℕ) × LengthIn n u × (m < n)) → (n : ℕ) × LengthIn n (binary o t u) × (m < n)
     go true z f g = let r = f (ltb-true m (longest t) z) in (r .0, first (r .1), r .2)
     go false z f g = let k = ltb-false m (longest t) z in let r = g (omega arith) in (r .0, second (r .1), r .2)
 

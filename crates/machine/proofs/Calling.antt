@@ -25,7 +25,8 @@ use Rattle.grammar.specs.Parts.{parts}
 use Rattle.signals.proofs.AnyDate.{one-verdict}
 use Rattle.format.specs.Reading.{sheetFault}
 use Rattle.calls.specs.OnSheet.{exactOn, signalOn, settlingDate}
-use Rattle.calls.specs.Calls.{readingFault, workFault, neededWork, partsFault, workingFault, wordsOn, callFault, callAnswer, callOutput, claimFault, claimVerdict, claimAnswer}
+use Rattle.calls.specs.Calls.{readingFault, workFault, neededWork, partsFault, workingFault, wordsOn, callFault, callAnswer, callOutput}
+use Rattle.calls.specs.Calls.{claimFault, claimVerdict, claimAnswer}
 use Rattle.operations.specs.Calls.{roomFault}
 use Rattle.calls.proofs.Settles.{settles}
 use Rattle.calls.proofs.NotRefused.{work-ok, work-short}

@@ -22,7 +22,8 @@ use Rattle.calls.specs.OnSheet.{exactOn}
 use Rattle.calls.specs.Calls.{partsFault}
 use Rattle.operations.specs.Calls.{partFault}
 use Rattle.machine.specs.declared.Next.{Next}
-use Rattle.machine.specs.Machine.{InSlot, Stacked, Enough, Known, AllKnown, Stepped, Steps, Ready, worked, trace, partsIn, Plan, WorkedOut}
+use Rattle.machine.specs.Machine.{InSlot, Stacked, Enough, Known, AllKnown, Stepped, Steps, Ready, worked, trace, partsIn, Plan}
+use Rattle.machine.specs.Machine.{WorkedOut}
 use Rattle.machine.proofs.Tracing.{trace-code, work-all, work-step, low-enough, grows-by-one}
 use Rattle.signals.specs.Answers.{firstOf}
 use Rattle.signals.proofs.FirstFault.{first-is, next-is}

@@ -17,7 +17,8 @@ use Rattle.operations.specs.Calls.{exactOfOne, exactOfTwo, exactOfDelay}
 use Rattle.building.specs.Slots.{builtAnswer}
 use Rattle.building.specs.declared.SlotAnswer.{SlotAnswer}
 use Rattle.building.specs.declared.SlotAnswer.the-variants.{Stands, TooLong, TooLate, NotBegun}
-use Rattle.grammar.specs.Tree.{Tree, Leaf, Unary, Binary, leaf, unary, binary, down, up, name, invert, rise, fall, ton, tof, and, or, sr, rs}
+use Rattle.grammar.specs.Tree.{Tree, Leaf, Unary, Binary, leaf, unary, binary, down, up, name, invert, rise, fall, ton, tof, and, or, sr}
+use Rattle.grammar.specs.Tree.{rs}
 use Rattle.grammar.specs.Code.{Part, operand, one, two, ticksOf, top, code}
 use Rattle.grammar.specs.Formula.{nameAt, partOf, codeOf, formulaTree}
 use Rattle.names.specs.Names.{wellNamed}

@@ -104,7 +104,9 @@ module _ (o : Operation) (table : Table) (a b : List ℕ) (n : ℕ) (old : List 
     pub below : k ≤ n
 
   pub merge-begin : Accepted a → Accepted b
-      → Merging 0 (set old 0 (num ((firstShown o table (heldValue a 1) (heldValue b 1)) .after))) (begun ((firstShown o table (heldValue a 1) (heldValue b 1)) .after)) ((firstShown o table (heldValue a 1) (heldValue b 1)) .carried) 1 1
+      → Merging 0 (set old 0 (num ((firstShown o table (heldValue a 1) (heldValue b 1)) .after)))
+      (begun ((firstShown o table (heldValue a 1) (heldValue b 1)) .after)) ((firstShown o table (heldValue a 1) (heldValue b 1)) .carried)
+      1 1
   merge-begin ha hb =
       record {
         scan = scanning-begin (merged o table (signalOf a) (signalOf b)) n old _ (shows .0);
@@ -126,10 +128,12 @@ module _ (o : Operation) (table : Table) (a b : List ℕ) (n : ℕ) (old : List 
       vb : signalOf b 0 ≡ heldValue b 1
       vb = sb .ahead .says 0 (omega arith) ∙ value-held (heldValue b 1) 0 _ 0 (sb .ahead .rises) (omega arith)
 
-      shows : ((firstShown o table (heldValue a 1) (heldValue b 1)) .after ≡ merged o table (signalOf a) (signalOf b) 0) × ((firstShown o table (heldValue a 1) (heldValue b 1)) .carried ≡ bitOf o (signalOf a) (signalOf b) 0)
+      shows : ((firstShown o table (heldValue a 1) (heldValue b 1)) .after ≡ merged o table (signalOf a) (signalOf b) 0)
+          × ((firstShown o table (heldValue a 1) (heldValue b 1)) .carried ≡ bitOf o (signalOf a) (signalOf b) 0)
       shows = first o table (signalOf a) (signalOf b) (heldValue a 1) (heldValue b 1) va vb
 
-  module _ (da : Dates a n) (db : Dates b n) (small : n < NEVER) (i j k : ℕ) (slot : List ℕ) (made : Made) (bit : Bool) (m : Merging k slot made bit i j) (more : i + j < length a + length b) where
+  module _ (da : Dates a n) (db : Dates b n) (small : n < NEVER) (i j k : ℕ) (slot : List ℕ) (made : Made) (bit : Bool)
+      (m : Merging k slot made bit i j) (more : i + j < length a + length b) where
     pub nextOfBoth : ℕ
     nextOfBoth = min (nextDate a i) (nextDate b j)
 
@@ -155,12 +159,17 @@ module _ (o : Operation) (table : Table) (a b : List ℕ) (n : ℕ) (old : List 
     unfolding nextOfBoth
     turn-right = at-pass (signalOf b) b j k nextOfBoth (m .right) above (not-after b j nextOfBoth (omega arith))
 
-    turned-here : Turned o table (signalOf a) (signalOf b) k nextOfBoth (heldBy o table (signalOf a) (signalOf b) k (heldValue a i) (heldValue b j))
-        ((dateShown o table bit (heldValue a i) (atDate a i nextOfBoth) (afterDate a i nextOfBoth) (atDate b j nextOfBoth) (afterDate b j nextOfBoth)) .at)
-        ((dateShown o table bit (heldValue a i) (atDate a i nextOfBoth) (afterDate a i nextOfBoth) (atDate b j nextOfBoth) (afterDate b j nextOfBoth)) .after)
-        ((dateShown o table bit (heldValue a i) (atDate a i nextOfBoth) (afterDate a i nextOfBoth) (atDate b j nextOfBoth) (afterDate b j nextOfBoth)) .carried)
+    turned-here : Turned o table (signalOf a) (signalOf b) k nextOfBoth
+        (heldBy o table (signalOf a) (signalOf b) k (heldValue a i) (heldValue b j))
+        ((dateShown o table bit (heldValue a i) (atDate a i nextOfBoth) (afterDate a i nextOfBoth) (atDate b j nextOfBoth)
+        (afterDate b j nextOfBoth)) .at)
+        ((dateShown o table bit (heldValue a i) (atDate a i nextOfBoth) (afterDate a i nextOfBoth) (atDate b j nextOfBoth)
+        (afterDate b j nextOfBoth)) .after)
+        ((dateShown o table bit (heldValue a i) (atDate a i nextOfBoth) (afterDate a i nextOfBoth) (atDate b j nextOfBoth)
+        (afterDate b j nextOfBoth)) .carried)
     turned-here =
-        turned o table (signalOf a) (signalOf b) k nextOfBoth (heldValue a i) (atDate a i nextOfBoth) (afterDate a i nextOfBoth) (heldValue b j) (atDate b j nextOfBoth) (afterDate b j nextOfBoth) bit (m .bit-is) (turn-left .held) (turn-right .held)
+        turned o table (signalOf a) (signalOf b) k nextOfBoth (heldValue a i) (atDate a i nextOfBoth) (afterDate a i nextOfBoth)
+        (heldValue b j) (atDate b j nextOfBoth) (afterDate b j nextOfBoth) bit (m .bit-is) (turn-left .held) (turn-right .held)
 
     pub progress : i + j < passedDate a i nextOfBoth + passedDate b j nextOfBoth
     unfolding nextOfBoth
@@ -179,7 +188,8 @@ module _ (o : Operation) (table : Table) (a b : List ℕ) (n : ℕ) (old : List 
         kb : j ≤ passedDate b j nextOfBoth
         kb = passed-keeps b j nextOfBoth
 
-        go : (min (nextDate a i) (nextDate b j) ≡ nextDate a i) ⊎ (min (nextDate a i) (nextDate b j) ≡ nextDate b j) → i + j < passedDate a i nextOfBoth + passedDate b j nextOfBoth
+        go : (min (nextDate a i) (nextDate b j) ≡ nextDate a i) ⊎ (min (nextDate a i) (nextDate b j) ≡ nextDate b j)
+            → i + j < passedDate a i nextOfBoth + passedDate b j nextOfBoth
         go (inl e) = let x = passed-next a i nextOfBoth e (omega (arith, within)) in omega (arith, kb)
         go (inr e) = let x = passed-next b j nextOfBoth e (omega (arith, within)) in omega (arith, ka)
 
@@ -192,7 +202,8 @@ module _ (o : Operation) (table : Table) (a b : List ℕ) (n : ℕ) (old : List 
     merge-turn d e at after next ea ef en =
         rw (ea, ef, en, e)
         (record {
-          scan = scanning-emit (merged o table (signalOf a) (signalOf b)) n old k nextOfBoth _ _ _ slot made (m .scan) (turned-here .held) within (omega arith);
+          scan = scanning-emit (merged o table (signalOf a) (signalOf b)) n old k nextOfBoth _ _ _ slot made (m .scan) (turned-here .held)
+              within (omega arith);
           left = turn-left .on;
           right = turn-right .on;
           bit-is = turned-here .bit;
@@ -218,13 +229,15 @@ merge-start o table a b n entry slot p q shown made ha hb ep eq es em el =
     v : ℕ
     v = num ((firstShown o table (heldValue a 1) (heldValue b 1)) .after)
 
-pub merge-end : (o : Operation) (table : Table) (a b entry start slot : List ℕ) (x : ℕ) (made : Made) (bit : Bool) (i j k : ℕ) → start ≡ set entry 0 x
+pub merge-end : (o : Operation) (table : Table) (a b entry start slot : List ℕ) (x : ℕ) (made : Made) (bit : Bool) (i j k : ℕ)
+    → start ≡ set entry 0 x
     → Merging o table a b (max (lastDate a) (lastDate b)) start k slot made bit i j → length a + length b ≤ i + j
     → Built (exactOfTwo (merged o table) a b) entry slot made
 unfolding exactOfTwo
 merge-end o table a b entry start slot x made bit i j k e m done =
     let n = max (lastDate a) (lastDate b) in
-    built-over (merged o table (signalOf a) (signalOf b)) n entry slot made x (rw e at (merge-done o table a b n start k slot made bit i j m done))
+    built-over (merged o table (signalOf a) (signalOf b)) n entry slot made x
+    (rw e at (merge-done o table a b n start k slot made bit i j m done))
 
 -- what the loop knows of its two lists throughout
 pub record Operands (a b : List ℕ) : Type 0 where
@@ -237,25 +250,30 @@ pub short : (l : List ℕ) → Accepted l → length l ≤ 256
 short l h = accepted-normal l .0 h .1
 
 module _ (o : Operation) (table : Table) (a b old : List ℕ) (k : ℕ) (slot : List ℕ) (made : Made) (bit : Bool) (i j : ℕ)
-    (x : Operands a b) (m : Merging o table a b (max (lastDate a) (lastDate b)) old k slot made bit i j) (more : i + j < length a + length b) where
+    (x : Operands a b) (m : Merging o table a b (max (lastDate a) (lastDate b)) old k slot made bit i j)
+    (more : i + j < length a + length b) where
   da : Dates a (max (lastDate a) (lastDate b))
   da = dates-more a (lastDate a) (max (lastDate a) (lastDate b)) (accepted-dates a (x .first)) (omega arith)
 
   db : Dates b (max (lastDate a) (lastDate b))
   db = dates-more b (lastDate b) (max (lastDate a) (lastDate b)) (accepted-dates b (x .second)) (omega arith)
 
-  pub loop-turn : (na nb d : ℕ) (p q : Step) (s : Shown) → na ≡ nextDate a i → nb ≡ nextDate b j → d ≡ min na nb → p ≡ stepPast a i d → q ≡ stepPast b j d
+  pub loop-turn : (na nb d : ℕ) (p q : Step) (s : Shown) → na ≡ nextDate a i → nb ≡ nextDate b j → d ≡ min na nb → p ≡ stepPast a i d
+      → q ≡ stepPast b j d
       → s ≡ dateShown o table bit (p .before) (p .at) (p .after) (q .at) (q .after)
       → (slot′ : List ℕ) (made′ : Made) → made′ ≡ emitted made d (s .at) (s .after) → slot′ ≡ emittedIn slot made d (s .at) (s .after)
       → Merging o table a b (max (lastDate a) (lastDate b)) old d slot′ made′ (s .carried) (p .passed) (q .passed)
   unfolding nextOfBoth
   loop-turn na nb d p q s ea eb ed ep eq es slot′ made′ em el =
       rw (em, el, es, ep, eq)
-      (merge-turn o table a b (max (lastDate a) (lastDate b)) old da db (omega (arith, x .first-small, x .second-small)) i j k slot made bit m more d (ed ∙ rw (ea, eb)) _ _ _ refl refl refl)
+      (merge-turn o table a b (max (lastDate a) (lastDate b)) old da db (omega (arith, x .first-small, x .second-small)) i j k slot made bit
+      m more d (ed ∙ rw (ea, eb)) _ _ _ refl refl refl)
 
-  pub loop-falls : (na nb d : ℕ) (p q : Step) → na ≡ nextDate a i → nb ≡ nextDate b j → d ≡ min na nb → p ≡ stepPast a i d → q ≡ stepPast b j d
+  pub loop-falls : (na nb d : ℕ) (p q : Step) → na ≡ nextDate a i → nb ≡ nextDate b j → d ≡ min na nb → p ≡ stepPast a i d
+      → q ≡ stepPast b j d
       → i + j < p .passed + q .passed
   unfolding nextOfBoth
   loop-falls na nb d p q ea eb ed ep eq =
       rw (ep, eq, ed, ea, eb)
-      (progress o table a b (max (lastDate a) (lastDate b)) old da db (omega (arith, x .first-small, x .second-small)) i j k slot made bit m more)
+      (progress o table a b (max (lastDate a) (lastDate b)) old da db (omega (arith, x .first-small, x .second-small)) i j k slot made bit m
+      more)

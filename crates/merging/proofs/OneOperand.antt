@@ -43,10 +43,13 @@ module _ (one : Signal → Signal) (two : Signal → Signal → Signal) (same : 
   unfolding faultOfTwo faultOfOne
   fault-of-one n = rw (pair-of-one a, exact-of-one)
 
-  pub call-of-one : (out : List ℕ) (answer : Written) (after : List ℕ) → CallOfTwo two a none out answer after → CallOfOne one a out answer after
+  pub call-of-one : (out : List ℕ) (answer : Written) (after : List ℕ) → CallOfTwo two a none out answer after
+      → CallOfOne one a out answer after
   call-of-one out answer after h = rw (exact-of-one, fault-of-one (length out)) at h
 
-  pub slot-of-one : (slot : List ℕ) (answer : SlotAnswer) (after : List ℕ) → CallInSlot (pairFault a none) (exactOfTwo two a none) slot answer after → CallInSlot (listFault a) (exactOfOne one a) slot answer after
+  pub slot-of-one : (slot : List ℕ) (answer : SlotAnswer) (after : List ℕ)
+      → CallInSlot (pairFault a none) (exactOfTwo two a none) slot answer after
+      → CallInSlot (listFault a) (exactOfOne one a) slot answer after
   slot-of-one slot answer after h = rw (exact-of-one, pair-of-one a) at h
 
 pub inverted : (f g : Signal) (t : ℕ) → connective ((true ∷ true ∷ []) ∷ (false ∷ false ∷ []) ∷ []) f g t ≡ NOT f t

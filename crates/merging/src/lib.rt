@@ -21,7 +21,8 @@ fn merge(
     slot: &mut [u32],
 ) -> Made
     requires { ⌜ (listFault (now a) ≡ 0) × (listFault (now b) ≡ 0) ⌝ }
-    ensures { λ r. ⌜ Built (exactOfTwo (merged operation table) (now (a .entry)) (now (b .entry))) (now (slot .entry)) (now (slot .exit)) r ⌝ }
+    ensures { λ r.
+        ⌜ Built (exactOfTwo (merged operation table) (now (a .entry)) (now (b .entry))) (now (slot .entry)) (now (slot .exit)) r ⌝ }
 {
     let first = showing::first_shown(
         operation,

@@ -70,7 +70,8 @@ length-check d later rest h = go (ltb M d) refl
     go true e = inl (ltb-true M d e, rw e)
     go false e = inr ((λ b. omega (arith, ltb-false M d e)), rw e h)
 
-of-one : (operation : Signal → Signal) (a : List ℕ) (n : ℕ) → FaultCheck (listFault a) (AnswerChecks (exactOfOne operation a) n) (faultOfOne operation a n)
+of-one : (operation : Signal → Signal) (a : List ℕ) (n : ℕ)
+    → FaultCheck (listFault a) (AnswerChecks (exactOfOne operation a) n) (faultOfOne operation a n)
 unfolding faultOfOne
 of-one operation a n =
     fault-check (listFault a) (answerFault (exactOfOne operation a) n) (AnswerChecks (exactOfOne operation a) n)
@@ -147,30 +148,36 @@ one-passed operation a n e =
 pub two-passed : (operation : Signal → Signal → Signal) (a b : List ℕ) (n : ℕ) → faultOfTwo operation a b n ≡ 0
     → (Accepted a × Accepted b) × Passed (exactOfTwo operation a b) n
 two-passed operation a b n e =
-    let h = list-passed a (FaultCheck (listFault b) (AnswerChecks (exactOfTwo operation a b) n)) 0 (inl refl) (call-faults-exact .two operation a b n 0 .0 e) in
+    let h = list-passed a (FaultCheck (listFault b) (AnswerChecks (exactOfTwo operation a b) n)) 0 (inl refl)
+    (call-faults-exact .two operation a b n 0 .0 e) in
     let k = list-passed b (AnswerChecks (exactOfTwo operation a b) n) 0 (inl refl) (h .1) in
     ((h .0, k .0), answer-passed (exactOfTwo operation a b) n (k .1))
 
 pub delay-passed : (operation : Signal → Signal) (d : ℕ) (a : List ℕ) (n : ℕ) → faultOfDelay operation d a n ≡ 0
     → (Accepted a × (¬ Breaks8 d)) × Passed (exactOfDelay operation d a) n
-delay-passed operation d a n e = go (list-passed a (Check 8 (Breaks8 d) (AnswerChecks (exactOfDelay operation d a) n)) 0 (inl refl) (call-faults-exact .delay operation d a n 0 .0 e))
+delay-passed operation d a n e =
+    go (list-passed a (Check 8 (Breaks8 d) (AnswerChecks (exactOfDelay operation d a) n)) 0 (inl refl)
+    (call-faults-exact .delay operation d a n 0 .0 e))
   where
     go : Accepted a × Check 8 (Breaks8 d) (AnswerChecks (exactOfDelay operation d a) n) 0
         → (Accepted a × (¬ Breaks8 d)) × Passed (exactOfDelay operation d a) n
     go (s, inl b) = absurd (omega (arith, b .1))
     go (s, inr (b, h)) = ((s, b), answer-passed (exactOfDelay operation d a) n h)
 
-pub one-5 : (operation : Signal → Signal) (a : List ℕ) (n : ℕ) → faultOfOne operation a n ≡ 5 → Accepted a × Breaks5 (exactOfOne operation a)
+pub one-5 : (operation : Signal → Signal) (a : List ℕ) (n : ℕ) → faultOfOne operation a n ≡ 5 → Accepted a
+    × Breaks5 (exactOfOne operation a)
 one-5 operation a n e =
     let h = list-passed a (AnswerChecks (exactOfOne operation a) n) 5 (inr (omega arith)) (call-faults-exact .one operation a n 5 .0 e) in
     (h .0, answer-5 (exactOfOne operation a) n (h .1))
 
 pub one-6 : (operation : Signal → Signal) (a : List ℕ) (n : ℕ) → faultOfOne operation a n ≡ 6 → Breaks6 (exactOfOne operation a)
 one-6 operation a n e =
-    answer-6 (exactOfOne operation a) n (list-passed a (AnswerChecks (exactOfOne operation a) n) 6 (inr (omega arith)) (call-faults-exact .one operation a n 6 .0 e) .1)
+    answer-6 (exactOfOne operation a) n
+    (list-passed a (AnswerChecks (exactOfOne operation a) n) 6 (inr (omega arith)) (call-faults-exact .one operation a n 6 .0 e) .1)
 
 pub two-6 : (operation : Signal → Signal → Signal) (a b : List ℕ) (n : ℕ) → faultOfTwo operation a b n ≡ 6
     → Breaks6 (exactOfTwo operation a b)
 two-6 operation a b n e =
-    let h = list-passed a (FaultCheck (listFault b) (AnswerChecks (exactOfTwo operation a b) n)) 6 (inr (omega arith)) (call-faults-exact .two operation a b n 6 .0 e) in
+    let h = list-passed a (FaultCheck (listFault b) (AnswerChecks (exactOfTwo operation a b) n)) 6 (inr (omega arith))
+    (call-faults-exact .two operation a b n 6 .0 e) in
     answer-6 (exactOfTwo operation a b) n (list-passed b (AnswerChecks (exactOfTwo operation a b) n) 6 (inr (omega arith)) (h .1) .1)

@@ -51,7 +51,8 @@ of-change s k c =
     (Bool·beq (s (gap k + 1)) (s (gap k)) && Bool·beq (s (gap k + 2)) (s (gap k)))
     (λ u. not-same d (same-values (s (gap k + 1)) (s (gap k + 2)) (s (gap k)) u))
   where
-    not-same : (¬ (s (gap k + 1) ≡ s (gap k))) ⊎ (¬ (s (gap k + 2) ≡ s (gap k))) → (s (gap k + 1) ≡ s (gap k)) × (s (gap k + 2) ≡ s (gap k)) → ⊥
+    not-same : (¬ (s (gap k + 1) ≡ s (gap k))) ⊎ (¬ (s (gap k + 2) ≡ s (gap k))) → (s (gap k + 1) ≡ s (gap k)) × (s (gap k + 2) ≡ s (gap k))
+        → ⊥
     not-same (inl n) p = n (p .0)
     not-same (inr n) p = n (p .1)
 

@@ -73,7 +73,9 @@ never-longer operation fol (w ∷ ws) h =
     let n = accepted-normal (w ∷ ws) .0 h .0 in
     let e : lastFrom 0 ws - 0 ≡ lastFrom 0 ws = omega arith in
     let f : Signal = signalOf (w ∷ ws) in
-    let s = rw e at (follows-length f (operation f) (fol f) (lastFrom 0 ws) 0 (headValue w) ws (start w ws (words-rise 0 (headValue w) ws (n .1))) (omega arith)) in
+    let s = rw e at
+    (follows-length f (operation f) (fol f) (lastFrom 0 ws) 0 (headValue w) ws (start w ws (words-rise 0 (headValue w) ws (n .1)))
+    (omega arith)) in
     omega arith
 
 NOT-follows : (f : Signal) → Follows f (NOT f)

@@ -37,9 +37,11 @@ pub record CallFaultsExact : Type 0 where
   pub one : (operation : Signal → Signal) (a : List ℕ) (n : ℕ)
       → Exactly (FaultCheck (listFault a) (AnswerChecks (exactOfOne operation a) n)) (faultOfOne operation a n)
   pub two : (operation : Signal → Signal → Signal) (a b : List ℕ) (n : ℕ)
-      → Exactly (FaultCheck (listFault a) (FaultCheck (listFault b) (AnswerChecks (exactOfTwo operation a b) n))) (faultOfTwo operation a b n)
+      → Exactly (FaultCheck (listFault a) (FaultCheck (listFault b) (AnswerChecks (exactOfTwo operation a b) n)))
+      (faultOfTwo operation a b n)
   pub delay : (operation : Signal → Signal) (d : ℕ) (a : List ℕ) (n : ℕ)
-      → Exactly (FaultCheck (listFault a) (Check 8 (Breaks8 d) (AnswerChecks (exactOfDelay operation d a) n))) (faultOfDelay operation d a n)
+      → Exactly (FaultCheck (listFault a) (Check 8 (Breaks8 d) (AnswerChecks (exactOfDelay operation d a) n)))
+      (faultOfDelay operation d a n)
 
 -- at some instant k after M, or in the gap k after it, the signal is not as in the gap before instant k
 abbrev pub ChangesAfterM : Signal → Type 0

@@ -14,7 +14,8 @@ use Rattle.grammar.specs.Formula.{formulaFault, formulaTree, accepted, longestO
 use Rattle.grammar.specs.Parts.{parts}
 use Rattle.format.specs.Reading.{sheetFault}
 use Rattle.calls.specs.OnSheet.{exactOn, namesFound}
-use Rattle.calls.specs.Calls.{neededWork, readingFault, workFault, partsFault, workingFault, wordsOn, callFault, callAnswer, claimFault, claimAnswer}
+use Rattle.calls.specs.Calls.{neededWork, readingFault, workFault, partsFault, workingFault, wordsOn, callFault, callAnswer, claimFault}
+use Rattle.calls.specs.Calls.{claimAnswer}
 use Rattle.operations.specs.Calls.{roomFault, partFault}
 use Rattle.calls.proofs.FirstFault.{passed}
 use Rattle.calls.proofs.PartFaults.{whole-none}

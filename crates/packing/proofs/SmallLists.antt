@@ -17,7 +17,8 @@ use Rattle.signals.specs.Words.{pairFault}
 use Rattle.questions.specs.Questions.{instantFault, gapFault, valueAtOf, valueInOf, equalOf, impliesOf}
 use Rattle.tidying.specs.Calls.{tidyingFault}
 use Rattle.format.proofs.Accepting.{listed-some}
-use Rattle.packing.proofs.SmallAnswers.{SmallWritten, SmallTold, SmallVerdict, choice, first-small, list-small, written-small, answer-small}
+use Rattle.packing.proofs.SmallAnswers.{SmallWritten, SmallTold, SmallVerdict, choice, first-small, list-small, written-small}
+use Rattle.packing.proofs.SmallAnswers.{answer-small}
 use Rattle.signals.specs.Answers.{firstOf, toldValue, toldOf}
 use Rattle.signals.proofs.FirstFault.{both-none}
 

@@ -10,7 +10,8 @@ use Rattle.signals.specs.Moment.{M}
 use Rattle.signals.specs.Signal.{Signal}
 use Rattle.signals.specs.Words.{listFault}
 use Rattle.signals.specs.Answers.{writtenOf}
-use Rattle.operations.specs.Calls.{changesAfterM, answerFault, lengthFault, faultOfOne, exactOfOne, faultOfTwo, exactOfTwo, faultOfDelay, exactOfDelay, partFault, roomFault}
+use Rattle.operations.specs.Calls.{changesAfterM, answerFault, lengthFault, faultOfOne, exactOfOne, faultOfTwo, exactOfTwo, faultOfDelay}
+use Rattle.operations.specs.Calls.{exactOfDelay, partFault, roomFault}
 use Rattle.signals.specs.Words.{pairFault}
 use Rattle.packing.proofs.SmallAnswers.{SmallWritten, choice, first-small, list-small, written-small}
 use Rattle.operations.proofs.CallFaults.{part-none}

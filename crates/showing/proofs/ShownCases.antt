@@ -27,7 +27,8 @@ module _ (o : Operation) (table : Table) (p q : Bool) where
   first-reset e s h = rw e h
 
 module _ (o : Operation) (table : Table) (c p0 p1 p2 q1 q2 : Bool) where
-  pub date-connective : o ≡ Connective → (v w : Bool) → v ≡ cell table p1 q1 → w ≡ cell table p2 q2 → shows v w ≡ dateShown o table c p0 p1 p2 q1 q2
+  pub date-connective : o ≡ Connective → (v w : Bool) → v ≡ cell table p1 q1 → w ≡ cell table p2 q2
+      → shows v w ≡ dateShown o table c p0 p1 p2 q1 q2
   date-connective e v w h k = rw (e, h, k)
 
   pub date-rising : o ≡ Rising → (u v : Bool) → u ≡ not p0 → v ≡ (p1 && u) → shows v false ≡ dateShown o table c p0 p1 p2 q1 q2

@@ -42,7 +42,8 @@ module _ (pick : Bool → Bool → Bool) (same : (v : Bool) → pick v v ≡ fal
       record {
         later = h .later;
         still = edge-still k (instant d) v (h .still);
-        at = edge-at d (instant d) v a (omega (arith, h .later)) refl (h .at) (h .still (gap (d - 1)) (omega (arith, h .later)) (omega (arith, h .later)));
+        at = edge-at d (instant d) v a (omega (arith, h .later)) refl (h .at)
+            (h .still (gap (d - 1)) (omega (arith, h .later)) (omega (arith, h .later)));
         after = edge-in-gap d (gap d) refl;
       }
 
@@ -94,7 +95,8 @@ pub record Turned (o : Operation) (table : Table) (f g : Signal) (k d : ℕ) (v 
   pub held : Held (merged o table f g) k d v at after
   pub bit : next ≡ bitOf o f g d
 
-latch-turned : (w : Bool) (f g : Signal) (k d : ℕ) (v1 a1 b1 v2 a2 b2 c : Bool) → c ≡ carried w f g k → Held f k d v1 a1 b1 → Held g k d v2 a2 b2
+latch-turned : (w : Bool) (f g : Signal) (k d : ℕ) (v1 a1 b1 v2 a2 b2 c : Bool) → c ≡ carried w f g k → Held f k d v1 a1 b1
+    → Held g k d v2 a2 b2
     → Held (latch w f g) k d (shown w v1 (carried w f g k)) (atStep w a1 a2 c) (shown w b1 (gapStep b1 b2 (atStep w a1 a2 c)))
     × (gapStep b1 b2 (atStep w a1 a2 c) ≡ carried w f g d)
 latch-turned w f g k d v1 a1 b1 v2 a2 b2 c e h i =
@@ -103,9 +105,11 @@ latch-turned w f g k d v1 a1 b1 v2 a2 b2 c e h i =
 
 pub turned : (o : Operation) (table : Table) (f g : Signal) (k d : ℕ) (v1 a1 b1 v2 a2 b2 c : Bool)
     → c ≡ bitOf o f g k → Held f k d v1 a1 b1 → Held g k d v2 a2 b2
-    → Turned o table f g k d (heldBy o table f g k v1 v2) ((dateShown o table c v1 a1 b1 a2 b2) .at) ((dateShown o table c v1 a1 b1 a2 b2) .after) ((dateShown o table c v1 a1 b1 a2 b2) .carried)
+    → Turned o table f g k d (heldBy o table f g k v1 v2) ((dateShown o table c v1 a1 b1 a2 b2) .at)
+    ((dateShown o table c v1 a1 b1 a2 b2) .after) ((dateShown o table c v1 a1 b1 a2 b2) .carried)
 unfolding heldBy
-turned Connective table f g k d v1 a1 b1 v2 a2 b2 c e h i = record { held = connective-held table f g k d v1 a1 b1 v2 a2 b2 h i; bit = refl }
+turned Connective table f g k d v1 a1 b1 v2 a2 b2 c e h i =
+    record { held = connective-held table f g k d v1 a1 b1 v2 a2 b2 h i; bit = refl }
 turned Rising table f g k d v1 a1 b1 v2 a2 b2 c e h i = record { held = rising-held f k d v1 a1 b1 h; bit = refl }
 turned Falling table f g k d v1 a1 b1 v2 a2 b2 c e h i = record { held = falling-held f k d v1 a1 b1 h; bit = refl }
 turned SetWins table f g k d v1 a1 b1 v2 a2 b2 c e h i =
@@ -126,7 +130,8 @@ first ResetWins table f g p q e h =
     let c = carried-first false f g p q e h in (rw (← c) (sym (latch-in false f g 0)), sym c)
 
 -- operands that stand still for good
-pub still-for-good : (o : Operation) (table : Table) (f g : Signal) (k : ℕ) (a b : Bool) → ((t : ℕ) → gap k ≤ t → f t ≡ a) → ((t : ℕ) → gap k ≤ t → g t ≡ b)
+pub still-for-good : (o : Operation) (table : Table) (f g : Signal) (k : ℕ) (a b : Bool) → ((t : ℕ) → gap k ≤ t → f t ≡ a)
+    → ((t : ℕ) → gap k ≤ t → g t ≡ b)
     → (t : ℕ) → gap k ≤ t → merged o table f g t ≡ merged o table f g (gap k)
 unfolding connective rising falling edgeWith rise-pick fall-pick
 still-for-good Connective table f g k a b s r t l = rw (s t l, r t l, s (gap k) (omega arith), r (gap k) (omega arith))

@@ -23,7 +23,8 @@ at-any-two P x later n m p q = go (leb n m) refl
 pub one-list : (s : Signal) (n m : ℕ) → SettledFrom s n → SettledFrom s m → listOf s n ≡ listOf s m
 one-list s n m p q = at-any-two (SettledFrom s) (listOf s) (λ a b. listOf-more s a b) n m p q
 
-pub one-verdict : (f g : Signal) (n m : ℕ) → SettledFrom f n → SettledFrom g n → SettledFrom f m → SettledFrom g m → verdictOf f g n ≡ verdictOf f g m
+pub one-verdict : (f g : Signal) (n m : ℕ) → SettledFrom f n → SettledFrom g n → SettledFrom f m → SettledFrom g m
+    → verdictOf f g n ≡ verdictOf f g m
 one-verdict f g n m a b c d =
     at-any-two
     (λ k. SettledFrom f k × SettledFrom g k)

@@ -34,7 +34,8 @@ fault-check own rest later h = go (ℕ-discrete own 0)
     go (no o) = inl (o, first-is own rest o)
 
 -- past it, it was none
-pub passed-check : (own fault : ℕ) (later : ℕ → Type 0) → (¬ (own ≡ 0) → ¬ (fault ≡ own)) → FaultCheck own later fault → (own ≡ 0) × later fault
+pub passed-check : (own fault : ℕ) (later : ℕ → Type 0) → (¬ (own ≡ 0) → ¬ (fault ≡ own)) → FaultCheck own later fault → (own ≡ 0)
+    × later fault
 passed-check own fault later other (inl a) = absurd (other (a .0) (a .1))
 passed-check own fault later other (inr a) = go (ℕ-discrete own 0)
   where

@@ -56,7 +56,9 @@ date-checks h ws (suc (suc (suc (suc n)))) s = absurd s
 given : (l : List ℕ) → TidyFaultIs l (tidyFault l)
 unfolding tidyFault
 given [] = inl (inl refl, refl)
-given (h ∷ ws) = head-checks h ws (datesFault 0 ws) (Check 3 ((i : ℕ) × Breaks3 (h ∷ ws) i) NoFault) (date-checks h ws (datesFault 0 ws) (says-dates 0 ws))
+given (h ∷ ws) =
+    head-checks h ws (datesFault 0 ws) (Check 3 ((i : ℕ) × Breaks3 (h ∷ ws) i) NoFault)
+    (date-checks h ws (datesFault 0 ws) (says-dates 0 ws))
 
 single : (l : List ℕ) → Single (TidyFaultIs l)
 single l = check-single (check-single (check-single none-single))

@@ -215,7 +215,8 @@ module _ (l out : List ℕ) (fault : ℕ) (e : fault ≡ tidyFault l) where
           rw (← e, eq-eqb fault 0 z, lt-ltb (length out) (length (tidied l)) o) same,
         )
 
-    pub tidy-done : count ≤ length (part ++ out) → (after : List ℕ) → after ≡ overlay (tidied l) (part ++ out) → CallOfTidying l out (Count count) after
+    pub tidy-done : count ≤ length (part ++ out) → (after : List ℕ) → after ≡ overlay (tidied l) (part ++ out)
+        → CallOfTidying l out (Count count) after
     unfolding tidyingFault firstOf writtenOf outputOf
     tidy-done h after q =
         let o : length (tidied l) ≤ length out = omega (arith, ap length same) in (

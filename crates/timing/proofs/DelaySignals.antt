@@ -8,7 +8,8 @@ use borrow.Author.Tests.{leb-true, leb-false, le-leb}
 use Rattle.signals.specs.Moment.{gap, instant, started, fromTo}
 use Rattle.signals.specs.Signal.{Signal, every, implied, NOT, TON, TOF}
 use Rattle.signals.specs.Quantified.{Up, Down, Started, FromTo}
-use Rattle.signals.proofs.Truth.{bool-ext, not-both, down-of, not-up, not-of, up-or-down, and-left, and-right, and-of, implied-use, implied-of, every-up, every-of}
+use Rattle.signals.proofs.Truth.{bool-ext, not-both, down-of, not-up, not-of, up-or-down, and-left, and-right, and-of, implied-use}
+use Rattle.signals.proofs.Truth.{implied-of, every-up, every-of}
 use Rattle.signals.proofs.Agreement.{started-up, started-of, fromTo-up, fromTo-of, TOF-up, TOF-of}
 use Rattle.timing.specs.Delay.{throughout, delayed, onLevel, levelOf, delayOf}
 
@@ -106,7 +107,8 @@ tof-dual d f t = bool-ext (TOF d f t) (not (delayed false d (NOT f) t)) there ba
     there : Up (TOF d f t) → Up (not (delayed false d (NOT f) t))
     there u =
         let h = TOF-up d f t u in
-        not-of (down-of (delayed false d (NOT f) t) (λ v. not-both (h .2) (not-up (f (h .0)) (delayed-up false d (NOT f) t v .1 (h .0) (h .1)))))
+        not-of (down-of (delayed false d (NOT f) t)
+        (λ v. not-both (h .2) (not-up (f (h .0)) (delayed-up false d (NOT f) t v .1 (h .0) (h .1)))))
 
     back : Up (not (delayed false d (NOT f) t)) → Up (TOF d f t)
     back u = go (TOF d f t) refl
@@ -115,7 +117,8 @@ tof-dual d f t = bool-ext (TOF d f t) (not (delayed false d (NOT f) t)) there ba
         go true e = refl
         go false e =
             not-both
-            (delayed-of false d (NOT f) t (λ w. not-both w refl, λ t1 i. not-of (down-of (f t1) (λ v. not-both (TOF-of d f t (t1, i, v)) e))))
+            (delayed-of false d (NOT f) t
+            (λ w. not-both w refl, λ t1 i. not-of (down-of (f t1) (λ v. not-both (TOF-of d f t (t1, i, v)) e))))
             (not-up (delayed false d (NOT f) t) u)
 
 pub tof-delay : (d : ℕ) → TOF d ≡ delayOf false false d

@@ -52,11 +52,13 @@ reached-by s date at e = go at (s .at) (and-right (eqb (s .due .0) date) (not at
     go false true u = omega (arith, same)
     go false false u = omega (arith, same)
 
-not-reached : (s : Timer) (date : ℕ) (at : Bool) → reached s date at ≡ false → date ≤ s .due .0 → (Up at → 1 ≤ date) → momentOf at date < momentOf (s .at) (s .due .0)
+not-reached : (s : Timer) (date : ℕ) (at : Bool) → reached s date at ≡ false → date ≤ s .due .0 → (Up at → 1 ≤ date)
+    → momentOf at date < momentOf (s .at) (s .due .0)
 unfolding reached
 not-reached s date at e l one = go (eqb (s .due .0) date) at (s .at) refl e one
   where
-    go : (q a b : Bool) → eqb (s .due .0) date ≡ q → q && (not a || b) ≡ false → (Up a → 1 ≤ date) → momentOf a date < momentOf b (s .due .0)
+    go : (q a b : Bool) → eqb (s .due .0) date ≡ q → q && (not a || b) ≡ false → (Up a → 1 ≤ date)
+        → momentOf a date < momentOf b (s .due .0)
     go true true true p u one = not-both refl u
     go true true false p u one = omega (arith, eqb-true (s .due .0) date p, one refl)
     go true false b p u one = not-both refl u
@@ -88,7 +90,8 @@ module _ (g E : Signal) (n : ℕ) where
       go false h = (h .2, h .3)
 
   -- while the input stands still and the pending moment lies ahead, so does the state
-  pub timed-still : (s : Timer) (m k : ℕ) → m ≤ k → ((t : ℕ) → m ≤ t → t ≤ k → g t ≡ g m) → (Up (s .waiting) → k < momentOf (s .at) (s .due .0)) → Timed g E n s m → Timed g E n s k
+  pub timed-still : (s : Timer) (m k : ℕ) → m ≤ k → ((t : ℕ) → m ≤ t → t ≤ k → g t ≡ g m)
+      → (Up (s .waiting) → k < momentOf (s .at) (s .due .0)) → Timed g E n s m → Timed g E n s k
   timed-still s m k l still ahead h = go (s .level) (s .waiting) (s .at) ahead h
     where
       ups : Up (g m) → (t : ℕ) → m ≤ t → t ≤ k → Up (g t)
@@ -103,7 +106,8 @@ module _ (g E : Signal) (n : ℕ) where
       go false false a ahead h = still k l (omega arith) ∙ h
 
   -- a waiting delay at the moment k of a date: its change is made if it has come
-  pub timed-risen : (s : Timer) (date : ℕ) (at : Bool) (k : ℕ) → k ≡ momentOf at date → (Up at → 1 ≤ date) → Down (s .level) → Up (s .waiting)
+  pub timed-risen : (s : Timer) (date : ℕ) (at : Bool) (k : ℕ) → k ≡ momentOf at date → (Up at → 1 ≤ date) → Down (s .level)
+      → Up (s .waiting)
       → Up (g k) → Run g E (momentOf (s .at) (s .due .0)) k → date ≤ s .due .0 → s .due .0 ≤ n → Timed g E n (risen s date at) k
   unfolding risen
   timed-risen s date at k here one low waits up run l bound = go (reached s date at) refl
@@ -126,12 +130,14 @@ module _ (waits : Bool) (d : ℕ) (g : Signal) (n : ℕ) (short : d ≤ M) where
 
   -- a run that begins at the moment k of a date, or in gap 0
   begun-run : (date : ℕ) (at : Bool) (from : ℕ) (pat : Bool) (k : ℕ) → k ≡ momentOf at date → (Up at → 1 ≤ date) → date ≤ M → date + d ≤ n
-      → Up (g k) → Run g (delayed waits d g) from k → from ≡ momentOf pat (date + d) → Timed g (delayed waits d g) n (risen (pending date pat d) date at) k
+      → Up (g k) → Run g (delayed waits d g) from k → from ≡ momentOf pat (date + d)
+      → Timed g (delayed waits d g) n (risen (pending date pat d) date at) k
   begun-run date at from pat k here one low bound up run e =
       subst
       (λ (s : Timer). Timed g (delayed waits d g) n (risen s date at) k)
       (sym (pending-is date pat low))
-      (timed-risen g (delayed waits d g) n (timer false true (date + d) pat) date at k here one refl refl up (subst (λ (x : ℕ). Run g (delayed waits d g) x k) e run) (omega arith) bound)
+      (timed-risen g (delayed waits d g) n (timer false true (date + d) pat) date at k here one refl refl up
+      (subst (λ (x : ℕ). Run g (delayed waits d g) x k) e run) (omega arith) bound)
 
   -- in gap 0
   pub timed-first : d ≤ n → (value : Bool) → g 0 ≡ value → Timed g (delayed waits d g) n (firstTimer waits d value) 0
@@ -147,8 +153,10 @@ module _ (waits : Bool) (d : ℕ) (g : Signal) (n : ℕ) (short : d ≤ M) where
   timed-first bound false e = e
 
   -- from moment m to the next, the instant of a date or the gap after it
-  pub timed-next : (s : Timer) (m date : ℕ) (at value : Bool) → m + 1 ≡ momentOf at date → (Up at → 1 ≤ date) → g (m + 1) ≡ value → (Up (s .waiting) → date ≤ s .due .0)
-      → (Down (g m) → Up (g (m + 1)) → (date ≤ M) × (date + d ≤ n)) → Timed g (delayed waits d g) n s m → Timed g (delayed waits d g) n (timerNext s d date at value) (m + 1)
+  pub timed-next : (s : Timer) (m date : ℕ) (at value : Bool) → m + 1 ≡ momentOf at date → (Up at → 1 ≤ date) → g (m + 1) ≡ value
+      → (Up (s .waiting) → date ≤ s .due .0)
+      → (Down (g m) → Up (g (m + 1)) → (date ≤ M) × (date + d ≤ n)) → Timed g (delayed waits d g) n s m
+      → Timed g (delayed waits d g) n (timerNext s d date at value) (m + 1)
   timed-next s m date at value here one is ahead new h = go value (s .level) (s .waiting) refl refl refl
     where
       known : (l w : Bool) → s .level ≡ l → s .waiting ≡ w → TimedBy g (delayed waits d g) n l w (s .at) (s .due .0) m
@@ -198,7 +206,8 @@ module _ (waits : Bool) (d : ℕ) (g : Signal) (n : ℕ) (short : d ≤ M) where
           subst
           (λ (x : Timer). Timed g (delayed waits d g) n x (m + 1))
           (sym (next-waiting s d date at value e p q))
-          (timed-risen g (delayed waits d g) n s date at (m + 1) here one p q (is ∙ e) (later (momentOf (s .at) (s .due .0)) (k .0) (is ∙ e) (k .1)) (ahead q) (k .3))
+          (timed-risen g (delayed waits d g) n s date at (m + 1) here one p q (is ∙ e)
+          (later (momentOf (s .at) (s .due .0)) (k .0) (is ∙ e) (k .1)) (ahead q) (k .3))
       go true false false e p q =
           let k = known false false p q in
           let fits = new k (is ∙ e) in

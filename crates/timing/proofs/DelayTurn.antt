@@ -16,7 +16,8 @@ use Rattle.timing.specs.declared.Timer.{Timer}
 use Rattle.timing.proofs.DelaySignals.{delayed-down}
 use Rattle.timing.proofs.DelayTiming.{momentOf, Timed, timed-value, timed-ahead, timed-still, timed-next}
 
-module _ (waits : Bool) (d : ℕ) (g : Signal) (last n : ℕ) (short : d ≤ M) (early : last ≤ M) (far : last + d ≤ n) (settled : SettledFrom g last) where
+module _ (waits : Bool) (d : ℕ) (g : Signal) (last n : ℕ) (short : d ≤ M) (early : last ≤ M) (far : last + d ≤ n)
+    (settled : SettledFrom g last) where
   -- a run begins by the last date
   new-run : (m date : ℕ) (at : Bool) → m + 1 ≡ momentOf at date → Down (g m) → Up (g (m + 1)) → (date ≤ M) × (date + d ≤ n)
   new-run m date at here down up = go (ltb m (gap last)) refl
@@ -31,7 +32,8 @@ module _ (waits : Bool) (d : ℕ) (g : Signal) (last n : ℕ) (short : d ≤ M) 
           let h = ltb-false m (gap last) q in
           not-both up (settled (m + 1) (omega arith) ∙ sym (settled m h) ∙ down)
 
-  module _ (s : Timer) (k e : ℕ) (v a b : Bool) (held : Held g k e v a b) (ahead : Up (s .waiting) → e ≤ s .due .0) (h : Timed g (delayed waits d g) n s (gap k)) where
+  module _ (s : Timer) (k e : ℕ) (v a b : Bool) (held : Held g k e v a b) (ahead : Up (s .waiting) → e ≤ s .due .0)
+      (h : Timed g (delayed waits d g) n s (gap k)) where
     before-due : (t : ℕ) → t < instant e → Up (s .waiting) → t < momentOf (s .at) (s .due .0)
     before-due t l w = go (s .at) (ahead w)
       where
@@ -113,11 +115,13 @@ module _ (waits : Bool) (d : ℕ) (g : Signal) (last n : ℕ) (short : d ≤ M) 
         timed-at)
 
     -- the delay holds its level up to the date, and has the two new ones there
-    pub delay-held : Held (delayed waits d g) k e (s .level) ((timerNext s d e true a) .level) ((timerNext (timerNext s d e true a) d e false b) .level)
+    pub delay-held : Held (delayed waits d g) k e (s .level) ((timerNext s d e true a) .level)
+        ((timerNext (timerNext s d e true a) d e false b) .level)
     delay-held =
         record {
           later = held .later;
           still = λ t l u. timed-value g (delayed waits d g) n (delayed-down waits d g) s t (timed-before t l u);
           at = timed-value g (delayed waits d g) n (delayed-down waits d g) (timerNext s d e true a) (instant e) timed-at;
-          after = timed-value g (delayed waits d g) n (delayed-down waits d g) (timerNext (timerNext s d e true a) d e false b) (gap e) timed-after;
+          after = timed-value g (delayed waits d g) n (delayed-down waits d g) (timerNext (timerNext s d e true a) d e false b) (gap e)
+              timed-after;
         }

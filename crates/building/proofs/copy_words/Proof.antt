@@ -36,7 +36,8 @@ add-i c = search needs
 loop-less : tie.Need-loop-less Inv-loop μ-loop
 loop-less c = search needs
 
-in-old : (c : tie.After-shared-slice-known Inv-loop μ-loop) → c .before .before .loop .i < length (c .before .before .before .args .out .now)
+in-old : (c : tie.After-shared-slice-known Inv-loop μ-loop)
+    → c .before .before .loop .i < length (c .before .before .before .args .out .now)
 in-old c = omega arith
 
 loop-again : tie.Need-loop-again Inv-loop μ-loop

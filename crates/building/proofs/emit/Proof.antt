@@ -27,7 +27,8 @@ one-more-requires-2 c κs = search needs
 returns-3 : tie.Need-returns-3
 returns-3 c =
     let at = c .before .before .before in
-    emit-past-M _ _ _ _ _ (sym (at .before .idle-word .ensures) ∙ at .if1 .left) _ (c .one-more2 .ensures) (c .before .before .if2 .left) (c .before .if3 .taken)
+    emit-past-M _ _ _ _ _ (sym (at .before .idle-word .ensures) ∙ at .if1 .left) _ (c .one-more2 .ensures) (c .before .before .if2 .left)
+    (c .before .if3 .taken)
 
 cast-place : tie.Need-cast-place
 cast-place c = search needs
@@ -55,7 +56,9 @@ one-more-requires-3 c κs = search needs
 returns-4 : tie.Need-returns-4
 returns-4 c =
     let at = c .before .before .before .before .before .before in
-    emit-stored _ _ _ _ _ (sym (at .before .idle-word .ensures) ∙ at .if1 .left) _ (c .one-more3 .ensures) (c .before .before .before .before .before .if2 .left) (c .before .before .before .before .if3 .left) (c .before .before .if4 .taken) _ (c .before .word-of .ensures)
+    emit-stored _ _ _ _ _ (sym (at .before .idle-word .ensures) ∙ at .if1 .left) _ (c .one-more3 .ensures)
+    (c .before .before .before .before .before .if2 .left) (c .before .before .before .before .if3 .left) (c .before .before .if4 .taken) _
+    (c .before .word-of .ensures)
 
 one-more-requires-4 : tie.Need-one-more-requires-4
 one-more-requires-4 c κs = search needs
@@ -63,7 +66,8 @@ one-more-requires-4 c κs = search needs
 returns-5 : tie.Need-returns-5
 returns-5 c =
     let at = c .before .before .before .before .before in
-    emit-full _ _ _ _ _ (sym (at .before .idle-word .ensures) ∙ at .if1 .left) _ (c .one-more4 .ensures) (c .before .before .before .before .if2 .left) (c .before .before .before .if3 .left) (c .before .if4 .left)
+    emit-full _ _ _ _ _ (sym (at .before .idle-word .ensures) ∙ at .if1 .left) _ (c .one-more4 .ensures)
+    (c .before .before .before .before .if2 .left) (c .before .before .before .if3 .left) (c .before .if4 .left)
 
 pub emit-spec : {M : Type 1} → statement M
 emit-spec =

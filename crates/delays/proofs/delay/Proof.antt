@@ -35,7 +35,8 @@ returns-2 c =
     let built = c .before .before .before .before .before .before .run .ensures in
     rw (← (fault-order _ _ _ _))
     (passes-on _ _ _ _ _ _ (sym (judged .before .delay-fault .ensures) ∙ judged .if1 .left)
-    (delivered _ _ _ _ built (omega arith) (omega arith) (judged .before .before .before .before .args .out .now) _ _ (c .before .before .deliver .ensures)))
+    (delivered _ _ _ _ built (omega arith) (omega arith) (judged .before .before .before .before .args .out .now) _ _
+    (c .before .before .deliver .ensures)))
 
 pub delay-spec : {M : Type 1} → statement M
 delay-spec =

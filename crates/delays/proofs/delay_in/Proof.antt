@@ -17,7 +17,8 @@ returns-2 : tie.Need-returns-2
 returns-2 c = slot-short _ _ _ (sym (c .before .before .delay-fault .ensures) ∙ c .before .if1 .left) (c .if2 .taken)
 
 run-requires : tie.Need-run-requires
-run-requires c κs = let z = judged-none _ _ _ (c .before .before .before .delay-fault .ensures) (c .before .before .if1 .left) in (z .0, z .1)
+run-requires c κs = let z =
+    judged-none _ _ _ (c .before .before .before .delay-fault .ensures) (c .before .before .if1 .left) in (z .0, z .1)
 
 finish-requires : tie.Need-finish-requires
 finish-requires c κs = search needs
@@ -26,7 +27,11 @@ same-length : tie.Need-same-length
 same-length c = search needs
 
 returns-3 : tie.Need-returns-3
-returns-3 c = slot-built _ _ _ _ _ _ (sym (c .before .before .before .before .before .before .before .delay-fault .ensures) ∙ c .before .before .before .before .before .before .if1 .left) (c .before .before .before .before .before .if2 .left) (c .before .before .before .run .ensures)
+returns-3 c =
+    slot-built _ _ _ _ _ _
+    (sym (c .before .before .before .before .before .before .before .delay-fault .ensures) ∙
+    c .before .before .before .before .before .before .if1 .left) (c .before .before .before .before .before .if2 .left)
+    (c .before .before .before .run .ensures)
     (c .finish .ensures)
 
 pub delay-in-spec : {M : Type 1} → statement M

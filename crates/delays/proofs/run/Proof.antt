@@ -12,7 +12,8 @@ use Rattle.delays.proofs.run.Statement.{statement}
 use Rattle.delays.proofs.run.Tie as tie
 
 abbrev Inv-loop : tie.InvT-loop
-Inv-loop level waits d words slot₀ passed₀ timer₀ made₀ date₀ slot passed timer made date = (length slot ≡ length slot₀) × Delaying level waits (d .0) words slot₀ slot passed timer made (date .0)
+Inv-loop level waits d words slot₀ passed₀ timer₀ made₀ date₀ slot passed timer made date =
+    (length slot ≡ length slot₀) × Delaying level waits (d .0) words slot₀ slot passed timer made (date .0)
 
 abbrev μ-loop : tie.MeasureT-loop
 μ-loop level waits d words slot₀ passed₀ timer₀ made₀ date₀ slot passed timer made date = NEVER - date .0
@@ -38,7 +39,15 @@ upcoming-requires c κs = search needs
 loop-holds : tie.Need-loop-holds Inv-loop μ-loop
 loop-holds c = (
   refl,
-  delaying-begin _ _ _ _ _ (c .before .before .before .before .before .before .before .before .before .before .before .pre .0) (c .before .before .before .before .before .before .before .before .before .before .before .pre .1) (last-32 _ (λ i u. c .before .before .before .before .before .before .before .before .before .before .shared-slice-known .given i .fits)) _ (c .before .before .before .before .before .before .before .on-level .ensures ∙ ap (onLevel (c .before .before .before .before .before .before .before .before .before .before .before .args .level)) (c .before .before .before .before .before .before .before .before .held-value .ensures)) _ (c .before .before .before .before .before .before .first .ensures) _ (c .before .before .before .before .on-level2 .ensures) _ (first-word (c .before .before .before .before .before .before .before .before .before .before .before .args .slot .now) _ _ (c .before .before .before .begin .ensures .1)) _ (c .before .before .before .begin .ensures .0) _ (c .upcoming .ensures),
+  delaying-begin _ _ _ _ _ (c .before .before .before .before .before .before .before .before .before .before .before .pre .0)
+      (c .before .before .before .before .before .before .before .before .before .before .before .pre .1)
+      (last-32 _
+      (λ i u. c .before .before .before .before .before .before .before .before .before .before .shared-slice-known .given i .fits)) _
+      (c .before .before .before .before .before .before .before .on-level .ensures ∙
+      ap (onLevel (c .before .before .before .before .before .before .before .before .before .before .before .args .level))
+      (c .before .before .before .before .before .before .before .before .held-value .ensures)) _
+      (c .before .before .before .before .before .before .first .ensures) _ (c .before .before .before .before .on-level2 .ensures) _
+      (first-word (c .before .before .before .before .before .before .before .before .before .before .before .args .slot .now) _ _ (c .before .before .before .begin .ensures .1)) _ (c .before .before .before .begin .ensures .0) _ (c .upcoming .ensures),
 )
 
 past-requires : tie.Need-past-requires Inv-loop μ-loop
@@ -70,20 +79,44 @@ upcoming-requires-2 c κs = search needs
 
 loop-less : tie.Need-loop-less Inv-loop μ-loop
 loop-less c =
-    let turn = delaying-turn _ _ _ _ _ _ _ _ _ _ (c .before .before .before .before .before .before .before .before .before .before .before .before .before .before .loop .inv .1) (c .before .before .before .before .before .before .before .before .before .before .before .before .if1 .taken) _ (c .before .before .before .before .before .before .before .before .before .before .before .past .ensures) _ (c .before .before .before .before .before .before .before .before .before .before .on-level3 .ensures) _ (c .before .before .before .before .before .before .before .before .before .follow .ensures) _ (c .before .before .before .before .before .before .before .before .on-level4 .ensures) _ (c .before .before .before .before .before .before .before .follow2 .ensures) _ (c .before .before .before .before .before .on-level5 .ensures) _ (c .before .before .before .before .on-level6 .ensures) _ (c .before .before .before .emit .ensures .1) _ (c .before .before .before .emit .ensures .0) _ (c .upcoming2 .ensures) in
-    omega (arith, next _ _ _ _ _ _ _ _ _ _ (turn .0) .later, turn .1, c .before .before .before .before .before .before .before .before .before .before .before .before .if1 .taken)
+    let turn =
+    delaying-turn _ _ _ _ _ _ _ _ _ _
+    (c .before .before .before .before .before .before .before .before .before .before .before .before .before .before .loop .inv .1)
+    (c .before .before .before .before .before .before .before .before .before .before .before .before .if1 .taken) _
+    (c .before .before .before .before .before .before .before .before .before .before .before .past .ensures) _
+    (c .before .before .before .before .before .before .before .before .before .before .on-level3 .ensures) _
+    (c .before .before .before .before .before .before .before .before .before .follow .ensures) _
+    (c .before .before .before .before .before .before .before .before .on-level4 .ensures) _
+    (c .before .before .before .before .before .before .before .follow2 .ensures) _ (c .before .before .before .before .before .on-level5 .ensures) _ (c .before .before .before .before .on-level6 .ensures) _ (c .before .before .before .emit .ensures .1) _ (c .before .before .before .emit .ensures .0) _ (c .upcoming2 .ensures) in
+    omega (
+      arith,
+      next _ _ _ _ _ _ _ _ _ _ (turn .0) .later,
+      turn .1,
+      c .before .before .before .before .before .before .before .before .before .before .before .before .if1 .taken,
+    )
 
 loop-again : tie.Need-loop-again Inv-loop μ-loop
 loop-again c = (
-  c .before .before .before .emit .kept .0 ∙ c .before .before .before .before .before .before .before .before .before .before .before .before .before .before .loop .inv .0,
-  (delaying-turn _ _ _ _ _ _ _ _ _ _ (c .before .before .before .before .before .before .before .before .before .before .before .before .before .before .loop .inv .1) (c .before .before .before .before .before .before .before .before .before .before .before .before .if1 .taken) _ (c .before .before .before .before .before .before .before .before .before .before .before .past .ensures) _ (c .before .before .before .before .before .before .before .before .before .before .on-level3 .ensures) _ (c .before .before .before .before .before .before .before .before .before .follow .ensures) _ (c .before .before .before .before .before .before .before .before .on-level4 .ensures) _ (c .before .before .before .before .before .before .before .follow2 .ensures) _ (c .before .before .before .before .before .on-level5 .ensures) _ (c .before .before .before .before .on-level6 .ensures) _ (c .before .before .before .emit .ensures .1) _ (c .before .before .before .emit .ensures .0) _ (c .upcoming2 .ensures)) .0,
+  c .before .before .before .emit .kept .0 ∙
+      c .before .before .before .before .before .before .before .before .before .before .before .before .before .before .loop .inv .0,
+  (delaying-turn _ _ _ _ _ _ _ _ _ _
+      (c .before .before .before .before .before .before .before .before .before .before .before .before .before .before .loop .inv .1)
+      (c .before .before .before .before .before .before .before .before .before .before .before .before .if1 .taken) _
+      (c .before .before .before .before .before .before .before .before .before .before .before .past .ensures) _
+      (c .before .before .before .before .before .before .before .before .before .before .on-level3 .ensures) _
+      (c .before .before .before .before .before .before .before .before .before .follow .ensures) _
+      (c .before .before .before .before .before .before .before .before .on-level4 .ensures) _
+      (c .before .before .before .before .before .before .before .follow2 .ensures) _
+      (c .before .before .before .before .before .on-level5 .ensures) _ (c .before .before .before .before .on-level6 .ensures) _ (c .before .before .before .emit .ensures .1) _ (c .before .before .before .emit .ensures .0) _ (c .upcoming2 .ensures)) .0,
 )
 
 same-length : tie.Need-same-length Inv-loop μ-loop
 same-length c = c .before .before .loop .inv .0 ∙ c .before .before .before .before .before .before .begin .kept .0
 
 returns : tie.Need-returns Inv-loop μ-loop
-returns c = delaying-end _ _ _ _ _ _ _ _ _ _ _ _ (c .before .before .before .before .before .before .begin .ensures .1) (c .before .before .loop .inv .1) (c .if1 .left)
+returns c =
+    delaying-end _ _ _ _ _ _ _ _ _ _ _ _ (c .before .before .before .before .before .before .begin .ensures .1)
+    (c .before .before .loop .inv .1) (c .if1 .left)
 
 pub run-spec : {M : Type 1} → statement M
 run-spec =

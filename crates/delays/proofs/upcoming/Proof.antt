@@ -10,12 +10,14 @@ next-date-requires c κs = search needs
 
 returns : tie.Need-returns
 returns c =
-    sym (upcoming-due _ _ _ (c .before .before .before .before .if1 .taken) (rw (← (c .before .before .before .before .before .next-date .ensures)) (c .if2 .taken)))
+    sym (upcoming-due _ _ _ (c .before .before .before .before .if1 .taken)
+    (rw (← (c .before .before .before .before .before .next-date .ensures)) (c .if2 .taken)))
 
 returns-2 : tie.Need-returns-2
 returns-2 c =
     c .before .before .before .before .before .next-date .ensures
-    ∙ sym (upcoming-word _ _ _ (c .before .before .before .before .if1 .taken) (rw (← (c .before .before .before .before .before .next-date .ensures)) (c .if2 .left)))
+    ∙ sym (upcoming-word _ _ _ (c .before .before .before .before .if1 .taken)
+    (rw (← (c .before .before .before .before .before .next-date .ensures)) (c .if2 .left)))
 
 returns-3 : tie.Need-returns-3
 returns-3 c = c .before .next-date .ensures ∙ sym (upcoming-none _ _ _ (c .if1 .left))

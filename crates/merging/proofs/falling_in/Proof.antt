@@ -15,7 +15,9 @@ same-length : tie.Need-same-length
 same-length c = search needs
 
 returns : tie.Need-returns
-returns c = slot-of-one _ _ (λ f g t. refl) _ (c .before .before .before .before .before .before .before .args .slot .now) _ _ (c .before .before .operate-in .ensures)
+returns c =
+    slot-of-one _ _ (λ f g t. refl) _ (c .before .before .before .before .before .before .before .args .slot .now) _ _
+    (c .before .before .operate-in .ensures)
 
 pub falling-in-spec : {M : Type 1} → statement M
 falling-in-spec =

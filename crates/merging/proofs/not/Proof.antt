@@ -14,7 +14,9 @@ same-length : tie.Need-same-length
 same-length c = search needs
 
 returns : tie.Need-returns
-returns c = call-of-one _ _ inverted _ (c .before .before .before .before .before .before .before .args .out .now) _ _ (c .before .before .operate .ensures)
+returns c =
+    call-of-one _ _ inverted _ (c .before .before .before .before .before .before .before .args .out .now) _ _
+    (c .before .before .operate .ensures)
 
 pub not-spec : {M : Type 1} → statement M
 not-spec = tie.close (tie.spec slice-aggregate-operate operate-requires same-length returns)

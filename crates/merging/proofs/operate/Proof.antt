@@ -36,7 +36,8 @@ returns-2 c =
     let judged = c .before .before .before .before .before .before .before .before in
     let built = c .before .before .before .before .before .before .merge .ensures in
     passes-on _ _ _ _ _ _ (sym (judged .before .pair-fault .ensures) ∙ judged .if1 .left)
-    (delivered _ _ _ _ built (omega arith) (omega arith) (judged .before .before .before .before .before .args .out .now) _ _ (c .before .before .deliver .ensures))
+    (delivered _ _ _ _ built (omega arith) (omega arith) (judged .before .before .before .before .before .args .out .now) _ _
+    (c .before .before .deliver .ensures))
 
 pub operate-spec : {M : Type 1} → statement M
 operate-spec =

@@ -29,7 +29,10 @@ same-length c = search needs
 
 returns-3 : tie.Need-returns-3
 returns-3 c =
-    slot-built _ _ _ _ _ _ (sym (c .before .before .before .before .before .before .before .pair-fault .ensures) ∙ c .before .before .before .before .before .before .if1 .left) (c .before .before .before .before .before .if2 .left) (c .before .before .before .merge .ensures)
+    slot-built _ _ _ _ _ _
+    (sym (c .before .before .before .before .before .before .before .pair-fault .ensures) ∙
+    c .before .before .before .before .before .before .if1 .left) (c .before .before .before .before .before .if2 .left)
+    (c .before .before .before .merge .ensures)
     (c .finish .ensures)
 
 pub operate-in-spec : {M : Type 1} → statement M

@@ -15,7 +15,9 @@ same-length : tie.Need-same-length
 same-length c = search needs
 
 returns : tie.Need-returns
-returns c = call-of-one _ _ (λ f g t. refl) _ (c .before .before .before .before .before .before .before .args .out .now) _ _ (c .before .before .operate .ensures)
+returns c =
+    call-of-one _ _ (λ f g t. refl) _ (c .before .before .before .before .before .before .before .args .out .now) _ _
+    (c .before .before .operate .ensures)
 
 pub rising-spec : {M : Type 1} → statement M
 rising-spec = tie.close (tie.spec slice-aggregate-operate operate-requires same-length returns)

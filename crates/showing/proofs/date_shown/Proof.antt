@@ -44,7 +44,8 @@ latch-date-requires-2 : tie.Need-latch-date-requires-2
 latch-date-requires-2 c κs = search needs
 
 returns : tie.Need-returns
-returns c = date-connective _ _ _ _ _ _ _ _ (c .before .before .enum-told .given .1) _ _ (c .before .cell-of .ensures) (c .cell-of2 .ensures)
+returns c =
+    date-connective _ _ _ _ _ _ _ _ (c .before .before .enum-told .given .1) _ _ (c .before .cell-of .ensures) (c .cell-of2 .ensures)
 
 returns-2 : tie.Need-returns-2
 returns-2 c = date-rising _ _ _ _ _ _ _ _ (c .before .before .enum-told2 .given .1) _ _ (c .before .inverse .ensures) (c .both .ensures)

@@ -25,7 +25,8 @@ returns : tie.Need-returns
 returns c = rw (c .either .ensures, c .before .both .ensures, c .before .before .inverse .ensures, c .before .before .before .if1 .taken)
 
 returns-2 : tie.Need-returns-2
-returns-2 c = rw (c .both2 .ensures, c .before .either2 .ensures, c .before .before .inverse2 .ensures, c .before .before .before .if1 .left)
+returns-2 c =
+    rw (c .both2 .ensures, c .before .either2 .ensures, c .before .before .inverse2 .ensures, c .before .before .before .if1 .left)
 
 pub latch-at-spec : {M : Type 1} → statement M
 latch-at-spec =

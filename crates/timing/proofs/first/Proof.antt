@@ -13,7 +13,8 @@ rise-requires c κs = search needs
 
 returns : tie.Need-returns
 unfolding firstTimer
-returns c = rw (c .before .before .before .if1 .taken, c .before .before .if2 .taken) (rw (c .before .pending-from .ensures) at (c .rise .ensures))
+returns c =
+    rw (c .before .before .before .if1 .taken, c .before .before .if2 .taken) (rw (c .before .pending-from .ensures) at (c .rise .ensures))
 
 returns-2 : tie.Need-returns-2
 unfolding firstTimer

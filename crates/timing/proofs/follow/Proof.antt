@@ -26,8 +26,10 @@ rise-requires-2 c κs = search needs
 returns-3 : tie.Need-returns-3
 returns-3 c =
     c .rise2 .ensures
-    ∙ ap (λ s. risen s (c .before .before .before .before .before .args .date .0) (c .before .before .before .before .before .args .at)) (c .before .pending-from .ensures)
-    ∙ sym (next-new _ _ _ _ _ (c .before .before .before .before .if1 .taken) (c .before .before .before .if2 .left) (c .before .before .if3 .left))
+    ∙ ap (λ s. risen s (c .before .before .before .before .before .args .date .0) (c .before .before .before .before .before .args .at))
+    (c .before .pending-from .ensures)
+    ∙ sym (next-new _ _ _ _ _ (c .before .before .before .before .if1 .taken) (c .before .before .before .if2 .left)
+    (c .before .before .if3 .left))
 
 returns-4 : tie.Need-returns-4
 returns-4 c = sym (next-down _ _ _ _ _ (c .if1 .left))

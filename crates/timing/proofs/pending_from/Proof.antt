@@ -14,7 +14,8 @@ date-in-requires c κs = search needs
 
 returns : tie.Need-returns
 unfolding pending
-returns c = ap (λ e. timer false true e (c .before .before .args .at)) (c .date-in .ensures ∙ ap dateIn (c .before .date-plus-length .ensures))
+returns c =
+    ap (λ e. timer false true e (c .before .before .args .at)) (c .date-in .ensures ∙ ap dateIn (c .before .date-plus-length .ensures))
 
 pub pending-from-spec : {M : Type 1} → statement M
 pending-from-spec = tie.close (tie.spec date-plus-length-requires date-in-requires returns)

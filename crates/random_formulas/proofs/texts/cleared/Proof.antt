@@ -7,4 +7,6 @@ returns : tie.Need-returns
 returns c = cc
 
 pub cleared-spec : {M : Type 1} → statement M
-cleared-spec = tie.close (tie.spec (λ c κs. search needs) (λ c κs. search needs) (λ c κs. search needs) (λ c κs. search needs) (λ c. search needs) returns)
+cleared-spec =
+    tie.close
+    (tie.spec (λ c κs. search needs) (λ c κs. search needs) (λ c κs. search needs) (λ c κs. search needs) (λ c. search needs) returns)
