@@ -2,7 +2,7 @@
 ghost use mathlib.Core.Path.{_≡_};
 ghost use mathlib.Core.List.{List, [], _∷_};
 ghost use Prim.Native.Nat.{ℕ, _+_, _*_, _-_, _/_, _%_, _≤_, _<_};
-ghost use lib.ListN.{length, take, drop, getD};
+ghost use lib.ListN.{length, take, drop};
 ghost use lib.Seq.{paste};
 ghost use Rattle.sheets.specs.Bytes.{low32, wordsIn};
 ghost use Rattle.sheets.specs.Reading.{sheetFault};
@@ -17,7 +17,7 @@ ghost use Rattle.machine.specs.Machine.{Plan, partsIn, WorkedOut, partFound, al
 ghost use Rattle.machine.specs.Machine.{ClaimOn};
 ghost use Rattle.calls.specs.Work.{CallOfFormula, CallOfClaim};
 ghost use Rattle.signals.specs.Answers.{writtenOf, outputOf, verdictFor};
-ghost use Rattle.calls.specs.Calls.{roomFault, wordsOn, callAnswer, callOutput, claimFails, claimAnswer};
+ghost use Rattle.calls.specs.Calls.{roomFault, wordsOn, claimFails};
 ghost use Rattle.formulas.specs.Formula.{formulaTree};
 ghost use Rattle.laws.specs.Rewriting.{parts};
 ghost use Rattle.calls.specs.OnSheet.{exactOn};

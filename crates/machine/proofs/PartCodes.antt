@@ -1,12 +1,12 @@
 -- Which part a code word stands for, by its kind.
-use Prim.Native.Nat.{ℕ, zero, suc, _+_, _/_, _%_, _≤_, _<_}
+use Prim.Native.Nat.{ℕ, zero, suc, _/_, _%_, _≤_, _<_}
 use native.Mathlib.Omega.{arith}
-use mathlib.Core.Path.{_≡_, refl, sym, _∙_, ap}
-use mathlib.Core.Bool.{Bool, true, false, cond, _||_}
+use mathlib.Core.Path.{_≡_, refl, _∙_}
+use mathlib.Core.Bool.{cond, _||_}
 use mathlib.Core.List.{List}
 use lib.Dec.{leb, ltb, eqb}
 use borrow.Author.Tests.{lt-ltb, le-ltb, le-leb, lt-leb}
-use Rattle.formulas.specs.Tree.{Tree, Leaf, Unary, Binary, down, up, name}
+use Rattle.formulas.specs.Tree.{Leaf, down, up, name}
 use Rattle.formulas.specs.Code.{Part, operand, one, two}
 use Rattle.formulas.specs.Formula.{partOf, plainPart, timedPart, nameAt}
 use Rattle.machine.specs.Machine.{leafOf, unaryOf, binaryOf}

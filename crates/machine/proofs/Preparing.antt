@@ -1,21 +1,21 @@
 -- Reading a formula for a sheet: its code words, its names on the sheet, its lengths.
-use Prim.Native.Nat.{ℕ, zero, suc, _+_, _/_, _%_, _≤_, _<_, max}
+use Prim.Native.Nat.{ℕ, _+_, _/_, _%_, _≤_, _<_}
 use native.Mathlib.Decide.{ℕ-discrete}
 use native.Mathlib.Omega.{arith}
 use mathlib.Core.Path.{_≡_, refl, sym, _∙_, ap}
 use mathlib.Core.Bool.{Bool, true, false, cond, not, _&&_, _||_, and-assoc, and-true}
 use mathlib.Core.List.{List, [], _∷_, _++_, map}
 use lib.Dec.{eqb, ltb}
-use lib.ListN.{length, take, drop, getD, length-map}
+use lib.ListN.{length, drop, getD, length-map}
 use lib.Seq.{take-at}
-use borrow.Author.Tests.{eq-eqb, ne-eqb, ltb-true, ltb-false}
+use borrow.Author.Tests.{ltb-true, ltb-false}
 use Rattle.signals.specs.Moment.{M}
 use Rattle.signals.specs.Answers.{writtenOf}
 use Rattle.signals.specs.declared.Written.{Written}
 use Rattle.signals.specs.declared.Written.the-variants.{Count, Refused}
 use Rattle.signals.proofs.Truth.{and-left, and-right}
-use Rattle.formulas.specs.Tree.{Tree, Leaf, Unary, Binary, leaf, unary, binary, down, up, name}
-use Rattle.formulas.specs.Code.{Part, operand, one, two, code, longest, ticksOf}
+use Rattle.formulas.specs.Tree.{Tree, leaf, unary, binary, down, up, name}
+use Rattle.formulas.specs.Code.{Part, one, two, code, longest}
 use Rattle.formulas.specs.Formula.{partOf, codeOf, codeAfter, formulaFault, formulaTree, longestOf, partsOf, depthOf, accepted, nameAt}
 use Rattle.formulas.proofs.Coding.{code-exact}
 use Rattle.formulas.proofs.Reading.{reader-exact, parts-exact, longest-of, faults-exact}
@@ -26,10 +26,10 @@ use Rattle.sheets.specs.Calls.{lookupFault}
 use Rattle.sheets.proofs.Steps.{same-equal}
 use Rattle.calls.specs.OnSheet.{namesFound, leafFound}
 use Rattle.calls.specs.Calls.{readingFault}
-use Rattle.calls.proofs.FirstFault.{passed, missed}
+use Rattle.calls.proofs.FirstFault.{passed}
 use Rattle.calls.proofs.ReadingFaults.{derived}
-use Rattle.calls.proofs.SheetLists.{Sound, AllSound, sheet-sound}
-use Rattle.machine.specs.Machine.{leafOf, leafKnown, Known, AllKnown, partsIn, partFound, allFound, Prepared}
+use Rattle.calls.proofs.SheetLists.{AllSound, sheet-sound}
+use Rattle.machine.specs.Machine.{leafOf, AllKnown, partsIn, partFound, allFound, Prepared}
 use Rattle.machine.proofs.Leaves.{leaf-name, leaf-up, leaf-down}
 use Rattle.machine.proofs.PartCodes.{part-leaf-low, part-leaf-high, part-unary, part-binary}
 use Rattle.machine.proofs.Stepping.{counted, refused-by}

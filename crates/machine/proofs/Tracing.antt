@@ -1,11 +1,11 @@
 -- A tree's parts in working-out order make its subtrees in that order, on a stack that never runs out and stays low.
-use Prim.Native.Nat.{ℕ, zero, suc, _+_, _≤_, _<_}
+use Prim.Native.Nat.{ℕ, suc, _+_, _≤_}
 use native.Mathlib.Omega.{arith}
 use mathlib.Core.Path.{_≡_, refl, sym, _∙_, ap}
 use mathlib.Core.List.{List, [], _∷_, _++_, append-assoc, append-nil}
-use lib.ListN.{length, length-append}
-use Rattle.formulas.specs.Tree.{Tree, Leaf, Unary, Binary, leaf, unary, binary}
-use Rattle.formulas.specs.Code.{Part, operand, one, two, code, work, top}
+use lib.ListN.{length}
+use Rattle.formulas.specs.Tree.{Tree, leaf, unary, binary}
+use Rattle.formulas.specs.Code.{Part, operand, one, two, code, work}
 use Rattle.formulas.proofs.Working.{worked as work-code}
 use Rattle.laws.specs.Rewriting.{parts}
 use Rattle.machine.specs.Machine.{worked, Enough, trace}

@@ -3,7 +3,7 @@ use Prim.Native.Nat.{ℕ, zero, suc, _+_, _-_, _*_, _<_, _≤_}
 use native.Mathlib.Omega.{arith}
 use mathlib.Core.Path.{_≡_, refl, sym, ap, _∙_}
 use mathlib.Core.Bool.{Bool, true, false, not, cond, _||_}
-use mathlib.Core.Logic.{_⊎_, inl, inr}
+use mathlib.Core.Logic.{inl, inr}
 use mathlib.Core.List.{List, [], _∷_, _++_}
 use lib.Dec.{eqb, ltb, leb}
 use lib.ListN.{length, drop, length-append, length-drop}
@@ -21,10 +21,10 @@ use Rattle.sheets.specs.declared.Place.the-variants as place
 use Rattle.sheets.proofs.Judging.{sound}
 use Rattle.sheets.proofs.Locating.{front-none, signals-none, place-within, lookup-none, place-fault}
 use Rattle.sheets.proofs.Fields.{named-short}
-use Rattle.sheets.proofs.Filling.{two, length-entry}
+use Rattle.sheets.proofs.Filling.{length-entry}
 use Rattle.sheets.proofs.Accepting.{listed-some}
 use Rattle.sheets.proofs.Appending.{length-on, entries-snoc, appends}
-use Rattle.calls.proofs.SheetLists.{Sound, AllSound, OfSheets, sheet-sound, sheet-of}
+use Rattle.calls.proofs.SheetLists.{AllSound, OfSheets, sheet-sound, sheet-of}
 use Rattle.packing.proofs.SmallAnswers.{SmallWritten, SmallPlace, choice, list-small, written-small}
 use Rattle.signals.specs.Answers.{firstOf}
 use Rattle.signals.proofs.FirstFault.{both-none}

@@ -1,5 +1,5 @@
 -- Both of two truth values.
-use mathlib.Core.Path.{_≡_, refl, sym}
+use mathlib.Core.Path.{_≡_, refl}
 use mathlib.Core.Bool.{Bool, true, false, _&&_}
 
 pub and-left : (p q : Bool) → p && q ≡ true → p ≡ true

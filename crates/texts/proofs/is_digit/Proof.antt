@@ -1,5 +1,5 @@
 -- `texts::is_digit` meets its contract.
-use mathlib.Core.Path.{_≡_, sym}
+use mathlib.Core.Path.{sym}
 use Rattle.texts.proofs.LengthReading.{below-digits, from-zero}
 use Rattle.texts.proofs.is_digit.Statement.{statement}
 use Rattle.texts.proofs.is_digit.Tie as tie
