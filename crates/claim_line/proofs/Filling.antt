@@ -1,10 +1,10 @@
 -- A line written into an output that is long enough, and the line of a claim's answer.
-use Prim.Native.Nat.{ℕ, zero, suc, _+_, _≤_, _<_}
+use Prim.Native.Nat.{ℕ, _+_, _≤_, _<_}
 use native.Mathlib.Nat.{zero-add}
 use native.Mathlib.Omega.{arith}
 use mathlib.Core.Path.{_≡_, refl, sym, ap, _∙_}
 use mathlib.Core.List.{List, [], _∷_, _++_}
-use lib.ListN.{length, take, drop, length-append}
+use lib.ListN.{length, drop, length-append}
 use Rattle.signals.specs.declared.Verdict.{Verdict}
 use Rattle.slices.specs.Slices.{placed, putAt}
 use Rattle.slices.proofs.Placing.{then-put, put-fits}

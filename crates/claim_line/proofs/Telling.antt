@@ -1,13 +1,13 @@
 -- From the parts of the input, its claim's answer and the line told, the line printed.
 use Prim.Native.Nat.{ℕ, _≤_}
 use native.Mathlib.Omega.{arith}
-use mathlib.Core.Path.{_≡_, refl, sym, ap, _∙_}
+use mathlib.Core.Path.{_≡_, sym, ap, _∙_}
 use mathlib.Core.List.{List}
 use lib.ListN.{length, take}
 use lib.Seq.{length-take-le}
 use Rattle.signals.specs.declared.Verdict.{Verdict}
 use Rattle.calls.specs.Calls.{claimAnswer, neededWork}
-use Rattle.claim_line.specs.Input.{limit, counted, formulaF, formulaG, sheetIn}
+use Rattle.claim_line.specs.Input.{counted, formulaF, formulaG, sheetIn}
 use Rattle.claim_line.specs.Line.{lineOf}
 use Rattle.texts.specs.LineFeeds.{toLineFeed, pastLineFeed}
 use Rattle.claim_line.specs.Printing.{longest, claimOf, printed, Filled}

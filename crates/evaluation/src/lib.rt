@@ -2,7 +2,7 @@
 ghost use mathlib.Core.Path.{_≡_};
 ghost use mathlib.Core.List.{List, [], _∷_};
 ghost use Prim.Native.Nat.{ℕ, _+_, _*_, _-_, _/_, _%_, _≤_, _<_};
-ghost use lib.ListN.{length, take, drop, getD};
+ghost use lib.ListN.{length, take, drop};
 ghost use lib.Seq.{paste};
 ghost use Rattle.grammar.specs.Formula.{nameAt, partOf};
 ghost use Rattle.slices.specs.Bytes.{low32, wordsIn};
@@ -17,7 +17,7 @@ ghost use Rattle.machine.specs.Machine.{runFault, judgeFault, InSlot, ClaimOn};
 ghost use Rattle.calls.specs.Work.{CallOfFormula, CallOfClaim};
 ghost use Rattle.signals.specs.Answers.{writtenOf, outputOf, verdictFor};
 ghost use Rattle.operations.specs.Calls.{roomFault};
-ghost use Rattle.calls.specs.Calls.{wordsOn, callAnswer, callOutput, claimFails, claimAnswer};
+ghost use Rattle.calls.specs.Calls.{wordsOn, claimFails};
 ghost use Rattle.grammar.specs.Formula.{formulaTree};
 ghost use Rattle.grammar.specs.Parts.{parts};
 ghost use Rattle.calls.specs.OnSheet.{exactOn};

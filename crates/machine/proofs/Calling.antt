@@ -1,21 +1,15 @@
 -- The formula call and the claim from their pieces: the faults in document 01's order, the words, the verdict.
-use Prim.Native.Nat.{ℕ, zero, suc, _+_, _*_, _≤_, _<_, max}
+use Prim.Native.Nat.{ℕ, _+_, _≤_, _<_}
 use native.Mathlib.Omega.{arith}
-use mathlib.Core.Path.{_≡_, refl, sym, _∙_, ap}
-use mathlib.Core.Bool.{Bool, true, false, cond}
-use mathlib.Core.List.{List, [], _∷_, _++_}
-use lib.Dec.{eqb, ltb}
-use lib.ListN.{length, take, drop}
+use mathlib.Core.Path.{_≡_, refl, sym, _∙_}
+use mathlib.Core.List.{List}
+use lib.ListN.{length, take}
 use lib.Seq.{paste, length-take-le}
-use borrow.Author.Tests.{lt-ltb, le-ltb, eq-eqb, ne-eqb}
-use Rattle.signals.specs.Words.{listFault, signalOf, lastDate}
-use Rattle.signals.specs.Implication.{verdictOf}
+use borrow.Author.Tests.{lt-ltb, le-ltb}
 use Rattle.signals.specs.Answers.{writtenOf, outputOf}
 use Rattle.signals.specs.declared.Written.{Written}
 use Rattle.signals.specs.declared.Written.the-variants as written
-use Rattle.signals.specs.declared.Verdict.{Verdict}
 use Rattle.signals.specs.declared.Verdict.the-variants as verdict
-use Rattle.signals.proofs.Settling.{settled-later}
 use Rattle.questions.specs.Questions as questions
 use Rattle.operations.proofs.JudgedCalls.{refused, passes-on}
 use Rattle.grammar.specs.Tree.{Tree}
@@ -24,15 +18,12 @@ use Rattle.grammar.specs.Formula.{codeOf, formulaTree}
 use Rattle.grammar.specs.Parts.{parts}
 use Rattle.signals.proofs.AnyDate.{one-verdict}
 use Rattle.format.specs.Reading.{sheetFault}
-use Rattle.calls.specs.OnSheet.{exactOn, signalOn, settlingDate}
-use Rattle.calls.specs.Calls.{readingFault, workFault, neededWork, partsFault, workingFault, wordsOn, callFault, callAnswer, callOutput}
-use Rattle.calls.specs.Calls.{claimFault, claimVerdict, claimAnswer}
+use Rattle.calls.specs.OnSheet.{exactOn}
+use Rattle.calls.specs.Calls.{readingFault, workFault, neededWork, workingFault, wordsOn, callFault, callAnswer, callOutput}
 use Rattle.operations.specs.Calls.{roomFault}
-use Rattle.calls.proofs.Settles.{settles}
 use Rattle.calls.proofs.NotRefused.{work-ok, work-short}
-use Rattle.machine.specs.Machine.{InSlot, Plan, WorkedOut, Prepared, Coded, runFault, partsIn}
-use Rattle.calls.specs.Work.{firstFault, firstClaimFault}
-use Rattle.machine.proofs.Exact.{signal-is, settled-at}
+use Rattle.machine.specs.Machine.{Plan, WorkedOut, Prepared, Coded, runFault}
+use Rattle.calls.specs.Work.{firstFault}
 use Rattle.machine.proofs.Stepping.{counted, refused-by}
 use Rattle.machine.proofs.SlotFacts.{short}
 use Rattle.signals.specs.Answers.{firstOf}
@@ -116,9 +107,6 @@ read-fine sheet text codes n answer p e = counted (readingFault sheet text) (cod
 pub read-refused : (sheet text codes : List ℕ) (f : ℕ) (answer : Written) → Prepared sheet text codes answer → answer ≡ written.Refused f →
     (readingFault sheet text ≡ f) × (f ≡ 0 → ⊥)
 read-refused sheet text codes f answer p e = refused-by (readingFault sheet text) (codeOf text) f (sym (p .answer-is) ∙ e)
-
-pub plan : (sheet text codes : List ℕ) (n : ℕ) → Coded sheet text codes n → Plan sheet text codes n
-plan sheet text codes n c = record { tree = formulaTree text; parts-are = c .parts-are; all-known = c .known }
 
 -- the call
 module _ (sheet formula work out : List ℕ) where

@@ -1,6 +1,6 @@
 -- A step by its part: what is ready for the part, and what is promised of it, under another name of the part.
 use Prim.Native.Nat.{ℕ}
-use mathlib.Core.Path.{_≡_, refl, sym, _∙_, ap}
+use mathlib.Core.Path.{_≡_}
 use mathlib.Core.List.{List}
 use Rattle.grammar.specs.Tree.{Leaf}
 use Rattle.grammar.specs.Code.{Part, operand}

@@ -1,16 +1,16 @@
 -- The exact answer of an operation on its operands' normal lists is the normal list of the tree that it makes.
-use Prim.Native.Nat.{ℕ, _+_, _≤_, _<_, max}
+use Prim.Native.Nat.{ℕ, _≤_}
 use native.Mathlib.Omega.{arith}
-use mathlib.Core.Path.{_≡_, refl, sym, _∙_, ap, fun-ext}
+use mathlib.Core.Path.{_≡_, refl, _∙_, ap, fun-ext}
 use mathlib.Core.Bool.{Bool, true, false, cond, _&&_, _||_}
-use mathlib.Core.List.{List, [], _∷_}
+use mathlib.Core.List.{List}
 use lib.Dec.{ltb}
 use lib.ListN.{length}
 use borrow.Author.Tests.{ltb-false}
 use Rattle.signals.specs.Signal.{Signal, NOT, rising, falling, SR, RS, TON, TOF, AND, OR, connective, cell}
 use Rattle.signals.specs.Words.{signalOf, lastDate, listOf, listFault}
-use Rattle.signals.specs.Settled.{SettledFrom, Same}
-use Rattle.signals.proofs.Settling.{settling, settled-later}
+use Rattle.signals.specs.Settled.{SettledFrom}
+use Rattle.signals.proofs.Settling.{settling}
 use Rattle.signals.proofs.Normal.{accepted-settled, accepted-normal}
 use Rattle.operations.specs.Calls.{exactOfOne, exactOfTwo, exactOfDelay, changesAfterM}
 use Rattle.grammar.specs.Tree.{Tree, Unary, Binary, unary, binary, invert, rise, fall, ton, tof, and, or, sr, rs, applyUnary, applyBinary}

@@ -2,16 +2,15 @@
 use Prim.Native.Nat.{ℕ, _+_, suc, _/_, _%_, zero, _≤_, _<_, _^_}
 use native.Mathlib.Omega.{arith}
 use mathlib.Core.Path.{_≡_, refl, sym, _∙_, ap}
-use mathlib.Core.Bool.{Bool, true, false, cond}
+use mathlib.Core.Bool.{Bool, true, false}
 use mathlib.Core.List.{List, [], _∷_, _++_}
-use lib.Dec.{eqb, ltb}
 use lib.ListN.{length, take, drop, getD, set}
 use lib.Seq.{paste, set-split, append-snoc}
 use native.Mathlib.Numerals.{add-one}
 use borrow.Author.Tests.{eq-eqb, ne-eqb, le-ltb}
 use Rattle.signals.specs.Moment.{M}
 use Rattle.signals.specs.Signal.{constant, num}
-use Rattle.signals.specs.Words.{listOf, wordsOf, listFault, signalOf, lastDate, dateOf}
+use Rattle.signals.specs.Words.{listOf, wordsOf, dateOf}
 use Rattle.signals.proofs.WordFacts.{date-le}
 use Rattle.operations.specs.Calls.{changesAfterM}
 use Rattle.slices.specs.Bytes.{Bytes, wordsIn}
@@ -28,7 +27,7 @@ use Rattle.format.specs.Theorems.{decoded, PartIsList}
 use Rattle.format.proofs.Theorems.{lookup-gives-the-list}
 use Rattle.signals.proofs.Normal.{read-back, accepted-normal}
 use Rattle.operations.specs.Calls.{partFault}
-use Rattle.calls.specs.OnSheet.{exactOn, settlingDate, signalOn}
+use Rattle.calls.specs.OnSheet.{exactOn, settlingDate}
 use Rattle.machine.specs.Machine.{leafOf, leafKnown, Loaded}
 use Rattle.machine.proofs.SlotFacts.{short}
 use Rattle.machine.proofs.Putting.{words-length}

@@ -1,16 +1,13 @@
 -- Working all the parts out: what the loop keeps, one turn, and its end.
-use Prim.Native.Nat.{ℕ, zero, suc, _+_, _*_, _-_, _≤_, _<_}
+use Prim.Native.Nat.{ℕ, _+_, _*_, _-_, _≤_, _<_}
 use native.Mathlib.Omega.{arith}
 use native.Mathlib.Numerals.{add-one}
 use mathlib.Core.Path.{_≡_, refl, sym, _∙_, ap}
-use mathlib.Core.Bool.{Bool, true, false, cond}
-use mathlib.Core.List.{List, [], _∷_, _++_, map}
-use lib.ListN.{length, take, drop, getD, set, length-take, length-drop, length-map, drop-of-length-le}
+use mathlib.Core.List.{List, [], _∷_, map}
+use lib.ListN.{length, take, drop, getD, set, length-drop, length-map, drop-of-length-le}
 use lib.Seq.{drop-cons, getD-take, length-take-le}
-use lib.Dec.{eqb}
 use borrow.Author.Tests.{eq-eqb, ne-eqb}
 use Rattle.signals.specs.Answers.{writtenOf}
-use Rattle.signals.specs.declared.Written.{Written}
 use Rattle.signals.specs.declared.Written.the-variants.{Count, Refused}
 use Rattle.grammar.specs.Tree.{Tree}
 use Rattle.grammar.specs.Code.{Part, operand, one, two, code, work, top}
@@ -22,7 +19,7 @@ use Rattle.calls.specs.OnSheet.{exactOn}
 use Rattle.calls.specs.Calls.{partsFault}
 use Rattle.operations.specs.Calls.{partFault}
 use Rattle.machine.specs.declared.Next.{Next}
-use Rattle.machine.specs.Machine.{InSlot, Stacked, Enough, Known, AllKnown, Stepped, Steps, Ready, worked, trace, partsIn, Plan}
+use Rattle.machine.specs.Machine.{InSlot, Stacked, Enough, AllKnown, Stepped, Steps, Ready, worked, trace, partsIn, Plan}
 use Rattle.machine.specs.Machine.{WorkedOut}
 use Rattle.machine.proofs.Tracing.{trace-code, work-all, work-step, low-enough, grows-by-one}
 use Rattle.signals.specs.Answers.{firstOf}

@@ -1,14 +1,14 @@
 -- Reading a formula for a sheet: its code words, its names on the sheet, its lengths.
-use Prim.Native.Nat.{ℕ, zero, suc, _+_, _/_, _%_, _≤_, _<_, max}
+use Prim.Native.Nat.{ℕ, _+_, _/_, _%_, _≤_, _<_}
 use native.Mathlib.Decide.{ℕ-discrete}
 use native.Mathlib.Omega.{arith}
 use mathlib.Core.Path.{_≡_, refl, sym, _∙_, ap}
 use mathlib.Core.Bool.{Bool, true, false, cond, not, _&&_, _||_, and-assoc, and-true}
 use mathlib.Core.List.{List, [], _∷_, _++_, map}
 use lib.Dec.{eqb, ltb}
-use lib.ListN.{length, take, drop, getD, length-map}
+use lib.ListN.{length, drop, getD, length-map}
 use lib.Seq.{take-at}
-use borrow.Author.Tests.{eq-eqb, ne-eqb, ltb-true, ltb-false}
+use borrow.Author.Tests.{ltb-true, ltb-false}
 use Rattle.signals.specs.Moment.{M}
 use Rattle.signals.specs.Answers.{writtenOf}
 use Rattle.signals.specs.declared.Written.{Written}
@@ -28,10 +28,10 @@ use Rattle.format.specs.Calls.{lookupFault}
 use Rattle.format.proofs.Steps.{same-equal}
 use Rattle.calls.specs.OnSheet.{namesFound, leafFound}
 use Rattle.calls.specs.Calls.{readingFault}
-use Rattle.calls.proofs.FirstFault.{passed, missed}
+use Rattle.calls.proofs.FirstFault.{passed}
 use Rattle.calls.proofs.ReadingFaults.{derived}
 use Rattle.format.proofs.SheetLists.{Sound, AllSound, sheet-sound}
-use Rattle.machine.specs.Machine.{leafOf, leafKnown, Known, AllKnown, partsIn, partFound, allFound, Prepared}
+use Rattle.machine.specs.Machine.{leafOf, AllKnown, partsIn, partFound, allFound, Prepared}
 use Rattle.machine.proofs.Leaves.{leaf-name, leaf-up, leaf-down}
 use Rattle.machine.proofs.PartCodes.{part-leaf-low, part-leaf-high, part-unary, part-binary}
 use Rattle.machine.proofs.Stepping.{counted, refused-by}

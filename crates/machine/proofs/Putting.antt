@@ -4,9 +4,9 @@ use native.Mathlib.Omega.{arith}
 use native.Mathlib.Numerals.{add-one}
 use native.Mathlib.Nat.{add-zero}
 use mathlib.Core.Path.{_≡_, refl, sym, _∙_, ap}
-use mathlib.Core.List.{List, [], _∷_, _++_}
-use lib.ListN.{length, take, drop, getD, set, length-drop, drop-of-length-le, length-set}
-use lib.Seq.{paste, paste-suc, paste-zero, take-all, take-nil, drop-drop, getD-drop}
+use mathlib.Core.List.{List, []}
+use lib.ListN.{length, take, drop, getD, set, length-drop, drop-of-length-le}
+use lib.Seq.{paste, paste-suc, take-all, take-nil, drop-drop, getD-drop}
 use Rattle.grammar.specs.Formula.{nameAt}
 use Rattle.slices.specs.Bytes.{low32, wordsIn}
 

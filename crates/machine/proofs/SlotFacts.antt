@@ -3,8 +3,8 @@ use Prim.Native.Nat.{ℕ, zero, suc, _+_, _*_, _-_, _≤_, _<_}
 use native.Mathlib.Omega.{arith}
 use mathlib.Core.Path.{_≡_, refl, sym, _∙_, ap}
 use mathlib.Core.List.{List, [], _∷_, _++_, append-assoc}
-use lib.ListN.{length, take, drop, getD, set, length-append, length-take, take-append-drop}
-use lib.Seq.{paste, take-append-le, drop-append-le, take-at, drop-at, length-take-le, getD-set-same, getD-set-other, take-length, take-take}
+use lib.ListN.{length, take, drop, getD, set, take-append-drop}
+use lib.Seq.{paste, take-append-le, drop-append-le, take-at, drop-at, length-take-le, getD-set-same, getD-set-other}
 use Rattle.signals.specs.Words.{listFault}
 use Rattle.grammar.specs.Tree.{Tree}
 use Rattle.signals.proofs.Normal.{accepted-normal}
@@ -39,14 +39,7 @@ here d s at n hd hs =
 pub short : (l : List ℕ) → listFault l ≡ 0 → length l ≤ 256
 short l h = accepted-normal l .0 h .1
 
--- a list put into a slot
-pub put-slot : (work words : List ℕ) (slot : ℕ) (l : List ℕ) → 256 * slot ≤ length work → take (length l) words ≡ l
-    → length l ≤ length words → listFault l ≡ 0
-    → InSlot (paste work (256 * slot) words (length l)) slot (length l) l
-put-slot work words slot l room front-is enough ok =
-    record { long = refl; stands = here work words (256 * slot) (length l) room enough ∙ front-is; accepted = ok }
-
--- the slots below
+-- the slots below the one that a list is put into
 pub keep-slots : (sheet work words counts : List ℕ) (base h n c : ℕ) (st : List Tree) → length st ≤ h → 256 * (base + h) ≤ length work
     → Stacked sheet work counts base st → Stacked sheet (paste work (256 * (base + h)) words n) (set counts h c) base st
 keep-slots sheet work words counts base h n c [] le room s = tt

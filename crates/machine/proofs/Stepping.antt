@@ -1,14 +1,13 @@
 -- One part worked out on the stack: what its operands' slots hold, and the stack after it.
-use Prim.Native.Nat.{ℕ, zero, suc, _+_, _*_, _-_, _/_, _≤_, _<_}
+use Prim.Native.Nat.{ℕ, suc, _+_, _*_, _-_, _≤_}
 use native.Mathlib.Omega.{arith}
 use mathlib.Core.Path.{_≡_, refl, sym, _∙_, ap}
 use mathlib.Core.Bool.{Bool, true, false, cond}
-use mathlib.Core.List.{List, [], _∷_, _++_}
+use mathlib.Core.List.{List, [], _∷_}
 use lib.Dec.{eqb}
-use lib.ListN.{length, take, drop, getD, set, length-take, length-drop}
+use lib.ListN.{length, take, drop, getD, set}
 use lib.Seq.{paste, take-length}
 use borrow.Author.Tests.{eqb-true, eqb-false}
-use Rattle.signals.specs.Moment.{M}
 use Rattle.signals.specs.Words.{listFault}
 use Rattle.signals.specs.Answers.{writtenOf}
 use Rattle.signals.specs.declared.Written.{Written}
@@ -18,8 +17,7 @@ use Rattle.grammar.specs.Code.{Part, operand, one, two, ticksOf, top}
 use Rattle.format.specs.Reading.{sheetFault}
 use Rattle.calls.specs.OnSheet.{exactOn}
 use Rattle.operations.specs.Calls.{partFault}
-use Rattle.machine.specs.declared.Next.{Next}
-use Rattle.machine.specs.Machine.{InSlot, Stacked, Enough, Known, Stepped, Ready, Room, Loaded, unaryExact, binaryExact, worked}
+use Rattle.machine.specs.Machine.{InSlot, Stacked, Enough, Stepped, Ready, Room, Loaded, unaryExact, binaryExact}
 use Rattle.machine.proofs.SlotFacts.{short, push-slot, below}
 use Rattle.machine.proofs.Exact.{unary-exact, binary-exact, accepted-part}
 use Rattle.machine.proofs.Applying.{Applied, part-none}

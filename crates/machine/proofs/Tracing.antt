@@ -1,9 +1,9 @@
 -- A tree's parts in working-out order make its subtrees in that order, on a stack that never runs out and stays low.
-use Prim.Native.Nat.{ℕ, zero, suc, _+_, _≤_, _<_}
+use Prim.Native.Nat.{ℕ, suc, _+_, _≤_}
 use native.Mathlib.Omega.{arith}
 use mathlib.Core.Path.{_≡_, refl, sym, _∙_, ap}
 use mathlib.Core.List.{List, [], _∷_, _++_, append-assoc, append-nil}
-use lib.ListN.{length, length-append}
+use lib.ListN.{length}
 use Rattle.grammar.specs.Tree.{Tree, Leaf, Unary, Binary, leaf, unary, binary}
 use Rattle.grammar.specs.Code.{Part, operand, one, two, code, work, top}
 use Rattle.grammar.proofs.Working.{worked as work-code}

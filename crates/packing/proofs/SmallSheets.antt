@@ -3,7 +3,7 @@ use Prim.Native.Nat.{ℕ, zero, suc, _+_, _-_, _*_, _<_, _≤_}
 use native.Mathlib.Omega.{arith}
 use mathlib.Core.Path.{_≡_, refl, sym, ap, _∙_}
 use mathlib.Core.Bool.{Bool, true, false, not, cond, _||_}
-use mathlib.Core.Logic.{_⊎_, inl, inr}
+use mathlib.Core.Logic.{inl, inr}
 use mathlib.Core.List.{List, [], _∷_, _++_}
 use lib.Dec.{eqb, ltb, leb}
 use lib.ListN.{length, drop, length-append, length-drop}
@@ -13,8 +13,7 @@ use Rattle.signals.specs.Answers.{writtenOf}
 use Rattle.slices.specs.Bytes.{bytes16}
 use Rattle.names.specs.Names.{wellNamed}
 use Rattle.format.specs.Names.{among}
-use Rattle.format.specs.Reading.{signalSize, wordCount, nameAt, signalFault, signalsFault, sheetFault, countOn, signalsOn, names, Entry}
-use Rattle.format.specs.Reading.{entry}
+use Rattle.format.specs.Reading.{signalSize, wordCount, nameAt, signalFault, signalsFault, sheetFault, countOn, signalsOn, names, Entry, entry}
 use Rattle.format.specs.Writing.{entryBytes, entriesBytes, sheetBytes}
 use Rattle.format.specs.Calls.{faultOfPlace, beginFault, lookupFault, placeOf, appended, appendFault}
 use Rattle.format.specs.declared.Place.{Place}

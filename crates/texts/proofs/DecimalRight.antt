@@ -1,13 +1,13 @@
 -- The printed digits of a number write it, without needless leading zeros.
-use Prim.Native.Nat.{ℕ, zero, suc, _+_, _*_, _-_, _/_, _%_, _^_, _≤_, _<_}
-use native.Mathlib.Nat.{pow-suc, div-lt-iff-lt-mul, div-add-mod'}
+use Prim.Native.Nat.{ℕ, zero, suc, _+_, _*_, _-_, _/_, _^_, _<_}
+use native.Mathlib.Nat.{pow-suc, div-lt-iff-lt-mul}
 use native.Mathlib.Omega.{arith}
 use mathlib.Core.Path.{_≡_, refl, sym, ap, _∙_}
 use mathlib.Core.Bool.{Bool, true, false, not, cond, _&&_, _||_}
 use mathlib.Core.List.{List, [], _∷_, _++_}
-use lib.Dec.{leb, eqb}
+use lib.Dec.{eqb}
 use lib.ListN.{length}
-use borrow.Author.Tests.{ne-eqb, eq-eqb, le-leb, eqb-true, eqb-false}
+use borrow.Author.Tests.{ne-eqb, le-leb, eqb-true, eqb-false}
 use Rattle.names.proofs.Truth.{and-left, and-right}
 use Rattle.names.specs.Names.{digit as isDigit, allOf}
 use Rattle.texts.specs.Lengths.{isLength, valueFrom, value}

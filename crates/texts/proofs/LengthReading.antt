@@ -1,17 +1,16 @@
 -- A text read as a length: digits, needless zeros, and the number that it writes up to M + 1.
-use Prim.Native.Nat.{ℕ, zero, suc, _+_, _*_, _-_, _≤_, _<_}
+use Prim.Native.Nat.{ℕ, _+_, _*_, _-_, _≤_, _<_}
 use native.Mathlib.Omega.{arith}
 use mathlib.Core.Path.{_≡_, refl, sym, ap, _∙_}
-use mathlib.Core.Bool.{Bool, true, false, not, cond, _&&_, _||_}
+use mathlib.Core.Bool.{Bool, true, false, _&&_}
 use mathlib.Core.List.{List, [], _∷_}
-use lib.Dec.{leb, ltb, eqb}
+use lib.Dec.{leb}
 use lib.ListN.{length, getD, drop}
 use borrow.Author.Tests.{ne-eqb, eq-eqb, lt-ltb, le-ltb, le-leb, lt-leb}
 use Rattle.slices.proofs.Steps.{drop-step, drop-end}
 use Rattle.signals.specs.Moment.{M}
 use Rattle.texts.specs.Lengths.{isLength, valueFrom, value, capped, lengthRead}
 use Rattle.names.specs.Names.{digit as isDigit, allOf}
-use Rattle.texts.specs.declared.Read.{Read}
 use Rattle.texts.specs.declared.Read.the-variants as read
 
 -- a byte that is a digit

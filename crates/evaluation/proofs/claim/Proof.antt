@@ -1,6 +1,5 @@
 -- `evaluation::claim` meets its contract: each return is the first fault in document 01's order, or the verdict.
-use native.Mathlib.Omega.{arith}
-use mathlib.Core.Path.{_≡_, refl, sym, _∙_, ap}
+use mathlib.Core.Path.{sym, _∙_}
 use Rattle.machine.proofs.Calling.{coded, read-fine, read-refused}
 use Rattle.machine.proofs.Claiming.{claim-sheet, claim-reading, claim-goes-on}
 use borrow.Author.Needs.{needs}

@@ -1,6 +1,4 @@
 -- `evaluation::claim_on` meets its contract: G's 10, 11, 8, 12, 13, then 18, then the parts and the verdict.
-use native.Mathlib.Omega.{arith}
-use mathlib.Core.Path.{_≡_, refl, sym, _∙_, ap}
 use Rattle.machine.proofs.Calling.{coded, read-fine, read-refused}
 use Rattle.machine.proofs.Claiming.{on-reading, on-work, on-judged}
 use borrow.Author.Needs.{needs}

@@ -2,7 +2,6 @@
 use native.Mathlib.Omega.{arith}
 use mathlib.Core.Path.{sym}
 use lib.Seq.{length-take-le}
-use Rattle.machine.proofs.Calling.{plan}
 use Rattle.machine.proofs.Claiming.{compare-refused, compare-short, compare-done}
 use borrow.Author.Needs.{needs}
 use Rattle.evaluation.proofs.compare.Statement.{statement}

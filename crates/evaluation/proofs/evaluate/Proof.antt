@@ -1,6 +1,5 @@
 -- `evaluation::evaluate` meets its contract: each return is the first fault in document 01's order, or the words.
-use native.Mathlib.Omega.{arith}
-use mathlib.Core.Path.{_≡_, refl, sym, _∙_, ap}
+use mathlib.Core.Path.{sym, _∙_}
 use Rattle.machine.proofs.Calling.{call-sheet, call-reading, call-work, call-run, coded, read-fine, read-refused}
 use borrow.Author.Needs.{needs}
 use Rattle.evaluation.proofs.evaluate.Statement.{statement}

@@ -1,6 +1,5 @@
 -- `evaluation::judge` meets its contract: F's 5 or 6, then G's and the verdict.
 use native.Mathlib.Omega.{arith}
-use Rattle.machine.proofs.Calling.{plan}
 use Rattle.machine.proofs.Claiming.{judge-refused, judge-short, judge-done}
 use borrow.Author.Needs.{needs}
 use Rattle.evaluation.proofs.judge.Statement.{statement}

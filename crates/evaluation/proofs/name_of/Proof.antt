@@ -1,5 +1,4 @@
 -- `evaluation::name_of` gives a part of the text, cut at its end.
-use native.Mathlib.Omega.{arith}
 use native.Mathlib.Nat.{add-sub-cancel-left}
 use mathlib.Core.Path.{refl}
 use Rattle.machine.proofs.Putting.{name-none, name-rest, name-whole}

@@ -2,8 +2,7 @@
 use borrow.Author.Needs.{needs}
 use Prim.Native.Nat.{_≤_, _-_}
 use native.Mathlib.Omega.{arith}
-use mathlib.Core.Path.{_≡_, refl, sym, _∙_, ap}
-use mathlib.Core.Bool.{_&&_}
+use mathlib.Core.Path.{_≡_, sym, _∙_}
 use Rattle.machine.specs.Machine.{allFound, partsIn}
 use Rattle.machine.proofs.Looping.{rest}
 use Rattle.machine.proofs.Preparing.{all-of, next-true, next-false, none-left}

@@ -1,7 +1,7 @@
 -- `evaluation::on_one` meets its contract: the operator's answer takes the place of its operand's list.
 use native.Mathlib.Omega.{arith}
-use mathlib.Core.Path.{_≡_, refl, sym, _∙_}
-use Rattle.machine.proofs.Stepping.{OneTop, one-top, one-fits, one-accepted, answer-short, one-counted, one-refused}
+use mathlib.Core.Path.{refl}
+use Rattle.machine.proofs.Stepping.{one-fits, one-accepted, answer-short, one-counted, one-refused}
 use Rattle.machine.proofs.Applying.{part-done}
 use borrow.Author.Needs.{needs}
 use Rattle.evaluation.proofs.on_one.Statement.{statement}

@@ -1,6 +1,6 @@
 -- `evaluation::on_two` meets its contract: the operator's answer takes the place of its first operand's list.
 use native.Mathlib.Omega.{arith}
-use mathlib.Core.Path.{_≡_, refl, sym, _∙_}
+use mathlib.Core.Path.{refl}
 use Rattle.machine.proofs.Stepping.{two-fits, two-accepted, answer-short, two-counted, two-refused}
 use Rattle.machine.proofs.Applying.{part-done}
 use borrow.Author.Needs.{needs}

@@ -1,7 +1,7 @@
 -- `evaluation::prepare` meets its contract: the formula is read, then its names are looked up.
 use native.Mathlib.Omega.{arith}
 use lib.ListN.{length}
-use mathlib.Core.Path.{_≡_, refl, sym, _∙_, ap}
+use mathlib.Core.Path.{_≡_, _∙_, ap}
 use Rattle.grammar.proofs.Storing.{code-after-length}
 use Rattle.machine.proofs.Preparing.{prepare-refused, prepare-found, prepare-lacking, count-short}
 use borrow.Author.Needs.{needs}

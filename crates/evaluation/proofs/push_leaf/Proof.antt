@@ -1,5 +1,4 @@
 -- `evaluation::push_leaf` meets its contract: the leaf's list is loaded into the slot above the stack.
-use native.Mathlib.Omega.{arith}
 use mathlib.Core.Path.{refl}
 use Rattle.machine.proofs.Leaves.{leaf-fault}
 use Rattle.machine.proofs.Stepping.{leaf-pushed}

@@ -1,6 +1,6 @@
 -- `evaluation::run_formula` meets its contract: the formula is worked out, and its words are handed over.
 use native.Mathlib.Omega.{arith}
-use Rattle.machine.proofs.Calling.{run-refused, run-fits, run-counted, plan}
+use Rattle.machine.proofs.Calling.{run-refused, run-fits, run-counted}
 use borrow.Author.Needs.{needs}
 use Rattle.evaluation.proofs.run_formula.Statement.{statement}
 use Rattle.evaluation.proofs.run_formula.Tie as tie

@@ -1,6 +1,4 @@
 -- `evaluation::step` meets its contract: the kind of the code word says which part it stands for.
-use native.Mathlib.Omega.{arith}
-use mathlib.Core.Path.{_≡_, refl, sym, _∙_}
 use Rattle.machine.proofs.PartCodes.{part-leaf-low, part-leaf-high, part-unary, part-binary}
 use Rattle.machine.proofs.Dispatch.{ready-as, steps-as, ready-leaf}
 use borrow.Author.Needs.{needs}

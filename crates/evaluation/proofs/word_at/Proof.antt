@@ -1,5 +1,4 @@
 -- `evaluation::word_at` gives the word at a place of bytes.
-use mathlib.Core.Path.{_≡_, refl, sym, _∙_, ap}
 use Rattle.machine.proofs.Putting.{word-of-bytes}
 use borrow.Author.Needs.{needs}
 use Rattle.evaluation.proofs.word_at.Statement.{statement}

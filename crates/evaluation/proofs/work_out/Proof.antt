@@ -1,9 +1,9 @@
 -- `evaluation::work_out` meets its contract: the slots hold the lists of the trees on the stack, and no part so far met a fault.
 use borrow.Author.Needs.{needs}
-use Prim.Native.Nat.{ℕ, _+_, _-_, _≤_, _<_}
+use Prim.Native.Nat.{_-_}
 use native.Mathlib.Omega.{arith}
-use mathlib.Core.Path.{_≡_, refl, sym, _∙_, ap}
-use lib.ListN.{length, length-set, length-replicate}
+use mathlib.Core.Path.{_≡_, refl, sym, _∙_}
+use lib.ListN.{length, length-set}
 use Rattle.grammar.specs.Tree.{Tree}
 use Rattle.grammar.specs.Code.{code}
 use Rattle.machine.specs.Machine.{partsIn}

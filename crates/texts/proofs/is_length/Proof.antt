@@ -1,7 +1,7 @@
 -- `texts::is_length` meets its contract.
 use borrow.Author.Needs.{needs}
 use denote.Ref.{now}
-use mathlib.Core.Path.{_≡_, sym, _∙_}
+use mathlib.Core.Path.{sym, _∙_}
 use Rattle.texts.proofs.LengthReading.{not-empty, one-byte, needless-zero, more-bytes}
 use Rattle.texts.proofs.is_length.Statement.{statement}
 use Rattle.texts.proofs.is_length.Tie as tie

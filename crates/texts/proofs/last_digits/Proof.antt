@@ -1,7 +1,6 @@
 -- `texts::last_digits` meets its contract: the digits still to be put and those that stand at the end of the array are the number's.
-use borrow.Author.Needs.{needs}
 use native.Mathlib.Omega.{arith}
-use mathlib.Core.Path.{_≡_, refl, sym, ap, _∙_, subst}
+use mathlib.Core.Path.{_≡_}
 use Rattle.texts.proofs.Digits.{Put, put-first, put-place, put-next, put-all}
 use Rattle.texts.proofs.last_digits.Statement.{statement}
 use Rattle.texts.proofs.last_digits.Tie as tie

@@ -2,7 +2,7 @@
 use borrow.Author.Needs.{needs}
 use native.Mathlib.Omega.{arith}
 use denote.Ref.{now}
-use mathlib.Core.Path.{_≡_, sym, _∙_}
+use mathlib.Core.Path.{sym, _∙_}
 use Rattle.texts.proofs.LengthReading.{no-length, above, ticks-read}
 use Rattle.texts.proofs.read_length.Statement.{statement}
 use Rattle.texts.proofs.read_length.Tie as tie

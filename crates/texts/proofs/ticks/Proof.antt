@@ -1,6 +1,5 @@
 -- `texts::ticks` meets its contract: the number so far and the digits that are left write the whole, up to M + 1.
 use borrow.Author.Needs.{needs}
-use native.Mathlib.Omega.{arith}
 use Prim.Native.Nat.{_-_}
 use denote.Ref.{now}
 use lib.ListN.{length}
