@@ -13,7 +13,8 @@ use Rattle.signals.specs.Answers.{writtenOf}
 use Rattle.slices.specs.Bytes.{bytes16}
 use Rattle.names.specs.Names.{wellNamed}
 use Rattle.format.specs.Names.{among}
-use Rattle.format.specs.Reading.{signalSize, wordCount, nameAt, signalFault, signalsFault, sheetFault, countOn, signalsOn, names, Entry, entry}
+use Rattle.format.specs.Reading.{signalSize, wordCount, nameAt, signalFault, signalsFault, sheetFault, countOn, signalsOn, names, Entry}
+use Rattle.format.specs.Reading.{entry}
 use Rattle.format.specs.Writing.{entryBytes, entriesBytes, sheetBytes}
 use Rattle.format.specs.Calls.{faultOfPlace, beginFault, lookupFault, placeOf, appended, appendFault}
 use Rattle.format.specs.declared.Place.{Place}

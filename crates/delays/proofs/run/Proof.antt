@@ -47,7 +47,8 @@ loop-holds c = (
       ap (onLevel (c .before .before .before .before .before .before .before .before .before .before .before .args .level))
       (c .before .before .before .before .before .before .before .before .held-value .ensures)) _
       (c .before .before .before .before .before .before .first .ensures) _ (c .before .before .before .before .on-level2 .ensures) _
-      (first-word (c .before .before .before .before .before .before .before .before .before .before .before .args .slot .now) _ _ (c .before .before .before .begin .ensures .1)) _ (c .before .before .before .begin .ensures .0) _ (c .upcoming .ensures),
+      (first-word (c .before .before .before .before .before .before .before .before .before .before .before .args .slot .now) _ _
+      (c .before .before .before .begin .ensures .1)) _ (c .before .before .before .begin .ensures .0) _ (c .upcoming .ensures),
 )
 
 past-requires : tie.Need-past-requires Inv-loop μ-loop
@@ -87,7 +88,9 @@ loop-less c =
     (c .before .before .before .before .before .before .before .before .before .before .on-level3 .ensures) _
     (c .before .before .before .before .before .before .before .before .before .follow .ensures) _
     (c .before .before .before .before .before .before .before .before .on-level4 .ensures) _
-    (c .before .before .before .before .before .before .before .follow2 .ensures) _ (c .before .before .before .before .before .on-level5 .ensures) _ (c .before .before .before .before .on-level6 .ensures) _ (c .before .before .before .emit .ensures .1) _ (c .before .before .before .emit .ensures .0) _ (c .upcoming2 .ensures) in
+    (c .before .before .before .before .before .before .before .follow2 .ensures) _
+    (c .before .before .before .before .before .on-level5 .ensures) _ (c .before .before .before .before .on-level6 .ensures) _
+    (c .before .before .before .emit .ensures .1) _ (c .before .before .before .emit .ensures .0) _ (c .upcoming2 .ensures) in
     omega (
       arith,
       next _ _ _ _ _ _ _ _ _ _ (turn .0) .later,
@@ -107,7 +110,8 @@ loop-again c = (
       (c .before .before .before .before .before .before .before .before .before .follow .ensures) _
       (c .before .before .before .before .before .before .before .before .on-level4 .ensures) _
       (c .before .before .before .before .before .before .before .follow2 .ensures) _
-      (c .before .before .before .before .before .on-level5 .ensures) _ (c .before .before .before .before .on-level6 .ensures) _ (c .before .before .before .emit .ensures .1) _ (c .before .before .before .emit .ensures .0) _ (c .upcoming2 .ensures)) .0,
+      (c .before .before .before .before .before .on-level5 .ensures) _ (c .before .before .before .before .on-level6 .ensures) _
+      (c .before .before .before .emit .ensures .1) _ (c .before .before .before .emit .ensures .0) _ (c .upcoming2 .ensures)) .0,
 )
 
 same-length : tie.Need-same-length Inv-loop μ-loop
