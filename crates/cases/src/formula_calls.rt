@@ -6,10 +6,9 @@ use crate::answers::written;
 use crate::shown::answer;
 use crate::shown::number;
 use crate::shown::with_words;
-use fields::notation;
-use fields::notation::argument;
-use fields::notation::copied;
 use fields::part;
+use notation::argument;
+use notation::copied;
 use signals::Written;
 
 // The bytes of a code word's part: of a name by its place in the text and its length.

@@ -7,7 +7,7 @@ use crate::answers::written;
 use crate::shown::with_words;
 use building::SlotAnswer;
 use fields::byte_at;
-use fields::notation::head;
+use notation::head;
 use signals::Date;
 use signals::Length;
 use signals::Told;

@@ -1,17 +1,17 @@
-// Runs the cases of standard input, a line each: a call and its arguments (fields::notation). Empty lines and those that begin with # are
+// Runs the cases of standard input, a line each: a call and its arguments (the crate notation). Empty lines and those that begin with # are
 // skipped. Prints each case, an equals sign and what came out. `keep BYTES` keeps a sheet for the lines after it, `grow` appends and keeps
 // what came out; @ stands for what is kept. tests/models/cases.py makes the lines a second time, by document 01.
 ghost use mathlib.Core.Path.{_≡_};
 ghost use lib.ListN.{length};
 use fields::byte_at;
-use fields::notation::argument;
-use fields::notation::arguments;
-use fields::notation::list;
-use fields::notation::number;
-use fields::notation::place;
-use fields::notation::words;
 use fields::part;
 use libc::STDIN_FILENO;
+use notation::argument;
+use notation::arguments;
+use notation::list;
+use notation::number;
+use notation::place;
+use notation::words;
 use slices::part_after;
 use slices::part_before;
 

@@ -9,9 +9,9 @@ use crate::answers::yes;
 use crate::shown;
 use crate::shown::answer;
 use crate::shown::with_bytes;
-use fields::notation::copied;
 use fields::part;
 use format::Place;
+use notation::copied;
 use signals::Written;
 
 // An output of sevens, so that what a call leaves is seen.

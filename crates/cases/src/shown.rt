@@ -3,7 +3,7 @@ use crate::answers::Answer;
 use crate::answers::PLAIN;
 use crate::answers::YES;
 use fields::byte_at;
-use fields::notation::name;
+use notation::name;
 
 pub fn number(n: u64) {
     io::write_all(1, b" ");

@@ -1,6 +1,4 @@
-// Parts and bytes of a text, and the notation of cases, for the test programs that read their cases.
-pub mod notation;
-
+// Parts and bytes of a text, for the test programs that read their cases.
 ghost use mathlib.Core.Path.{_≡_};
 ghost use lib.ListN.{getD};
 ghost use Rattle.fields.specs.Parts.{partOf};

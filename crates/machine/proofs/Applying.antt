@@ -24,6 +24,7 @@ use Rattle.building.proofs.BuildingLaws.{slot-short}
 use Rattle.grammar.specs.Tree.{Unary, Binary, invert, rise, fall, ton, tof, and, or, sr, rs}
 use Rattle.grammar.specs.Code.{ticksOf}
 use Rattle.operations.specs.Calls.{partFault}
+use Rattle.operations.proofs.CallFaults.{part-none}
 use Rattle.machine.specs.Machine.{Given, partAnswer, unaryOf, binaryOf, unaryExact, binaryExact, AND-table, OR-table}
 use Rattle.signals.specs.Answers.{firstOf}
 use Rattle.signals.proofs.FirstFault.{next-is}
@@ -32,15 +33,6 @@ use Rattle.signals.proofs.FirstFault.{next-is}
 pub record Applied (exact buffer : List ℕ) (answer : Written) : Type 0 where
   pub answer-is : answer ≡ writtenOf (partFault exact) exact
   pub stands : partFault exact ≡ 0 → take (length exact) buffer ≡ exact
-
-pub part-none : (exact : List ℕ) → partFault exact ≡ 0 → (length exact ≤ 256) × (changesAfterM exact ≡ false)
-unfolding partFault
-part-none exact = go (ltb 256 (length exact)) (changesAfterM exact) refl
-  where
-    go : (b c : Bool) → ltb 256 (length exact) ≡ b → _≡_ {A = ℕ} (cond b 5 (cond c 6 0)) 0 → (length exact ≤ 256) × (c ≡ false)
-    go true c e z = absurd (omega arith)
-    go false true e z = absurd (omega arith)
-    go false false e z = (ltb-false 256 (length exact) e, refl)
 
 pub applied : (judged : ℕ) (exact slot : List ℕ) (answer : SlotAnswer) (after : List ℕ) → judged ≡ 0 → 256 ≤ length slot
     → CallInSlot judged exact slot answer after

@@ -20,7 +20,8 @@ use Rattle.operations.specs.Calls.{partFault}
 use Rattle.machine.specs.Machine.{InSlot, Stacked, Enough, Stepped, Ready, Room, Loaded, unaryExact, binaryExact}
 use Rattle.machine.proofs.SlotFacts.{short, push-slot, below}
 use Rattle.machine.proofs.Exact.{unary-exact, binary-exact, accepted-part}
-use Rattle.machine.proofs.Applying.{Applied, part-none}
+use Rattle.machine.proofs.Applying.{Applied}
+use Rattle.operations.proofs.CallFaults.{part-none}
 
 -- what an answer says
 pub counted : (f : ℕ) (l : List ℕ) (n : ℕ) → writtenOf f l ≡ Count n → (f ≡ 0) × (n ≡ length l)

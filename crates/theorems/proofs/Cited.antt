@@ -21,9 +21,6 @@ calls-OneEngine-OneEngineWhereAnswered = Rattle.calls.proofs.OneEngine.one-engi
 pub calls-OneFault-OneFault : Rattle.calls.specs.OneFault.OneFault
 calls-OneFault-OneFault = Rattle.calls.proofs.OneEngine.one-fault
 
-pub calls-OneNameRule-OneNameRule : Rattle.calls.specs.OneNameRule.OneNameRule
-calls-OneNameRule-OneNameRule = Rattle.calls.proofs.OneNameRule.one-name-rule
-
 pub calls-Printed-Printed : Rattle.calls.specs.Printed.Printed
 calls-Printed-Printed = Rattle.calls.proofs.Printed.printed
 
@@ -36,44 +33,86 @@ calls-WrongEngines-SevenShutOut = Rattle.calls.proofs.WrongEngines.seven-shut-o
 pub calls-WrongEngines-ZeroObeysEveryLaw : Rattle.calls.specs.WrongEngines.ZeroObeysEveryLaw
 calls-WrongEngines-ZeroObeysEveryLaw = Rattle.calls.proofs.ZeroObeys.zero-obeys
 
-pub formulas-Exactness-AcceptedCode : Rattle.grammar.specs.Exactness.AcceptedCode
-formulas-Exactness-AcceptedCode = Rattle.grammar.proofs.Coding.accepted-code
+pub claim_line-OneLine-OneLine : Rattle.claim_line.specs.OneLine.OneLine
+claim_line-OneLine-OneLine = Rattle.claim_line.proofs.OneLine.one-line
 
-pub formulas-Exactness-CodeExact : Rattle.grammar.specs.Exactness.CodeExact
-formulas-Exactness-CodeExact = Rattle.grammar.proofs.Coding.code-exact
+pub format-LookupPlace-LookupPlace : Rattle.format.specs.LookupPlace.LookupPlace
+format-LookupPlace-LookupPlace = Rattle.format.proofs.LookupPlace.lookup-place
 
-pub formulas-Exactness-EveryTreeWritten : Rattle.grammar.specs.Exactness.EveryTreeWritten
-formulas-Exactness-EveryTreeWritten = Rattle.grammar.proofs.Writing.every-tree-written
+pub format-PlaceSays-PlaceSays : Rattle.format.specs.PlaceSays.PlaceSays
+format-PlaceSays-PlaceSays = Rattle.format.proofs.PlaceSays.place-says
 
-pub formulas-Exactness-FaultsExact : Rattle.grammar.specs.Exactness.FaultsExact
-formulas-Exactness-FaultsExact = Rattle.grammar.proofs.Reading.faults-exact
+pub format-Sentences-AppendFaultsExact : Rattle.format.specs.Sentences.AppendFaultsExact
+format-Sentences-AppendFaultsExact = Rattle.format.proofs.ExactCalls.append-faults-exact
 
-pub formulas-Exactness-OneTree : Rattle.grammar.specs.Exactness.OneTree
-formulas-Exactness-OneTree = Rattle.grammar.proofs.Reading.one-tree
+pub format-Sentences-LookupFaultsExact : Rattle.format.specs.Sentences.LookupFaultsExact
+format-Sentences-LookupFaultsExact = Rattle.format.proofs.ExactCalls.lookup-faults-exact
 
-pub formulas-Exactness-PartsExact : Rattle.grammar.specs.Exactness.PartsExact
-formulas-Exactness-PartsExact = Rattle.grammar.proofs.Reading.parts-exact
+pub format-Sentences-SheetFaultsExact : Rattle.format.specs.Sentences.SheetFaultsExact
+format-Sentences-SheetFaultsExact = Rattle.format.proofs.ExactSheets.sheet-faults-exact
 
-pub formulas-Exactness-ReaderExact : Rattle.grammar.specs.Exactness.ReaderExact
-formulas-Exactness-ReaderExact = Rattle.grammar.proofs.Reading.reader-exact
+pub format-Theorems-AppendGivesNew : Rattle.format.specs.Theorems.AppendGivesNew
+format-Theorems-AppendGivesNew = Rattle.format.proofs.Theorems.append-gives-new
 
-pub formulas-Places-CodeDetermines : Rattle.grammar.specs.Places.CodeDetermines
-formulas-Places-CodeDetermines = Rattle.grammar.proofs.Working.code-determines
+pub format-Theorems-AppendKeepsOthers : Rattle.format.specs.Theorems.AppendKeepsOthers
+format-Theorems-AppendKeepsOthers = Rattle.format.proofs.Theorems.append-keeps-others
 
-pub formulas-Places-OnePartEnds : Rattle.grammar.specs.Places.OnePartEnds
-formulas-Places-OnePartEnds = Rattle.grammar.proofs.Segments.one-part-ends
+pub format-Theorems-AppendKeepsSheet : Rattle.format.specs.Theorems.AppendKeepsSheet
+format-Theorems-AppendKeepsSheet = Rattle.format.proofs.Theorems.append-keeps-sheet
 
-pub formulas-Places-SegmentReplaced : Rattle.grammar.specs.Places.SegmentReplaced
-formulas-Places-SegmentReplaced = Rattle.grammar.proofs.Segments.segment-replaced
+pub format-Theorems-BegunReadsBack : Rattle.format.specs.Theorems.BegunReadsBack
+format-Theorems-BegunReadsBack = Rattle.format.proofs.Theorems.begun-reads-back
+
+pub format-Theorems-LookupGivesTheList : Rattle.format.specs.Theorems.LookupGivesTheList
+format-Theorems-LookupGivesTheList = Rattle.format.proofs.Theorems.lookup-gives-the-list
+
+pub format-Theorems-OneWriting : Rattle.format.specs.Theorems.OneWriting
+format-Theorems-OneWriting = Rattle.format.proofs.Theorems.one-writing
+
+pub format-Theorems-ReadWritesBack : Rattle.format.specs.Theorems.ReadWritesBack
+format-Theorems-ReadWritesBack = Rattle.format.proofs.Theorems.read-writes-back
+
+pub format-Theorems-WrittenReadsBack : Rattle.format.specs.Theorems.WrittenReadsBack
+format-Theorems-WrittenReadsBack = Rattle.format.proofs.Theorems.written-reads-back
+
+pub grammar-Exactness-AcceptedCode : Rattle.grammar.specs.Exactness.AcceptedCode
+grammar-Exactness-AcceptedCode = Rattle.grammar.proofs.Coding.accepted-code
+
+pub grammar-Exactness-CodeExact : Rattle.grammar.specs.Exactness.CodeExact
+grammar-Exactness-CodeExact = Rattle.grammar.proofs.Coding.code-exact
+
+pub grammar-Exactness-EveryTreeWritten : Rattle.grammar.specs.Exactness.EveryTreeWritten
+grammar-Exactness-EveryTreeWritten = Rattle.grammar.proofs.Writing.every-tree-written
+
+pub grammar-Exactness-FaultsExact : Rattle.grammar.specs.Exactness.FaultsExact
+grammar-Exactness-FaultsExact = Rattle.grammar.proofs.Faults.faults-exact
+
+pub grammar-Exactness-OneTree : Rattle.grammar.specs.Exactness.OneTree
+grammar-Exactness-OneTree = Rattle.grammar.proofs.Reading.one-tree
+
+pub grammar-Exactness-PartsExact : Rattle.grammar.specs.Exactness.PartsExact
+grammar-Exactness-PartsExact = Rattle.grammar.proofs.Reading.parts-exact
+
+pub grammar-Exactness-ReaderExact : Rattle.grammar.specs.Exactness.ReaderExact
+grammar-Exactness-ReaderExact = Rattle.grammar.proofs.Reading.reader-exact
+
+pub grammar-Places-CodeDetermines : Rattle.grammar.specs.Places.CodeDetermines
+grammar-Places-CodeDetermines = Rattle.grammar.proofs.Working.code-determines
+
+pub grammar-Places-EveryPartIsPlaced : Rattle.grammar.specs.Places.EveryPartIsPlaced
+grammar-Places-EveryPartIsPlaced = Rattle.grammar.proofs.Places.every-part-is-placed
+
+pub grammar-Places-EveryPlaceIsAPart : Rattle.grammar.specs.Places.EveryPlaceIsAPart
+grammar-Places-EveryPlaceIsAPart = Rattle.grammar.proofs.Places.every-place-is-a-part
+
+pub grammar-Places-OnePartEnds : Rattle.grammar.specs.Places.OnePartEnds
+grammar-Places-OnePartEnds = Rattle.grammar.proofs.Segments.one-part-ends
+
+pub grammar-Places-SegmentReplaced : Rattle.grammar.specs.Places.SegmentReplaced
+grammar-Places-SegmentReplaced = Rattle.grammar.proofs.Segments.segment-replaced
 
 pub laws-Laws-NumberOfLaws : Rattle.laws.specs.Laws.NumberOfLaws
 laws-Laws-NumberOfLaws = Rattle.laws.proofs.Table.number-of-laws
-
-pub laws-Places-EveryPartIsPlaced : Rattle.laws.specs.Places.EveryPartIsPlaced
-laws-Places-EveryPartIsPlaced = Rattle.laws.proofs.Places.every-part-is-placed
-
-pub laws-Places-EveryPlaceIsAPart : Rattle.laws.specs.Places.EveryPlaceIsAPart
-laws-Places-EveryPlaceIsAPart = Rattle.laws.proofs.Places.every-place-is-a-part
 
 pub laws-Places-RewritingGoesBack : Rattle.laws.specs.Places.RewritingGoesBack
 laws-Places-RewritingGoesBack = Rattle.laws.proofs.Places.rewriting-goes-back
@@ -108,77 +147,29 @@ laws-Substitutions-SubstitutionsExact = Rattle.laws.proofs.Substitutions.substi
 pub laws-WrongTurns-WrongTurns : Rattle.laws.specs.WrongTurns.WrongTurns
 laws-WrongTurns-WrongTurns = Rattle.laws.proofs.WrongTurns.wrong-turns
 
-pub questions-Equality-Equality : Rattle.questions.specs.Equality.Equality
-questions-Equality-Equality = Rattle.questions.proofs.Equality.equality
-
-pub tidying-TidyingGives-TidyingGives : Rattle.tidying.specs.TidyingGives.TidyingGives
-tidying-TidyingGives-TidyingGives = Rattle.tidying.proofs.TidyingGives.tidying-gives
-
-pub questions-Implication-Implication : Rattle.questions.specs.Implication.Implication
-questions-Implication-Implication = Rattle.questions.proofs.Implication.implication
-
 pub lists-ReaderSays-ReaderSays : Rattle.lists.specs.ReaderSays.ReaderSays
 lists-ReaderSays-ReaderSays = Rattle.lists.proofs.ReaderSays.reader-says
 
+pub names-Sentence-NamesExact : Rattle.names.specs.Sentence.NamesExact
+names-Sentence-NamesExact = Rattle.names.proofs.NamesExact.names-exact
+
 pub operations-CallFaults-CallFaultsExact : Rattle.operations.specs.CallFaults.CallFaultsExact
-operations-CallFaults-CallFaultsExact = Rattle.operations.proofs.CallFaults.callFaultsExact
+operations-CallFaults-CallFaultsExact = Rattle.operations.proofs.CallFaults.call-faults-exact
 
 pub operations-CallFaults-ChangeIsWord : Rattle.operations.specs.CallFaults.ChangeIsWord
-operations-CallFaults-ChangeIsWord = Rattle.operations.proofs.LateWords.changeIsWord
+operations-CallFaults-ChangeIsWord = Rattle.operations.proofs.LateWords.change-is-word
 
 pub operations-CallFaults-NeverMet : Rattle.operations.specs.CallFaults.NeverMet
-operations-CallFaults-NeverMet = Rattle.operations.proofs.NeverMet.neverMet
+operations-CallFaults-NeverMet = Rattle.operations.proofs.NeverMet.never-met
 
 pub operations-OperationsGive-OperationsGive : Rattle.operations.specs.OperationsGive.OperationsGive
-operations-OperationsGive-OperationsGive = Rattle.operations.proofs.OperationsGive.operationsGive
+operations-OperationsGive-OperationsGive = Rattle.operations.proofs.OperationsGive.operations-give
 
-pub report-Decimal-DecimalRight : Rattle.texts.specs.Decimal.DecimalRight
-report-Decimal-DecimalRight = Rattle.texts.proofs.DecimalRight.decimal-right
+pub questions-Equality-Equality : Rattle.questions.specs.Equality.Equality
+questions-Equality-Equality = Rattle.questions.proofs.Equality.equality
 
-pub report-OneLine-OneLine : Rattle.claim_line.specs.OneLine.OneLine
-report-OneLine-OneLine = Rattle.claim_line.proofs.OneLine.one-line
-
-pub sheets-LookupPlace-LookupPlace : Rattle.format.specs.LookupPlace.LookupPlace
-sheets-LookupPlace-LookupPlace = Rattle.format.proofs.LookupPlace.lookup-place
-
-pub sheets-PlaceSays-PlaceSays : Rattle.format.specs.PlaceSays.PlaceSays
-sheets-PlaceSays-PlaceSays = Rattle.format.proofs.PlaceSays.place-says
-
-pub sheets-Sentences-AppendFaultsExact : Rattle.format.specs.Sentences.AppendFaultsExact
-sheets-Sentences-AppendFaultsExact = Rattle.format.proofs.ExactCalls.append-faults-exact
-
-pub sheets-Sentences-LookupFaultsExact : Rattle.format.specs.Sentences.LookupFaultsExact
-sheets-Sentences-LookupFaultsExact = Rattle.format.proofs.ExactCalls.lookup-faults-exact
-
-pub sheets-Sentences-NamesExact : Rattle.format.specs.Sentences.NamesExact
-sheets-Sentences-NamesExact = Rattle.sheets.proofs.NameRule.names-exact
-
-pub sheets-Sentences-SheetFaultsExact : Rattle.format.specs.Sentences.SheetFaultsExact
-sheets-Sentences-SheetFaultsExact = Rattle.format.proofs.ExactSheets.sheet-faults-exact
-
-pub sheets-Theorems-AppendGivesNew : Rattle.format.specs.Theorems.AppendGivesNew
-sheets-Theorems-AppendGivesNew = Rattle.format.proofs.Theorems.append-gives-new
-
-pub sheets-Theorems-AppendKeepsOthers : Rattle.format.specs.Theorems.AppendKeepsOthers
-sheets-Theorems-AppendKeepsOthers = Rattle.format.proofs.Theorems.append-keeps-others
-
-pub sheets-Theorems-AppendKeepsSheet : Rattle.format.specs.Theorems.AppendKeepsSheet
-sheets-Theorems-AppendKeepsSheet = Rattle.format.proofs.Theorems.append-keeps-sheet
-
-pub sheets-Theorems-BegunReadsBack : Rattle.format.specs.Theorems.BegunReadsBack
-sheets-Theorems-BegunReadsBack = Rattle.format.proofs.Theorems.begun-reads-back
-
-pub sheets-Theorems-LookupGivesTheList : Rattle.format.specs.Theorems.LookupGivesTheList
-sheets-Theorems-LookupGivesTheList = Rattle.format.proofs.Theorems.lookup-gives-the-list
-
-pub sheets-Theorems-OneWriting : Rattle.format.specs.Theorems.OneWriting
-sheets-Theorems-OneWriting = Rattle.format.proofs.Theorems.one-writing
-
-pub sheets-Theorems-ReadWritesBack : Rattle.format.specs.Theorems.ReadWritesBack
-sheets-Theorems-ReadWritesBack = Rattle.format.proofs.Theorems.read-writes-back
-
-pub sheets-Theorems-WrittenReadsBack : Rattle.format.specs.Theorems.WrittenReadsBack
-sheets-Theorems-WrittenReadsBack = Rattle.format.proofs.Theorems.written-reads-back
+pub questions-Implication-Implication : Rattle.questions.specs.Implication.Implication
+questions-Implication-Implication = Rattle.questions.proofs.Implication.implication
 
 pub signals-AnswersSay-AnswersSay : Rattle.signals.specs.AnswersSay.AnswersSay
 signals-AnswersSay-AnswersSay = Rattle.signals.proofs.AnswersSay.answers-say
@@ -251,3 +242,9 @@ signals-Wording-Tests = Rattle.signals.proofs.Wording.tests
 
 pub signals-Wording-Wording : Rattle.signals.specs.Wording.Wording
 signals-Wording-Wording = Rattle.signals.proofs.Wording.wording
+
+pub texts-Decimal-DecimalRight : Rattle.texts.specs.Decimal.DecimalRight
+texts-Decimal-DecimalRight = Rattle.texts.proofs.DecimalRight.decimal-right
+
+pub tidying-TidyingGives-TidyingGives : Rattle.tidying.specs.TidyingGives.TidyingGives
+tidying-TidyingGives-TidyingGives = Rattle.tidying.proofs.TidyingGives.tidying-gives

@@ -2,8 +2,8 @@
 use borrow.Author.Needs.{needs}
 use Prim.Native.Nat.{_-_, _≤_}
 use lib.ListN.{length}
-use Rattle.fields.proofs.notation.name.Statement.{statement}
-use Rattle.fields.proofs.notation.name.Tie as tie
+use Rattle.notation.proofs.name.Statement.{statement}
+use Rattle.notation.proofs.name.Tie as tie
 
 abbrev Inv-loop : tie.InvT-loop
 Inv-loop names k from₀ left₀ i₀ from left i = 0 ≤ 0

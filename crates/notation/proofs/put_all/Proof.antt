@@ -1,19 +1,19 @@
--- The list keeps its length; the words left grow less.
+-- The space keeps its length; what is left of the bytes grows less.
 use borrow.Author.Needs.{needs}
 use Prim.Native.Nat.{_-_}
 use mathlib.Core.Path.{_≡_}
 use lib.ListN.{length}
-use Rattle.fields.proofs.notation.words.Statement.{statement}
-use Rattle.fields.proofs.notation.words.Tie as tie
+use Rattle.notation.proofs.put_all.Statement.{statement}
+use Rattle.notation.proofs.put_all.Tie as tie
 
 abbrev Inv-loop : tie.InvT-loop
-Inv-loop space list₀ n i₀ list i = length list ≡ length list₀
+Inv-loop space₀ at bytes to₀ i₀ space to i = length space ≡ length space₀
 
 abbrev μ-loop : tie.MeasureT-loop
-μ-loop space list₀ n i₀ list i = n - i
+μ-loop space₀ at bytes to₀ i₀ space to i = length bytes - i
 
-pub words-spec : {M : Type 1} → statement M
-words-spec =
+pub put-all-spec : {M : Type 1} → statement M
+put-all-spec =
     tie.close
     (tie.spec Inv-loop μ-loop
     (λ c. search needs) (λ c κs. search needs) (λ c κs. search needs) (λ c. search needs) (λ c. search needs) (λ c. search needs)

@@ -3,8 +3,8 @@ use borrow.Author.Needs.{needs}
 use Prim.Native.Nat.{_-_}
 use mathlib.Core.Path.{_≡_}
 use lib.ListN.{length}
-use Rattle.fields.proofs.notation.put_run.Statement.{statement}
-use Rattle.fields.proofs.notation.put_run.Tie as tie
+use Rattle.notation.proofs.put_run.Statement.{statement}
+use Rattle.notation.proofs.put_run.Tie as tie
 
 abbrev Inv-loop : tie.InvT-loop
 Inv-loop space₀ at kind first rise count to₀ value₀ i₀ space to value i = length space ≡ length space₀

@@ -2,8 +2,8 @@
 use borrow.Author.Needs.{needs}
 use Prim.Native.Nat.{_-_, _≤_}
 use lib.ListN.{length}
-use Rattle.fields.proofs.notation.same.Statement.{statement}
-use Rattle.fields.proofs.notation.same.Tie as tie
+use Rattle.notation.proofs.same.Statement.{statement}
+use Rattle.notation.proofs.same.Tie as tie
 
 abbrev Inv-loop : tie.InvT-loop
 Inv-loop a b i₀ i = 0 ≤ 0

@@ -2,8 +2,8 @@
 use borrow.Author.Needs.{needs}
 use Prim.Native.Nat.{_-_, _≤_}
 use lib.ListN.{length}
-use Rattle.fields.proofs.notation.place.Statement.{statement}
-use Rattle.fields.proofs.notation.place.Tie as tie
+use Rattle.notation.proofs.place.Statement.{statement}
+use Rattle.notation.proofs.place.Tie as tie
 
 abbrev Inv-loop : tie.InvT-loop
 Inv-loop names name k₀ i₀ k i = 0 ≤ 0

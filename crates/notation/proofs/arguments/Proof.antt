@@ -3,8 +3,8 @@ use borrow.Author.Needs.{needs}
 use Prim.Native.Nat.{_-_}
 use mathlib.Core.Path.{_≡_}
 use lib.ListN.{length}
-use Rattle.fields.proofs.notation.arguments.Statement.{statement}
-use Rattle.fields.proofs.notation.arguments.Tie as tie
+use Rattle.notation.proofs.arguments.Statement.{statement}
+use Rattle.notation.proofs.arguments.Tie as tie
 
 abbrev Inv-loop : tie.InvT-loop
 Inv-loop text kept space₀ ends₀ p₀ i₀ space ends p i = (length space ≡ length space₀) × (length ends ≡ length ends₀)
