@@ -15,7 +15,8 @@ use Rattle.signals.specs.declared.Verdict.the-variants.{Holds, FailsAt, FailsAf
 use Rattle.grammar.specs.Formula.{formulaTree}
 use Rattle.format.specs.Reading.{sheetFault}
 use Rattle.calls.specs.Calls.{neededWork, claimFault, claimFails, claimVerdict, claimAnswer}
-use Rattle.calls.specs.Tabled.{Check, NoFault, SheetBreaks, Breaks18, ReadingChecks, WorkingChecks, ClaimFaultIs}
+use Rattle.signals.specs.Checks.{Check, FaultCheck, NoFault}
+use Rattle.calls.specs.Tabled.{Breaks18, ReadingChecks, WorkingChecks, ClaimFaultIs}
 use Rattle.calls.proofs.OneEngine.{one-fault}
 
 -- one of 5, 6, 8 and 10 to 17
@@ -54,7 +55,7 @@ only-working sheet formula later h =
     only-check 5 _ _ (omega arith, omega arith, λ e. omega arith, λ e. omega arith)
     (only-check 6 _ later (omega arith, omega arith, λ e. omega arith, λ e. omega arith) h)
 
-only-sheet : (sheet : List ℕ) (later : ℕ → Type 0) → Only later → Only (Check (sheetFault sheet) (SheetBreaks sheet) later)
+only-sheet : (sheet : List ℕ) (later : ℕ → Type 0) → Only later → Only (FaultCheck (sheetFault sheet) later)
 only-sheet sheet later h n (inr a) = h n (a .1)
 only-sheet sheet later h n (inl a) = go (one-fault .sheets sheet)
   where

@@ -17,7 +17,7 @@ use Rattle.format.specs.declared.Place.{Place}
 use Rattle.signals.specs.declared.Written.the-variants as written
 use Rattle.signals.specs.declared.Verdict.{Verdict}
 use Rattle.signals.proofs.AnswersSay.{answers-say}
-use Rattle.signals.proofs.ListFaults.{list-faults-exact}
+use Rattle.signals.proofs.ListFaults.{list-fault-range}
 use Rattle.packing.specs.Packing.{packFault, packWritten, packTold, packVerdict, packPlace}
 use Rattle.packing.specs.Packing.{faultBits, writtenBits, toldBits, verdictBits, placeBits}
 
@@ -64,7 +64,7 @@ unfolding firstOf
 first-small f g a b = choice (eqb f 0) g f b a
 
 pub list-small : (l : List ℕ) → listFault l < 65536
-list-small l = omega (arith, list-faults-exact .range l)
+list-small l = omega (arith, list-fault-range l)
 
 pub written-small : (fault : ℕ) (words : List ℕ) → fault < 65536 → (fault ≡ 0 → length words < 65536)
     → SmallWritten (writtenOf fault words)

@@ -1,7 +1,7 @@
 -- `formulas::read` leaves as many code words as there were.
 use mathlib.Core.Path.{sym, ap, _∙_}
 use lib.ListN.{length}
-use Rattle.formulas.proofs.Storing.{code-after-length}
+use Rattle.grammar.proofs.Storing.{code-after-length}
 use borrow.Author.Needs.{needs}
 use Rattle.laws_run.proofs.sides.put_formula.Statement.{statement}
 use Rattle.laws_run.proofs.sides.put_formula.Tie as tie
