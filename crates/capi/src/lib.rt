@@ -130,7 +130,7 @@ pub extern "C" fn sgl_tof(d: u32, f: &[u32], out: &mut [u32]) -> u32
 pub extern "C" fn sgl_begin(out: &mut [u8]) -> u32
     ensures { λ r. ⌜ Exported (beginFault (length (now (out .entry)))) (sheetBytes []) (now (out .entry)) r (now (out .exit)) ⌝ }
 {
-    packing::pack_written(sheets::begin(out))
+    packing::pack_written(appending::begin(out))
 }
 
 // The fault of a sheet.
