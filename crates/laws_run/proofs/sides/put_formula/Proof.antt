@@ -7,11 +7,11 @@ use Rattle.laws_run.proofs.sides.put_formula.Statement.{statement}
 use Rattle.laws_run.proofs.sides.put_formula.Tie as tie
 
 slice-aggregate-put-parts : tie.Need-slice-aggregate-put-parts
-slice-aggregate-put-parts c = sym (ap length (c .before .before .before .before .read .ensures .1) ∙ code-after-length _ _)
+slice-aggregate-put-parts c = sym (ap length (c .before .before .before .before .before .read .ensures .1) ∙ code-after-length _ _)
 
 pub put-formula-spec : {M : Type 1} → statement M
 put-formula-spec =
     tie.close
     (tie.spec
     (λ c κs. search needs) (λ c. search needs) slice-aggregate-put-parts (λ c κs. search needs) (λ c. search needs) (λ c. search needs)
-    (λ c. search needs))
+    (λ c. search needs) (λ c. search needs))
