@@ -2,11 +2,11 @@
 // The tally: 0 mismatches, 1 and 2 the applications from the left and from the right that were answered, 3 those refused.
 use random_formulas::cells::TALLY;
 use random_formulas::cells::count;
-use random_sheets::engine::call;
-use random_sheets::engine::claim;
-use random_sheets::engine::fill;
-use random_sheets::engine::longest;
-use random_sheets::engine::work_area;
+use random_calls::call;
+use random_calls::claim;
+use random_calls::fill;
+use random_calls::longest;
+use random_calls::work_area;
 
 fn tell(cells: &mut [u64], same: bool) {
     if same {

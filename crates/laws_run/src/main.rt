@@ -18,8 +18,8 @@ use random_formulas::cells::whole;
 use random_sheets::drawn::ordinary_times;
 use random_sheets::drawn::sheet;
 use random_sheets::drawn::signals;
-use random_sheets::engine::kept;
-use random_sheets::engine::slots;
+use random_calls::kept;
+use random_calls::slots;
 use slices::part_after;
 use slices::part_before;
 

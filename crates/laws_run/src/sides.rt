@@ -12,7 +12,7 @@ use random_formulas::cells::set;
 use random_formulas::texts::written;
 use random_formulas::trees::grow;
 use random_formulas::trees::operands;
-use random_sheets::engine::kept;
+use random_calls::kept;
 use signals::Written;
 use slices::len_before;
 

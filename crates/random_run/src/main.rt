@@ -9,7 +9,7 @@ use random_formulas::cells::TALLY;
 use random_formulas::cells::at;
 use random_formulas::cells::set;
 use random_formulas::cells::whole;
-use random_sheets::engine::slots;
+use random_calls::slots;
 
 fn rounds(cells: &mut [u64], slots: &mut [u8], many: usize) {
     let mut i: usize = 0;

@@ -1,10 +1,10 @@
--- `random_sheets::engine::kept` is safe and ends.
+-- `random_calls::kept` is safe and ends.
 use borrow.Author.Needs.{needs}
 use Prim.Native.Nat.{_-_}
 use mathlib.Core.Path.{_≡_}
 use lib.ListN.{length}
-use Rattle.random_sheets.proofs.engine.kept.Statement.{statement}
-use Rattle.random_sheets.proofs.engine.kept.Tie as tie
+use Rattle.random_calls.proofs.kept.Statement.{statement}
+use Rattle.random_calls.proofs.kept.Tie as tie
 
 abbrev Inv-loop : tie.InvT-loop
 Inv-loop cells slots₀ slot n start i₀ slots i = length slots ≡ length slots₀

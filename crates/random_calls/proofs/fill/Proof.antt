@@ -1,10 +1,10 @@
--- `random_sheets::engine::fill` is safe and ends.
+-- `random_calls::fill` is safe and ends.
 use borrow.Author.Needs.{needs}
 use Prim.Native.Nat.{_-_}
 use mathlib.Core.Path.{_≡_}
 use lib.ListN.{length}
-use Rattle.random_sheets.proofs.engine.fill.Statement.{statement}
-use Rattle.random_sheets.proofs.engine.fill.Tie as tie
+use Rattle.random_calls.proofs.fill.Statement.{statement}
+use Rattle.random_calls.proofs.fill.Tie as tie
 
 abbrev Inv-loop : tie.InvT-loop
 Inv-loop out₀ i₀ out i = length out ≡ length out₀
