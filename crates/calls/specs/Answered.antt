@@ -1,4 +1,4 @@
--- Believed: Document 01: "A formula is answered on a sheet when, with work area and output long enough, its call meets no fault".
+-- Statement: Document 01: "A formula is answered on a sheet when, with work area and output long enough, its call meets no fault".
 use Prim.Native.Nat.{ℕ, _≤_}
 use mathlib.Core.Path.{_≡_}
 use mathlib.Core.List.{List}

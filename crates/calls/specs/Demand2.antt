@@ -1,4 +1,4 @@
--- Believed: Demand 2 as a predicate of an engine, sentence by sentence.
+-- Statement: Demand 2 as a predicate of an engine, sentence by sentence.
 use Prim.Native.Nat.{ℕ, _≤_}
 use mathlib.Core.Path.{_≡_}
 use mathlib.Core.Bool.{true}

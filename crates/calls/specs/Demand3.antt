@@ -1,4 +1,4 @@
--- Believed: Demand 3 said of any engine, sentence by sentence.
+-- Statement: Demand 3 said of any engine, sentence by sentence.
 use Prim.Native.Nat.{ℕ, _≤_, _<_}
 use mathlib.Core.Path.{_≡_}
 use mathlib.Core.Logic.{_↔_}

@@ -1,4 +1,4 @@
--- Believed: An engine: a formula call and a claim of two formulas, as functions of plain values.
+-- Statement: An engine: a formula call and a claim of two formulas, as functions of plain values.
 use Prim.Native.Nat.{ℕ}
 use mathlib.Core.List.{List}
 use Rattle.signals.specs.declared.Written.{Written}

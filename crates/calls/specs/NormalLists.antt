@@ -1,4 +1,4 @@
--- Believed: The one normal list of a signal, and the verdict that the implication of two signals gives.
+-- Statement: The one normal list of a signal, and the verdict that the implication of two signals gives.
 use Prim.Native.Nat.{ℕ, _≤_, _<_}
 use mathlib.Core.Path.{_≡_}
 use mathlib.Core.Logic.{_⊎_, _↔_}

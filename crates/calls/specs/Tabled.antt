@@ -1,4 +1,4 @@
--- Believed: Document 01, "Faults by number": the sentences that a formula call and a claim can meet, and the order in which they are
+-- Statement: Document 01, "Faults by number": the sentences that a formula call and a claim can meet, and the order in which they are
 -- taken.
 use Prim.Native.Nat.{ℕ, _<_}
 use mathlib.Core.Path.{_≡_}

@@ -7,7 +7,7 @@ use lib.ListN.{length}
 use Rattle.signals.specs.Signal.{Signal}
 use Rattle.signals.specs.Answers.{writtenOf, outputOf}
 use Rattle.operations.specs.Calls.{faultOfOne, exactOfOne, faultOfTwo, exactOfTwo, faultOfDelay, exactOfDelay}
-use Rattle.signals.specs.Tidying.{tidied}
+use Rattle.signals.specs.Words.{tidied}
 use Rattle.tidying.specs.Calls.{tidyingFault}
 use Rattle.format.specs.Calls.{appendFault, appended}
 use Rattle.calls.specs.Calls.{callAnswer, callOutput, claimAnswer}

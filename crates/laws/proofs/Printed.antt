@@ -10,7 +10,8 @@ use Rattle.names.specs.Names.{allOf, wellNamed, letter}
 use Rattle.grammar.specs.Grammar.{Factor, Writes}
 use Rattle.laws.specs.Scheme.{Letter, LengthTerm, Scheme, Equation, Substitution, put}
 use Rattle.laws.specs.Laws.{table, equation, andCommutes}
-use Rattle.laws.specs.Printed.{texts, textOf, bytes, leftOf, rightOf, lengthSigns, letterSigns, begins, putAt, filledAfter, filled}
+use Rattle.laws.specs.Texts.{texts}
+use Rattle.laws.specs.Printed.{textOf, bytes, leftOf, rightOf, lengthSigns, letterSigns, begins, putAt, filledAfter, filled}
 use Rattle.laws.specs.Printed.{Digits, ownName, OwnNames, RowsAsPrinted, Write, RowsWithFormulas}
 use Rattle.laws.proofs.Printer.{sum, shown, form}
 

@@ -1,5 +1,5 @@
--- Believed: Document 01, "Law table", as it is printed: the texts of the equations, and what it is for the rows of the table to be their
--- texts.
+-- Statement: the rows of the law table are the printed texts, read by the grammar with formulas put for the letters and lengths for d and
+-- e.
 use Prim.Native.Nat.{ℕ, zero, suc, _-_, _≤_}
 use Prim.Native.Char.{code}
 use Prim.Native.String.{String, [] as none, _∷_ as _then_}
@@ -15,68 +15,7 @@ use Rattle.grammar.specs.Exactness.{Writable}
 use Rattle.laws.specs.Scheme.{Letter, f, g, h, s, r, p, LengthTerm, d, e, d+e, larger, smaller}
 use Rattle.laws.specs.Scheme.{Equation, Substitution, putLength, put}
 use Rattle.laws.specs.Laws.{equation}
-
--- The equations in the document's order: the laws that it only names as request 12 of document 02 spells them (1 to 10); "RS over + in
--- either operand as for SR" (35, 36); "likewise TOF" (42); "TON(d,f).TON(e,f) takes the larger length, + the smaller; for TOF the
--- reverse" (43 to 46); every other as it stands there.
-unfoldable pub texts : List String
-texts =
-    "f.g=g.f"
-    ∷ "f+g=g+f"
-    ∷ "f.(g.h)=f.g.h"
-    ∷ "f+(g+h)=f+g+h"
-    ∷ "f.(g+h)=f.g+f.h"
-    ∷ "f+g.h=(f+g).(f+h)"
-    ∷ "f.(f+g)=f"
-    ∷ "f+f.g=f"
-    ∷ "!(f.g)=!f+!g"
-    ∷ "!(f+g)=!f.!g"
-    ∷ "!!f=f"
-    ∷ "f.f=f"
-    ∷ "f+f=f"
-    ∷ "f.1=f"
-    ∷ "f+0=f"
-    ∷ "f.0=0"
-    ∷ "f+1=1"
-    ∷ "f.!f=0"
-    ∷ "f+!f=1"
-    ∷ "SR(s,!s)=s"
-    ∷ "SR(s,1)=s"
-    ∷ "SR(1,r)=1"
-    ∷ "SR(0,r)=0"
-    ∷ "SR(s,r).r=s.r"
-    ∷ "SR(s,r+p)=SR(s,r).SR(s,p)"
-    ∷ "SR(s+p,r)=SR(s,r)+SR(p,r)"
-    ∷ "RS(s,!s)=s"
-    ∷ "RS(s,1)=0"
-    ∷ "RS(1,r)=!r"
-    ∷ "RS(0,r)=0"
-    ∷ "RS(s,s)=0"
-    ∷ "RS(s,r).s=s.!r"
-    ∷ "RS(s+r.f,r)=RS(s,r)"
-    ∷ "RS(s,r)=SR(s.!r,r)"
-    ∷ "RS(s,r+p)=RS(s,r).RS(s,p)"
-    ∷ "RS(s+p,r)=RS(s,r)+RS(p,r)"
-    ∷ "TON(d,f).f=TON(d,f)"
-    ∷ "f.TOF(d,f)=f"
-    ∷ "TON(d,f.g)=TON(d,f).TON(d,g)"
-    ∷ "TOF(d,f+g)=TOF(d,f)+TOF(d,g)"
-    ∷ "TON(d,TON(e,f))=TON(d+e,f)"
-    ∷ "TOF(d,TOF(e,f))=TOF(d+e,f)"
-    ∷ "TON(d,f).TON(e,f)=TON(the larger,f)"
-    ∷ "TON(d,f)+TON(e,f)=TON(the smaller,f)"
-    ∷ "TOF(d,f).TOF(e,f)=TOF(the smaller,f)"
-    ∷ "TOF(d,f)+TOF(e,f)=TOF(the larger,f)"
-    ∷ "!TON(d,f).TON(d,1)=TOF(d,!f).TON(d,1)"
-    ∷ "!TOF(d,f).TON(d,1)=TON(d,!f)"
-    ∷ "^f.f=^f"
-    ∷ "^!f=~f"
-    ∷ "~!f=^f"
-    ∷ "^^f=^f"
-    ∷ "~^f=0"
-    ∷ "^(f.g)=^f.g+f.^g"
-    ∷ "~(f+g)=~f.!g+!f.~g"
-    ∷ []
+use Rattle.laws.specs.Texts.{texts}
 
 -- the text of a number, from 1
 unfoldable pub textOf : ℕ → String

@@ -8,7 +8,7 @@ use lib.ListN.{length}
 use Rattle.signals.specs.Moment.{M}
 use Rattle.signals.specs.Words.{listFault, tidyFault}
 use Rattle.signals.specs.Answers.{writtenOf}
-use Rattle.signals.specs.Tidying.{tidied}
+use Rattle.signals.specs.Words.{tidied}
 use Rattle.signals.specs.declared.Told.the-variants as told
 use Rattle.signals.proofs.TidyFaults.{tidy-fault-range}
 use Rattle.signals.proofs.Tidying.{tidying}

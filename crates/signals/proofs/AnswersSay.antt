@@ -10,7 +10,8 @@ use lib.Dec.{eqb, ltb}
 use lib.ListN.{length}
 use borrow.Author.Tests.{eqb-true, eqb-false, ne-eqb, lt-ltb, le-ltb, ltb-true, ltb-false}
 use Rattle.signals.specs.Moment.{M, gap, instant}
-use Rattle.signals.specs.Answers.{faultOfSum, totalIn, pastM, sumFor, faultIn, countIn, writtenOf}
+use Rattle.signals.specs.Answers.{sumFor, faultIn, countIn, writtenOf}
+use Rattle.signals.specs.AnswersSay.{faultOfSum, totalIn, pastM}
 use Rattle.signals.specs.Answers.{faultOfTold, valueIn, toldOf, faultOfVerdict, failsFirst, failsIn, judgedBy, verdictFor}
 use Rattle.signals.specs.AnswersSay.{GivenSum, GivenWritten, GivenTold, GivenVerdict, SumSays, WrittenSays, ToldSays, VerdictSays}
 use Rattle.signals.specs.AnswersSay.{AnswersSay}

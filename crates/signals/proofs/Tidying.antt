@@ -12,7 +12,8 @@ use Rattle.signals.specs.Words.{word, dateOf, valueAt, valueAfter, headV
 use Rattle.signals.specs.Words.{wordsOf, listOf}
 use Rattle.signals.specs.Settled.{SettledFrom, Same, entry}
 use Rattle.signals.specs.Normal.{Normal, Rising}
-use Rattle.signals.specs.Tidying.{tidied, Tidying}
+use Rattle.signals.specs.Tidying.{Tidying}
+use Rattle.signals.specs.Words.{tidied}
 use Rattle.signals.proofs.Scan.{scan-to, scan-settled}
 use Rattle.signals.proofs.Operand.{Ahead, At, at-start, pass-word, no-fault-rise, value-none}
 use Rattle.signals.proofs.Normal.{last-le, ahead-settled, start, read-back, unique, accepted-normal, list-of-signal}

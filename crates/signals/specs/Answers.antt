@@ -22,22 +22,6 @@ use Rattle.signals.specs.declared.Told.the-variants as told
 unfoldable pub firstOf : ℕ → ℕ → ℕ
 firstOf f g = cond (eqb f 0) g f
 
--- Sum. The fault number; the exact sum, 0 when refused; whether it is past M, so no date.
-abbrev pub faultOfSum : Sum → ℕ
-faultOfSum (sum.On date) = 0
-faultOfSum (sum.PastM total) = 0
-faultOfSum (sum.Refused f) = f
-
-abbrev pub totalIn : Sum → ℕ
-totalIn (sum.On date) = date .0
-totalIn (sum.PastM total) = total
-totalIn (sum.Refused f) = 0
-
-abbrev pub pastM : Sum → Bool
-pastM (sum.On date) = false
-pastM (sum.PastM total) = true
-pastM (sum.Refused f) = false
-
 -- the answer of a sum with this fault (0 for none) and this exact sum: a date up to M
 abbrev pub sumFor : ℕ → ℕ → Sum
 sumFor fault total = cond (eqb fault 0) (cond (ltb M total) (sum.PastM total) (sum.On (record { 0 = total }))) (sum.Refused fault)

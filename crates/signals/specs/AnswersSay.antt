@@ -3,13 +3,13 @@
 -- number.
 use Prim.Native.Nat.{ℕ, _≤_, _<_}
 use mathlib.Core.Path.{_≡_}
-use mathlib.Core.Bool.{Bool, false}
+use mathlib.Core.Bool.{Bool, true, false}
 use mathlib.Core.List.{List}
 use mathlib.Core.Option.{Option, none}
 use lib.Dec.{ltb}
 use lib.ListN.{length}
 use Rattle.signals.specs.Moment.{M}
-use Rattle.signals.specs.Answers.{faultOfSum, totalIn, pastM, sumFor, faultIn, countIn, writtenOf}
+use Rattle.signals.specs.Answers.{sumFor, faultIn, countIn, writtenOf}
 use Rattle.signals.specs.Answers.{faultOfTold, valueIn, toldOf, faultOfVerdict, failsFirst, verdictFor}
 use Rattle.signals.specs.declared.Sum.{Sum}
 use Rattle.signals.specs.declared.Sum.the-variants as sum
@@ -19,6 +19,22 @@ use Rattle.signals.specs.declared.Verdict.{Verdict}
 use Rattle.signals.specs.declared.Verdict.the-variants as verdict
 use Rattle.signals.specs.declared.Told.{Told}
 use Rattle.signals.specs.declared.Told.the-variants as told
+
+-- What a sum is read as: the fault number; the exact sum, 0 when refused; whether it is past M, so no date.
+abbrev pub faultOfSum : Sum → ℕ
+faultOfSum (sum.On date) = 0
+faultOfSum (sum.PastM total) = 0
+faultOfSum (sum.Refused f) = f
+
+abbrev pub totalIn : Sum → ℕ
+totalIn (sum.On date) = date .0
+totalIn (sum.PastM total) = total
+totalIn (sum.Refused f) = 0
+
+abbrev pub pastM : Sum → Bool
+pastM (sum.On date) = false
+pastM (sum.PastM total) = true
+pastM (sum.Refused f) = false
 
 -- The answers that a call can give: a refusal has a number, a date is up to M and a sum past M above it, an instant is from 1 on.
 abbrev pub GivenSum : Sum → Type 0

@@ -1,15 +1,11 @@
--- Believed: Tidying takes lists that break only rule 4 and returns the normal list.
+-- Statement: Tidying takes lists that break only rule 4 and returns the normal list.
 use Prim.Native.Nat.{ℕ, _≤_}
 use mathlib.Core.List.{List}
 use mathlib.Core.Path.{_≡_}
 use lib.ListN.{length}
-use Rattle.signals.specs.Words.{tidyFault, signalOf, lastDate, listOf}
+use Rattle.signals.specs.Words.{tidyFault, signalOf, tidied}
 use Rattle.signals.specs.Settled.{Same}
 use Rattle.signals.specs.Normal.{Normal, Accepted}
-
--- the words that tidying gives: the list of the signal that the list denotes
-unfoldable pub tidied : List ℕ → List ℕ
-tidied l = listOf (signalOf l) (lastDate l)
 
 -- What tidying accepts it makes normal and accepted, with the same signal; two lists of one signal give the same words;
 -- an accepted list stays as it is, and none grows.

@@ -92,3 +92,7 @@ wordsOf s k (suc n) =
 -- The normal list of a signal that is constant from gap n on.
 unfoldable pub listOf : Signal → ℕ → List ℕ
 listOf s n = num (s 0) ∷ wordsOf s 0 n
+
+-- The words that tidying gives: the normal list of the signal that a list denotes.
+unfoldable pub tidied : List ℕ → List ℕ
+tidied l = listOf (signalOf l) (lastDate l)

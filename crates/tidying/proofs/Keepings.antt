@@ -10,7 +10,7 @@ use Rattle.signals.specs.Signal.{Signal, num}
 use Rattle.signals.specs.Words.{dateOf, word, changesNothing, tidyFault, signalOf, wordsOf, listOf, lastFrom, lastDate}
 use Rattle.signals.specs.Settled.{entry}
 use Rattle.signals.specs.Passing.{heldValue, atDate, afterDate}
-use Rattle.signals.specs.Tidying.{tidied}
+use Rattle.signals.specs.Words.{tidied}
 use Rattle.signals.specs.Answers.{writtenOf, outputOf}
 use Rattle.signals.specs.declared.Written.the-variants.{Count, Refused}
 use Rattle.signals.proofs.Scan.{scan-to, scan-settled, listOf-scan}

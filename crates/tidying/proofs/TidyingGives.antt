@@ -9,7 +9,7 @@ use lib.ListN.{length}
 use borrow.Author.Tests.{ltb-false}
 use Rattle.signals.specs.Moment.{M}
 use Rattle.signals.specs.Words.{tidyFault, signalOf, lastDate}
-use Rattle.signals.specs.Tidying.{tidied}
+use Rattle.signals.specs.Words.{tidied}
 use Rattle.signals.specs.Giving.{WithinM}
 use Rattle.signals.proofs.Normal.{lastDate-bound}
 use Rattle.signals.proofs.FirstFault.{both-none}

@@ -6,7 +6,7 @@ use mathlib.Core.List.{List}
 use lib.Dec.{ltb}
 use lib.ListN.{length}
 use Rattle.signals.specs.Words.{tidyFault}
-use Rattle.signals.specs.Tidying.{tidied}
+use Rattle.signals.specs.Words.{tidied}
 use Rattle.signals.specs.Answers.{firstOf, writtenOf, outputOf}
 use Rattle.signals.specs.declared.Written.{Written}
 

@@ -4,7 +4,7 @@ use mathlib.Core.Path.{_≡_}
 use mathlib.Core.List.{List, [], _∷_}
 use lib.ListN.{length, set}
 use Rattle.signals.specs.Settled.{entry}
-use Rattle.signals.specs.Tidying.{tidied}
+use Rattle.signals.specs.Words.{tidied}
 use Rattle.lists.specs.declared.Step.{Step}
 
 -- the words that a date passed gives
