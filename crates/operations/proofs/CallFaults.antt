@@ -41,16 +41,6 @@ late-of [] b = absurd (omega (arith, b .1))
 late-of (w ∷ ws) (zero, l, h) = or-left (ltb M (dateOf w)) (changesAfterM ws) (lt-ltb M (dateOf w) h)
 late-of (w ∷ ws) (suc i, l, h) = or-right (ltb M (dateOf w)) (changesAfterM ws) (late-of ws (i, omega arith, h))
 
--- an answer without 5 and 6
-pub part-none : (exact : List ℕ) → partFault exact ≡ 0 → (length exact ≤ 256) × (changesAfterM exact ≡ false)
-unfolding partFault
-part-none exact = go (ltb 256 (length exact)) (changesAfterM exact) refl
-  where
-    go : (b c : Bool) → ltb 256 (length exact) ≡ b → _≡_ {A = ℕ} (cond b 5 (cond c 6 0)) 0 → (length exact ≤ 256) × (c ≡ false)
-    go true c e z = absurd (omega arith)
-    go false true e z = absurd (omega arith)
-    go false false e z = (ltb-false 256 (length exact) e, refl)
-
 answer-checks : (exact : List ℕ) (n : ℕ) → AnswerChecks exact n (answerFault exact n)
 unfolding answerFault partFault roomFault firstOf
 answer-checks exact n = go (ltb 256 (length exact)) (changesAfterM exact) (ltb n (length exact)) refl refl refl
@@ -191,3 +181,13 @@ two-6 operation a b n e =
     let h = list-passed a (FaultCheck (listFault b) (AnswerChecks (exactOfTwo operation a b) n)) 6 (inr (omega arith))
     (call-faults-exact .two operation a b n 6 .0 e) in
     answer-6 (exactOfTwo operation a b) n (list-passed b (AnswerChecks (exactOfTwo operation a b) n) 6 (inr (omega arith)) (h .1) .1)
+
+-- an answer without 5 and 6
+pub part-none : (exact : List ℕ) → partFault exact ≡ 0 → (length exact ≤ 256) × (changesAfterM exact ≡ false)
+unfolding partFault
+part-none exact = go (ltb 256 (length exact)) (changesAfterM exact) refl
+  where
+    go : (b c : Bool) → ltb 256 (length exact) ≡ b → _≡_ {A = ℕ} (cond b 5 (cond c 6 0)) 0 → (length exact ≤ 256) × (c ≡ false)
+    go true c e z = absurd (omega arith)
+    go false true e z = absurd (omega arith)
+    go false false e z = (ltb-false 256 (length exact) e, refl)
