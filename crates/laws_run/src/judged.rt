@@ -1,12 +1,12 @@
 // Formulas 1 and 2 compared: their words, their verdicts on each other, and theirs to and from formula 3.
 // The tally: 0 mismatches, 1 and 2 the applications from the left and from the right that were answered, 3 those refused.
-use random_formulas::cells::TALLY;
-use random_formulas::cells::count;
 use random_calls::call;
 use random_calls::claim;
 use random_calls::fill;
 use random_calls::longest;
 use random_calls::work_area;
+use random_formulas::cells::TALLY;
+use random_formulas::cells::count;
 
 fn tell(cells: &mut [u64], same: bool) {
     if same {

@@ -9,6 +9,8 @@ use crate::sides::sides;
 use fields::byte_at;
 use fields::part;
 use libc::STDIN_FILENO;
+use random_calls::kept;
+use random_calls::slots;
 use random_formulas::cells::NAMES;
 use random_formulas::cells::SEED;
 use random_formulas::cells::TALLY;
@@ -18,8 +20,6 @@ use random_formulas::cells::whole;
 use random_sheets::drawn::ordinary_times;
 use random_sheets::drawn::sheet;
 use random_sheets::drawn::signals;
-use random_calls::kept;
-use random_calls::slots;
 use slices::part_after;
 use slices::part_before;
 

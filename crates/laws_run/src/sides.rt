@@ -3,6 +3,7 @@
 // the place of the words a side is a formula, and the formula reader gives its parts.
 use fields::byte_at;
 use fields::part;
+use random_calls::kept;
 use random_formulas::cells::NOTES;
 use random_formulas::cells::TREE;
 use random_formulas::cells::TREES;
@@ -12,7 +13,6 @@ use random_formulas::cells::set;
 use random_formulas::texts::written;
 use random_formulas::trees::grow;
 use random_formulas::trees::operands;
-use random_calls::kept;
 use signals::Written;
 use slices::len_before;
 

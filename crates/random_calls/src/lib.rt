@@ -1,4 +1,5 @@
-// Test support: the engine's calls on the sheet and formulas of a buffer of four slots of 4,096 bytes: slot 0 the sheet, 1 to 3 the formulas.
+// Test support: the engine's calls on the sheet and formulas of a buffer of four slots of 4,096 bytes: slot 0 the sheet, 1 to 3 the
+// formulas.
 ghost use mathlib.Core.Path.{_≡_};
 ghost use lib.ListN.{length};
 ghost use Prim.Native.Nat.{_+_, _%_};

@@ -4,12 +4,12 @@ mod compared;
 mod made;
 
 use crate::compared::round;
+use random_calls::slots;
 use random_formulas::cells::SEED;
 use random_formulas::cells::TALLY;
 use random_formulas::cells::at;
 use random_formulas::cells::set;
 use random_formulas::cells::whole;
-use random_calls::slots;
 
 fn rounds(cells: &mut [u64], slots: &mut [u8], many: usize) {
     let mut i: usize = 0;
