@@ -7,7 +7,7 @@ use lib.Dec.{ltb}
 use lib.ListN.{length, take, drop, set}
 use Rattle.signals.specs.Moment.{M}
 use Rattle.signals.specs.Signal.{num}
-use Rattle.signals.specs.Words.{dateOf, word}
+use Rattle.signals.specs.Words.{dateOf, mostWords, word}
 use Rattle.signals.specs.Answers.{writtenOf, outputOf}
 use Rattle.signals.specs.declared.Written.{Written}
 use Rattle.operations.specs.Calls.{changesAfterM}
@@ -72,7 +72,7 @@ pub record Built (exact old slot : List ℕ) (made : Made) : Type 0 where
 -- 5, 6, 7 of an answer in a slot of s words, for an output of n: one that the slot does not hold whole is too long as well
 unfoldable pub madeFault : Made → ℕ → ℕ → ℕ
 madeFault made s n =
-    cond (ltb 256 (made .count) || ltb s (made .count)) 5 (cond (made .late) 6 (cond (ltb n (made .count)) 7 0))
+    cond (ltb mostWords (made .count) || ltb s (made .count)) 5 (cond (made .late) 6 (cond (ltb n (made .count)) 7 0))
 
 abbrev pub Delivers : Made → List ℕ → List ℕ → Written → List ℕ → Type 0
 Delivers made slot out answer after =

@@ -7,10 +7,9 @@ use mathlib.Core.List.{List}
 use lib.Dec.{leb, ltb, eqb}
 use lib.ListN.{length}
 use Rattle.signals.specs.Signal.{Signal}
-use Rattle.signals.specs.Words.{listFault}
 use Rattle.signals.specs.Answers.{firstOf}
 use Rattle.operations.specs.Calls.{changesAfterM, lengthFault, exactOfOne, exactOfTwo, exactOfDelay}
-use Rattle.signals.specs.Words.{pairFault}
+use Rattle.signals.specs.Words.{mostWords, listFault, pairFault}
 use Rattle.building.specs.Building.{slotWith}
 use Rattle.building.specs.declared.Made.{Made}
 use Rattle.building.specs.declared.SlotAnswer.{SlotAnswer}
@@ -18,15 +17,15 @@ use Rattle.building.specs.declared.SlotAnswer.the-variants.{Stands, TooL
 
 -- a call begins when its operands and its length have no fault and the slot has 256 words or more
 unfoldable pub begins : ℕ → ℕ → Bool
-begins judged n = eqb judged 0 && leb 256 n
+begins judged n = eqb judged 0 && leb mostWords n
 
 -- what a call that begins answers: the exact answer is over 256 words, or changes after M, or stands in the slot, so many words
 unfoldable pub builtAnswer : List ℕ → SlotAnswer
-builtAnswer exact = cond (ltb 256 (length exact)) TooLong (cond (changesAfterM exact) TooLate (Stands (length exact)))
+builtAnswer exact = cond (ltb mostWords (length exact)) TooLong (cond (changesAfterM exact) TooLate (Stands (length exact)))
 
 -- the same of the answer as it was built
 unfoldable pub madeAnswer : Made → SlotAnswer
-madeAnswer made = cond (ltb 256 (made .count)) TooLong (cond (made .late) TooLate (Stands (made .count)))
+madeAnswer made = cond (ltb mostWords (made .count)) TooLong (cond (made .late) TooLate (Stands (made .count)))
 
 unfoldable pub slotAnswer : ℕ → List ℕ → ℕ → SlotAnswer
 slotAnswer judged exact n = cond (begins judged n) (builtAnswer exact) NotBegun

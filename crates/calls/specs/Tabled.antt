@@ -8,7 +8,7 @@ use mathlib.Core.List.{List}
 use lib.ListN.{length, getD}
 use Rattle.signals.specs.Moment.{M}
 use Rattle.signals.specs.Signal.{Signal}
-use Rattle.signals.specs.Words.{dateOf}
+use Rattle.signals.specs.Words.{dateOf, mostWords}
 use Rattle.signals.specs.Checks.{Check, FaultCheck, NoFault}
 use Rattle.grammar.specs.Tree.{Tree, Leaf, leaf, unary, binary, down, up, name}
 use Rattle.grammar.specs.Grammar.{Writes}
@@ -42,7 +42,7 @@ Breaks18 sheet work = work < neededWork sheet
 
 -- 5: exact answer over 256 words, those past M counted; 6: exact answer changes after M
 abbrev pub Meets5 : Signal → Type 0
-Meets5 s = (l : List ℕ) × ListFor s l × (256 < length l)
+Meets5 s = (l : List ℕ) × ListFor s l × (mostWords < length l)
 
 abbrev pub Meets6 : Signal → Type 0
 Meets6 s = (l : List ℕ) × ListFor s l × ((i : ℕ) × (i < length l) × (M < dateOf (getD l i 0)))

@@ -5,7 +5,7 @@ use mathlib.Core.List.{List, [], _∷_, _++_}
 use lib.Dec.{leb, ltb, eqb}
 use lib.ListN.{length, take, drop}
 use Rattle.signals.specs.Signal.{Signal}
-use Rattle.signals.specs.Words.{dateOf, valueAfter, headValue, changesNothing, signalOf}
+use Rattle.signals.specs.Words.{dateOf, valueAfter, headValue, changesNothing, mostWords, signalOf}
 use Rattle.format.specs.Names.{fieldFits, unpadded, same, among}
 use Rattle.slices.specs.Bytes.{low16, low32, wordsIn}
 use Rattle.signals.specs.Answers.{firstOf}
@@ -46,7 +46,7 @@ signalFault earlier rest =
     cond (ltb (length rest) 8) 15
     (cond (not (fieldFits (take 8 rest)) || among (nameAt rest) earlier) 16
     (cond (ltb (length rest) 10) 15
-    (cond (eqb (wordCount rest) 0 || ltb 256 (wordCount rest)) 17
+    (cond (eqb (wordCount rest) 0 || ltb mostWords (wordCount rest)) 17
     (sheetWordsFault (wordCount rest) (drop 10 rest)))))
 
 -- n signals, and no bytes left over

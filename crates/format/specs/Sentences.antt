@@ -5,7 +5,7 @@ use mathlib.Core.Bool.{true, false}
 use mathlib.Core.List.{List, [], _∷_, _++_}
 use mathlib.Core.Logic.{_⊎_, _↔_}
 use lib.ListN.{length, take}
-use Rattle.signals.specs.Words.{listFault}
+use Rattle.signals.specs.Words.{mostWords, listFault}
 use Rattle.signals.specs.Checks.{Check, FaultCheck, NoFault, Exactly}
 use Rattle.names.specs.Sentence.{IsName}
 use Rattle.format.specs.Names.{padded, among}
@@ -30,11 +30,11 @@ pub data SignalFaulty (earlier : List (List ℕ)) : List ℕ → ℕ → Type 0 
       → SignalFaulty earlier rest 16
   nameRepeated : (name rest : List ℕ) → IsName name → among name earlier ≡ true → SignalFaulty earlier (padded name ++ rest) 16
   countCut : (name rest : List ℕ) → NewName earlier name → length rest < 2 → SignalFaulty earlier (padded name ++ rest) 15
-  countOutside : (name : List ℕ) (n : ℕ) (rest : List ℕ) → NewName earlier name → n < 65536 → (n ≡ 0) ⊎ (256 < n)
+  countOutside : (name : List ℕ) (n : ℕ) (rest : List ℕ) → NewName earlier name → n < 65536 → (n ≡ 0) ⊎ (mostWords < n)
       → SignalFaulty earlier (padded name ++ (bytes16 n ++ rest)) 17
-  wordCut : (name : List ℕ) (n : ℕ) (ws rest : List ℕ) → NewName earlier name → n ≤ 256 → Words ws → SoundSoFar ws → length ws < n
+  wordCut : (name : List ℕ) (n : ℕ) (ws rest : List ℕ) → NewName earlier name → n ≤ mostWords → Words ws → SoundSoFar ws → length ws < n
       → length rest < 4 → SignalFaulty earlier (padded name ++ (bytes16 n ++ (wordBytes ws ++ rest))) 15
-  wordBroken : (name : List ℕ) (n : ℕ) (ws : List ℕ) (w : ℕ) (rest : List ℕ) → NewName earlier name → n ≤ 256 → Words ws
+  wordBroken : (name : List ℕ) (n : ℕ) (ws : List ℕ) (w : ℕ) (rest : List ℕ) → NewName earlier name → n ≤ mostWords → Words ws
       → SoundSoFar ws → length ws < n → w < 4294967296 → (listFault (ws ++ w ∷ []) ≡ 0 → ⊥)
       → SignalFaulty earlier (padded name ++ (bytes16 n ++ (wordBytes ws ++ (bytes32 w ++ rest)))) 17
 

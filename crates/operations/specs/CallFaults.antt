@@ -6,7 +6,7 @@ use mathlib.Core.Path.{_≡_}
 use lib.ListN.{length, getD}
 use Rattle.signals.specs.Moment.{M, gap, instant}
 use Rattle.signals.specs.Signal.{Signal, NOT, rising, falling, TON, TOF}
-use Rattle.signals.specs.Words.{dateOf, listFault, signalOf, listOf}
+use Rattle.signals.specs.Words.{dateOf, mostWords, listFault, signalOf, listOf}
 use Rattle.signals.specs.Checks.{Check, FaultCheck, NoFault, Exactly}
 use Rattle.signals.specs.Settled.{SettledFrom}
 use Rattle.signals.specs.Normal.{Accepted}
@@ -14,7 +14,7 @@ use Rattle.operations.specs.Calls.{exactOfOne, exactOfTwo, exactOfDelay,
 
 -- 5: exact answer over 256 words, those past M counted
 abbrev pub Breaks5 : List ℕ → Type 0
-Breaks5 exact = 256 < length exact
+Breaks5 exact = mostWords < length exact
 
 -- 6: exact answer changes after M: some word of it is dated after M
 abbrev pub Breaks6 : List ℕ → Type 0

@@ -9,7 +9,7 @@ use Rattle.signals.specs.Answers.{firstOf, writtenOf, outputOf}
 use Rattle.signals.specs.declared.Written.{Written}
 use Rattle.signals.specs.Moment.{M}
 use Rattle.signals.specs.Signal.{Signal}
-use Rattle.signals.specs.Words.{dateOf, listFault, pairFault, signalOf, lastDate, listOf}
+use Rattle.signals.specs.Words.{dateOf, mostWords, listFault, pairFault, signalOf, lastDate, listOf}
 
 -- a word of the list is dated after M
 unfoldable pub changesAfterM : List ℕ → Bool
@@ -18,7 +18,7 @@ changesAfterM (w ∷ ws) = ltb M (dateOf w) || changesAfterM ws
 
 -- 5: the exact answer is over 256 words, those past M counted; 6: it changes after M; 5 where both apply
 unfoldable pub partFault : List ℕ → ℕ
-partFault exact = cond (ltb 256 (length exact)) 5 (cond (changesAfterM exact) 6 0)
+partFault exact = cond (ltb mostWords (length exact)) 5 (cond (changesAfterM exact) 6 0)
 
 -- 7: the output, of n words, is shorter than the answer
 unfoldable pub roomFault : List ℕ → ℕ → ℕ

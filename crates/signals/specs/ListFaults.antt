@@ -5,12 +5,12 @@ use mathlib.Core.List.{List}
 use mathlib.Core.Logic.{_⊎_}
 use mathlib.Core.Path.{_≡_}
 use lib.ListN.{length, getD}
-use Rattle.signals.specs.Words.{dateOf, valueAt, valueAfter, headValue, listFault, tidyFault}
+use Rattle.signals.specs.Words.{dateOf, valueAt, valueAfter, headValue, mostWords, listFault, tidyFault}
 use Rattle.signals.specs.Checks.{Check, NoFault, Exactly}
 
 -- 1: list empty or over 256 words
 abbrev pub Breaks1 : List ℕ → Type 0
-Breaks1 l = (length l ≡ 0) ⊎ (256 < length l)
+Breaks1 l = (length l ≡ 0) ⊎ (mostWords < length l)
 
 -- 2: first word above 1
 abbrev pub Breaks2 : List ℕ → Type 0

@@ -5,7 +5,7 @@ use mathlib.Core.Logic.{_↔_}
 use mathlib.Core.Path.{_≡_}
 use lib.ListN.{length}
 use Rattle.signals.specs.Signal.{Signal}
-use Rattle.signals.specs.Words.{dateOf, headValue, wordsFault, listFault, signalOf, lastDate, listOf}
+use Rattle.signals.specs.Words.{dateOf, headValue, wordsFault, mostWords, listFault, signalOf, lastDate, listOf}
 use Rattle.signals.specs.Settled.{SettledFrom, Same}
 
 -- A normal list breaks none of rules 2 to 4 and is not empty; it may be longer than 256 words.
@@ -27,7 +27,7 @@ DatesRise = (h : ℕ) (ws : List ℕ) → Normal (h ∷ ws) → Rising 0 ws
 
 -- An accepted list is a normal one of at most 256 words.
 abbrev pub AcceptedNormal : Type 0
-AcceptedNormal = (l : List ℕ) → Accepted l ↔ (Normal l × (length l ≤ 256))
+AcceptedNormal = (l : List ℕ) → Accepted l ↔ (Normal l × (length l ≤ mostWords))
 
 -- A signal has one list.
 abbrev pub Unique : Type 0
