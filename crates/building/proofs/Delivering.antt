@@ -18,6 +18,7 @@ use Rattle.operations.specs.Calls.{partFault, roomFault, answerFault, changesAf
 use Rattle.building.specs.Building.{Built, madeFault, Delivers}
 use Rattle.building.specs.declared.Made.{Made}
 use Rattle.building.proofs.BuildingLaws.{slot-short}
+use Rattle.signals.specs.Words.{mostWords}
 
 copy-step : (s o : List ℕ) (i : ℕ) → i < length s → i < length o
     → set (take i s ++ drop i o) i (getD s i 0) ≡ take (i + 1) s ++ drop (i + 1) o
@@ -32,31 +33,31 @@ copy-next s o out i e hs ho = rw e (copy-step s o i hs ho)
 
 -- the tests that the code makes
 module _ (made : Made) (slot out : List ℕ) where
-  pub too-long : 256 < made .count → Delivers made slot out (Refused 5) out
+  pub too-long : mostWords < made .count → Delivers made slot out (Refused 5) out
   unfolding madeFault writtenOf outputOf
-  too-long h = (rw (lt-ltb 256 (made .count) h), rw (lt-ltb 256 (made .count) h))
+  too-long h = (rw (lt-ltb mostWords (made .count) h), rw (lt-ltb mostWords (made .count) h))
 
-  module _ (h : made .count ≤ 256) where
+  module _ (h : made .count ≤ mostWords) where
     pub not-held : length slot < made .count → Delivers made slot out (Refused 5) out
     unfolding madeFault writtenOf outputOf
     not-held s = (
-      rw (le-ltb 256 (made .count) h, lt-ltb (length slot) (made .count) s),
-      rw (le-ltb 256 (made .count) h, lt-ltb (length slot) (made .count) s),
+      rw (le-ltb mostWords (made .count) h, lt-ltb (length slot) (made .count) s),
+      rw (le-ltb mostWords (made .count) h, lt-ltb (length slot) (made .count) s),
     )
 
     module _ (s : made .count ≤ length slot) where
       pub too-late : made .late ≡ true → Delivers made slot out (Refused 6) out
       unfolding madeFault writtenOf outputOf
       too-late l = (
-        rw (le-ltb 256 (made .count) h, le-ltb (length slot) (made .count) s, l),
-        rw (le-ltb 256 (made .count) h, le-ltb (length slot) (made .count) s, l),
+        rw (le-ltb mostWords (made .count) h, le-ltb (length slot) (made .count) s, l),
+        rw (le-ltb mostWords (made .count) h, le-ltb (length slot) (made .count) s, l),
       )
 
       pub no-room : made .late ≡ false → length out < made .count → Delivers made slot out (Refused 7) out
       unfolding madeFault writtenOf outputOf
       no-room l o = (
-        rw (le-ltb 256 (made .count) h, le-ltb (length slot) (made .count) s, l, lt-ltb (length out) (made .count) o),
-        rw (le-ltb 256 (made .count) h, le-ltb (length slot) (made .count) s, l, lt-ltb (length out) (made .count) o),
+        rw (le-ltb mostWords (made .count) h, le-ltb (length slot) (made .count) s, l, lt-ltb (length out) (made .count) o),
+        rw (le-ltb mostWords (made .count) h, le-ltb (length slot) (made .count) s, l, lt-ltb (length out) (made .count) o),
       )
 
       pub whole : made .late ≡ false → made .count ≤ length out → (after : List ℕ)
@@ -65,8 +66,8 @@ module _ (made : Made) (slot out : List ℕ) where
       unfolding madeFault writtenOf outputOf
       whole l o after q =
           let long : length (take (made .count) slot) ≡ made .count = length-take-le (made .count) slot s in (
-            rw (le-ltb 256 (made .count) h, le-ltb (length slot) (made .count) s, l, le-ltb (length out) (made .count) o, long),
-            rw (le-ltb 256 (made .count) h, le-ltb (length slot) (made .count) s, l, le-ltb (length out) (made .count) o, long) q,
+            rw (le-ltb mostWords (made .count) h, le-ltb (length slot) (made .count) s, l, le-ltb (length out) (made .count) o, long),
+            rw (le-ltb mostWords (made .count) h, le-ltb (length slot) (made .count) s, l, le-ltb (length out) (made .count) o, long) q,
           )
 
 -- a call's words matter where it has no fault
@@ -87,19 +88,20 @@ output-alike fault words exact out h = go (eqb fault 0) refl
     go false e = refl
 
 -- what is delivered of the whole answer, built in a slot of 256 words or more, is what the call gives
-module _ (exact old slot : List ℕ) (made : Made) (b : Built exact old slot made) (room : 256 ≤ length old) (kept : length slot ≡ length old)
-    (out : List ℕ)
+module _ (exact old slot : List ℕ) (made : Made) (b : Built exact old slot made) (room : mostWords ≤ length old)
+    (kept : length slot ≡ length old) (out : List ℕ)
   where
     same-fault : madeFault made (length slot) (length out) ≡ answerFault exact (length out)
     unfolding madeFault answerFault partFault roomFault firstOf
-    same-fault = rw (b .count-is, b .late-is) (go (ltb 256 (length exact)) (changesAfterM exact) (ltb (length out) (length exact)) refl)
+    same-fault = rw (b .count-is, b .late-is)
+        (go (ltb mostWords (length exact)) (changesAfterM exact) (ltb (length out) (length exact)) refl)
       where
-        go : (t u v : Bool) → ltb 256 (length exact) ≡ t
+        go : (t u v : Bool) → ltb mostWords (length exact) ≡ t
             → _≡_ {A = ℕ}
             (cond (t || ltb (length slot) (length exact)) 5 (cond u 6 (cond v 7 0)))
             (cond (eqb (cond t 5 (cond u 6 0)) 0) (cond v 7 0) (cond t 5 (cond u 6 0)))
         go true u v p = refl
-        go false u v p = rw (le-ltb (length slot) (length exact) (omega (arith, ltb-false 256 (length exact) p))) (ways u v)
+        go false u v p = rw (le-ltb (length slot) (length exact) (omega (arith, ltb-false mostWords (length exact) p))) (ways u v)
           where
             ways : (u v : Bool) → _≡_ {A = ℕ} (cond u 6 (cond v 7 0)) (cond (eqb (cond u 6 0) 0) (cond v 7 0) (cond u 6 0))
             ways true v = refl

@@ -11,7 +11,7 @@ use lib.Seq.{take-append-seam}
 use borrow.Author.Tests.{ltb-true, ltb-false, eq-eqb, ne-eqb}
 use Rattle.signals.specs.Moment.{M}
 use Rattle.signals.specs.Signal.{Signal}
-use Rattle.signals.specs.Words.{dateOf, signalOf}
+use Rattle.signals.specs.Words.{dateOf, signalOf, mostWords}
 use Rattle.signals.specs.Settled.{Same}
 use Rattle.signals.specs.Answers.{faultIn, outputOf}
 use Rattle.signals.specs.Implication.{faultOfVerdict}
@@ -55,12 +55,12 @@ use Rattle.calls.proofs.NotRefused.{claim-fault-shown}
 pub part-accepted : (s : Signal) (l : List ℕ) → ListFor s l → partFault l ≡ 0 → TheList s l
 unfolding partFault
 part-accepted s l h e =
-    let a = passed (ltb 256 (length l)) 5 (cond (changesAfterM l) 6 0) (omega arith) e in
+    let a = passed (ltb mostWords (length l)) 5 (cond (changesAfterM l) 6 0) (omega arith) e in
     let b = passed (changesAfterM l) 6 0 (omega arith) (a .1) in
     record {
       listed = h;
       only = λ m k. one-for k h;
-      accepted = accepted-normal l .1 (h .normal, ltb-false 256 (length l) (a .0));
+      accepted = accepted-normal l .1 (h .normal, ltb-false mostWords (length l) (a .0));
       withinM = λ i m. within i m (b .0);
     }
   where

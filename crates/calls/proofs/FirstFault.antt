@@ -12,11 +12,6 @@ pub passed : (b : Bool) (n x : ℕ) → 0 < n → cond b n x ≡ 0 → (b ≡ fa
 passed true n x l e = absurd (omega arith)
 passed false n x l e = (refl, e)
 
--- the second of two was not reached
-pub missed : (b : Bool) (n : ℕ) → 0 < n → cond b 0 n ≡ 0 → b ≡ true
-missed true n l e = refl
-missed false n l e = absurd (omega arith)
-
 -- none or some
 pub zero-or-not : (n : ℕ) → (n ≡ 0) ⊎ (¬ (n ≡ 0))
 zero-or-not n = go (eqb n 0) refl

@@ -9,7 +9,7 @@ use lib.Dec.{leb}
 use lib.ListN.{length}
 use borrow.Author.Tests.{leb-true, le-ltb}
 use Rattle.signals.specs.Signal.{constant}
-use Rattle.signals.specs.Words.{dateOf, listFault, wordsOf, listOf}
+use Rattle.signals.specs.Words.{dateOf, listFault, wordsOf, listOf, mostWords}
 use Rattle.signals.proofs.Truth.{and-left, down-of, not-both}
 use Rattle.signals.proofs.Normal.{accepted-normal, read-back}
 use Rattle.operations.specs.Calls.{changesAfterM, partFault}
@@ -82,7 +82,7 @@ name-exact sheet n a = read-back (listNamed n (signalsOn sheet)) (accepted-norma
 
 accepted-fine : (l : List ℕ) → listFault l ≡ 0 → changesAfterM l ≡ false → partFault l ≡ 0
 unfolding partFault
-accepted-fine l a e = rw (le-ltb 256 (length l) (accepted-normal l .0 a .1), e) refl
+accepted-fine l a e = rw (le-ltb mostWords (length l) (accepted-normal l .0 a .1), e) refl
 
 name-parts : (sheet n : List ℕ) → partFault (exactOn sheet (leaf (name n))) ≡ 0 → partsFault sheet (parts (leaf (name n))) ≡ 0
 unfolding partsFault parts

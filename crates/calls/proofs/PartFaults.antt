@@ -10,7 +10,7 @@ use lib.ListN.{length, getD}
 use borrow.Author.Tests.{ltb-true, ltb-false, lt-ltb}
 use Rattle.signals.specs.Moment.{M}
 use Rattle.signals.specs.Signal.{Signal}
-use Rattle.signals.specs.Words.{dateOf}
+use Rattle.signals.specs.Words.{dateOf, mostWords}
 use Rattle.signals.proofs.Truth.{or-cases, or-left, or-right, not-both}
 use Rattle.operations.specs.Calls.{changesAfterM, partFault}
 use Rattle.grammar.specs.Tree.{Tree, leaf, unary, binary}
@@ -47,33 +47,33 @@ of-late (w ∷ ws) (suc i) m d = or-right (ltb M (dateOf w)) (changesAfterM ws) 
 abbrev pub PartFaultIs : Signal → ℕ → Type 0
 PartFaultIs s = Check 5 (Meets5 s) (Check 6 (Meets6 s) NoFault)
 
-long-part : (l : List ℕ) → ltb 256 (length l) ≡ true → partFault l ≡ 5
+long-part : (l : List ℕ) → ltb mostWords (length l) ≡ true → partFault l ≡ 5
 unfolding partFault
 long-part l p = rw p refl
 
-late-part : (l : List ℕ) → ltb 256 (length l) ≡ false → changesAfterM l ≡ true → partFault l ≡ 6
+late-part : (l : List ℕ) → ltb mostWords (length l) ≡ false → changesAfterM l ≡ true → partFault l ≡ 6
 unfolding partFault
 late-part l p q = rw (p, q) refl
 
-fine-part : (l : List ℕ) → ltb 256 (length l) ≡ false → changesAfterM l ≡ false → partFault l ≡ 0
+fine-part : (l : List ℕ) → ltb mostWords (length l) ≡ false → changesAfterM l ≡ false → partFault l ≡ 0
 unfolding partFault
 fine-part l p q = rw (p, q) refl
 
 pub part-fault : (s : Signal) (l : List ℕ) → ListFor s l → PartFaultIs s (partFault l)
-part-fault s l h = go (ltb 256 (length l)) refl (changesAfterM l) refl
+part-fault s l h = go (ltb mostWords (length l)) refl (changesAfterM l) refl
   where
-    no5 : ltb 256 (length l) ≡ false → ¬ Meets5 s
+    no5 : ltb mostWords (length l) ≡ false → ¬ Meets5 s
     no5 p m =
         let q : length (m .0) ≡ length l = ap length (one-for (m .1) h) in
-        omega (arith, ltb-false 256 (length l) p, m .2)
+        omega (arith, ltb-false mostWords (length l) p, m .2)
 
     no6 : changesAfterM l ≡ false → ¬ Meets6 s
     no6 q m =
         let z : changesAfterM (m .0) ≡ true = of-late (m .0) (m .2 .0) (m .2 .1) (m .2 .2) in
         not-both z (ap changesAfterM (one-for (m .1) h) ∙ q)
 
-    go : (b : Bool) → ltb 256 (length l) ≡ b → (c : Bool) → changesAfterM l ≡ c → PartFaultIs s (partFault l)
-    go true p c q = inl ((l, h, ltb-true 256 (length l) p), long-part l p)
+    go : (b : Bool) → ltb mostWords (length l) ≡ b → (c : Bool) → changesAfterM l ≡ c → PartFaultIs s (partFault l)
+    go true p c q = inl ((l, h, ltb-true mostWords (length l) p), long-part l p)
     go false p true q = inr (no5 p, inl ((l, h, late-of l q), late-part l p q))
     go false p false q = inr (no5 p, inr (no6 q, fine-part l p q))
 

@@ -11,7 +11,7 @@ use lib.ListN.{length, getD}
 use borrow.Author.Tests.{ltb-true, ltb-false}
 use Rattle.signals.specs.Moment.{M, gap, instant}
 use Rattle.signals.specs.Signal.{Signal, Table}
-use Rattle.signals.specs.Words.{dateOf, listFault, signalOf}
+use Rattle.signals.specs.Words.{dateOf, listFault, signalOf, mostWords}
 use Rattle.signals.specs.Passing.{heldValue, isNext, atDate, passedDate}
 use Rattle.signals.specs.Quantified.{Down}
 use Rattle.signals.proofs.Operand.{At, Passed, at-pass, at-end, next-later}
@@ -24,7 +24,7 @@ use Rattle.comparing.specs.declared.Found.the-variants.{In, Nowhere}
 use Rattle.lists.proofs.ReadingFacts.{is-next}
 use Rattle.lists.proofs.Counting.{next-in, next-none}
 
-pub short : (l : List ℕ) → listFault l ≡ 0 → length l ≤ 256
+pub short : (l : List ℕ) → listFault l ≡ 0 → length l ≤ mostWords
 short l z = accepted-normal l .0 z .1
 
 -- every word's date is at most M

@@ -7,7 +7,7 @@ use mathlib.Core.List.{List, [], _∷_, _++_, append-assoc}
 use lib.Dec.{leb, ltb}
 use lib.ListN.{length, drop, length-append}
 use borrow.Author.Tests.{ltb-false, le-ltb}
-use Rattle.signals.specs.Words.{dateOf, valueAfter, headValue, changesNothing, wordsFault, listFault}
+use Rattle.signals.specs.Words.{dateOf, valueAfter, headValue, changesNothing, wordsFault, listFault, mostWords}
 use Rattle.names.proofs.Truth.{or-left, or-right}
 use Rattle.format.proofs.Judging.{past}
 use Rattle.format.proofs.Digits.{length-wordsIn, low32-written, four-past}
@@ -25,14 +25,14 @@ later-listed last before (suc n) b h =
     rw (or-left (leb (dateOf (low32 b)) last) _ (g .0), or-right (leb (dateOf (low32 b)) last) _ (g .0))
     (later-listed (dateOf (low32 b)) (valueAfter (low32 b)) n (drop 4 b) (g .1))
 
-pub words-listed : (n : ℕ) (b : List ℕ) → (n ≡ 0 → ⊥) → n ≤ 256 → sheetWordsFault n b ≡ 0 → listFault (wordsIn n b) ≡ 0
+pub words-listed : (n : ℕ) (b : List ℕ) → (n ≡ 0 → ⊥) → n ≤ mostWords → sheetWordsFault n b ≡ 0 → listFault (wordsIn n b) ≡ 0
 unfolding sheetWordsFault listFault wordsIn
 words-listed zero b z m h = absurd (z refl)
 words-listed (suc n) b z m h =
     let e = past (ltb (length b) 4) 14 _ h in
     let g = past (ltb 1 (low32 b)) 16 _ (e .1) in
     let k : suc n - 1 ≡ n = omega arith in
-    rw (le-ltb 256 (suc (length (wordsIn n (drop 4 b)))) (rw length-wordsIn m), g .0)
+    rw (le-ltb mostWords (suc (length (wordsIn n (drop 4 b)))) (rw length-wordsIn m), g .0)
     (later-listed 0 (headValue (low32 b)) n (drop 4 b) (rw k at (g .1)))
 
 pub four-more : (w : ℕ) (rest : List ℕ) → 4 ≤ length (bytes32 w ++ rest)
@@ -59,7 +59,7 @@ pub words-accepted : (ws rest : List ℕ) → Words ws → listFault ws ≡ 0 �
 unfolding sheetWordsFault listFault wordBytes
 words-accepted [] rest k h = absurd (omega arith)
 words-accepted (w ∷ ws) rest k h =
-    let e = past (ltb 256 (suc (length ws))) 0 _ h in
+    let e = past (ltb mostWords (suc (length ws))) 0 _ h in
     let g = past (ltb 1 w) 1 _ (e .1) in
     let m : suc (length ws) - 1 ≡ length ws = omega arith in
     rw (
@@ -72,9 +72,9 @@ words-accepted (w ∷ ws) rest k h =
     )
     (later-accepted 0 (headValue w) ws rest (λ i. k (suc i)) (g .1))
 
-pub listed-some : (ws : List ℕ) → listFault ws ≡ 0 → (length ws ≡ 0 → ⊥) × (length ws ≤ 256)
+pub listed-some : (ws : List ℕ) → listFault ws ≡ 0 → (length ws ≡ 0 → ⊥) × (length ws ≤ mostWords)
 unfolding listFault
 listed-some [] h = absurd (omega arith)
 listed-some (w ∷ ws) h =
-    let e = past (ltb 256 (suc (length ws))) 0 _ h in
-    ((λ z. omega (arith, z)), ltb-false 256 (suc (length ws)) (e .0))
+    let e = past (ltb mostWords (suc (length ws))) 0 _ h in
+    ((λ z. omega (arith, z)), ltb-false mostWords (suc (length ws)) (e .0))

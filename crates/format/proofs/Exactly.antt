@@ -22,6 +22,7 @@ use Rattle.format.specs.Reading.{nameAt, wordCount, sheetWordsFault, sig
 use Rattle.names.specs.Sentence.{IsName}
 use Rattle.format.specs.Sentences.{SignalFaulty}
 use Rattle.format.specs.Sentences.SignalFaulty.{nameCut, nameMalformed, nameRepeated, countCut, countOutside, wordCut, wordBroken}
+use Rattle.signals.specs.Words.{mostWords}
 
 -- a signal that begins with a name
 module _ (name rest : List ℕ) (n : IsName name) where
@@ -63,7 +64,7 @@ module _ (name : List ℕ) (n : ℕ) (rest : List ℕ) (m : IsName name) (h : n 
       ∙ drop-at (bytes16 n) rest 2 (two n)
 
   -- the fault of such a signal is that of its words
-  counted : (earlier : List (List ℕ)) → among name earlier ≡ false → (n ≡ 0 → ⊥) → n ≤ 256
+  counted : (earlier : List (List ℕ)) → among name earlier ≡ false → (n ≡ 0 → ⊥) → n ≤ mostWords
       → signalFault earlier (padded name ++ (bytes16 n ++ rest)) ≡ sheetWordsFault n rest
   unfolding signalFault
   counted earlier a z q =
@@ -75,23 +76,23 @@ module _ (name : List ℕ) (n : ℕ) (rest : List ℕ) (m : IsName name) (h : n 
         le-ltb (length (padded name ++ (bytes16 n ++ rest))) 10 (omega (arith, longer)),
         count-is,
         ne-eqb n 0 z,
-        le-ltb 256 n q,
+        le-ltb mostWords n q,
         after-count,
       )
 
-outside : (k : ℕ) → (k ≡ 0) ⊎ (256 < k) → eqb k 0 || ltb 256 k ≡ true
+outside : (k : ℕ) → (k ≡ 0) ⊎ (mostWords < k) → eqb k 0 || ltb mostWords k ≡ true
 outside k (inl e) = rw (eq-eqb k 0 e)
-outside k (inr l) = rw (ne-eqb k 0 (λ e. omega (arith, e)), lt-ltb 256 k l)
+outside k (inr l) = rw (ne-eqb k 0 (λ e. omega (arith, e)), lt-ltb mostWords k l)
 
-is-outside : (k : ℕ) → eqb k 0 || ltb 256 k ≡ true → (k ≡ 0) ⊎ (256 < k)
+is-outside : (k : ℕ) → eqb k 0 || ltb mostWords k ≡ true → (k ≡ 0) ⊎ (mostWords < k)
 is-outside k h = go (eqb k 0) refl h
   where
-    go : (t : Bool) → eqb k 0 ≡ t → t || ltb 256 k ≡ true → (k ≡ 0) ⊎ (256 < k)
+    go : (t : Bool) → eqb k 0 ≡ t → t || ltb mostWords k ≡ true → (k ≡ 0) ⊎ (mostWords < k)
     go true p q = inl (eqb-true k 0 p)
-    go false p q = inr (ltb-true 256 k q)
+    go false p q = inr (ltb-true mostWords k q)
 
-is-inside : (k : ℕ) → eqb k 0 || ltb 256 k ≡ false → (k ≡ 0 → ⊥) × (k ≤ 256)
-is-inside k h = (eqb-false k 0 (or-left (eqb k 0) (ltb 256 k) h), ltb-false 256 k (or-right (eqb k 0) (ltb 256 k) h))
+is-inside : (k : ℕ) → eqb k 0 || ltb mostWords k ≡ false → (k ≡ 0 → ⊥) × (k ≤ mostWords)
+is-inside k h = (eqb-false k 0 (or-left (eqb k 0) (ltb mostWords k) h), ltb-false mostWords k (or-right (eqb k 0) (ltb mostWords k) h))
 
 module _ (earlier : List (List ℕ)) where
   malformed : (rest : List ℕ) → 8 ≤ length rest → ((name : List ℕ) → IsName name → take 8 rest ≡ padded name → ⊥)
@@ -159,7 +160,8 @@ module _ (earlier : List (List ℕ)) (rest : List ℕ) (b : Bytes rest) where
       words-kept x p = ap (λ (y : List ℕ). padded (nameAt rest) ++ (bytes16 (wordCount rest) ++ y)) (sym p) ∙ both-kept
 
   at-words : (f : ℕ) → 8 ≤ length rest → fieldFits (take 8 rest) ≡ true → among (nameAt rest) earlier ≡ false → 10 ≤ length rest
-      → wordCount rest ≤ 256 → ((f ≡ 15) × CutAt (wordCount rest) (drop 10 rest)) ⊎ ((f ≡ 17) × BrokenAt (wordCount rest) (drop 10 rest))
+      → wordCount rest ≤ mostWords
+      → ((f ≡ 15) × CutAt (wordCount rest) (drop 10 rest)) ⊎ ((f ≡ 17) × BrokenAt (wordCount rest) (drop 10 rest))
       → SignalFaulty earlier rest f
   at-words f l e a m q (inl c) =
       rw (c .0)
@@ -177,10 +179,10 @@ module _ (earlier : List (List ℕ)) (rest : List ℕ) (b : Bytes rest) where
   unfolding signalFault
   signal-found f z h =
       go (ltb (length rest) 8) (fieldFits (take 8 rest)) (among (nameAt rest) earlier) (ltb (length rest) 10)
-      (eqb (wordCount rest) 0 || ltb 256 (wordCount rest)) refl refl refl refl refl h
+      (eqb (wordCount rest) 0 || ltb mostWords (wordCount rest)) refl refl refl refl refl h
     where
       go : (t₁ t₂ t₃ t₄ t₅ : Bool) → ltb (length rest) 8 ≡ t₁ → fieldFits (take 8 rest) ≡ t₂ → among (nameAt rest) earlier ≡ t₃
-          → ltb (length rest) 10 ≡ t₄ → eqb (wordCount rest) 0 || ltb 256 (wordCount rest) ≡ t₅
+          → ltb (length rest) 10 ≡ t₄ → eqb (wordCount rest) 0 || ltb mostWords (wordCount rest) ≡ t₅
           → cond t₁ 15 (cond (not t₂ || t₃) 16 (cond t₄ 15 (cond t₅ 17 (sheetWordsFault (wordCount rest) (drop 10 rest))))) ≡ f
           → SignalFaulty earlier rest f
       go true t₂ t₃ t₄ t₅ p₁ p₂ p₃ p₄ p₅ k = subst (λ (g : ℕ). SignalFaulty earlier rest g) k (nameCut (ltb-true (length rest) 8 p₁))

@@ -7,7 +7,7 @@ use mathlib.Core.Logic.{_⊎_, inl, inr}
 use mathlib.Core.List.{List, [], _∷_, _++_}
 use lib.Dec.{leb, ltb, eqb}
 use lib.ListN.{length, drop, take}
-use Rattle.signals.specs.Words.{dateOf, valueAfter, headValue, changesNothing}
+use Rattle.signals.specs.Words.{dateOf, valueAfter, headValue, changesNothing, mostWords}
 use Rattle.signals.specs.Answers.{firstOf}
 use Rattle.slices.specs.Bytes.{low16, low32}
 use Rattle.format.specs.Names.{fieldFits, same, among}
@@ -45,7 +45,7 @@ signal-of earlier rest =
     choice (ltb (length rest) 8) 15 _ (this 15 (omega arith) (omega arith))
     (choice (not (fieldFits (take 8 rest)) || among (nameAt rest) earlier) 16 _ (this 16 (omega arith) (omega arith))
     (choice (ltb (length rest) 10) 15 _ (this 15 (omega arith) (omega arith))
-    (choice (eqb (wordCount rest) 0 || ltb 256 (wordCount rest)) 17 _ (this 17 (omega arith) (omega arith))
+    (choice (eqb (wordCount rest) 0 || ltb mostWords (wordCount rest)) 17 _ (this 17 (omega arith) (omega arith))
     (words-of (wordCount rest) (drop 10 rest)))))
 
 signals-of : (earlier : List (List ℕ)) (n : ℕ) (rest : List ℕ) → OfSheets (signalsFault earlier n rest)

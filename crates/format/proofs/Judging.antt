@@ -10,7 +10,7 @@ use lib.Dec.{eqb, leb, ltb}
 use lib.ListN.{length, take, drop, length-drop}
 use lib.Seq.{drop-drop}
 use borrow.Author.Tests.{eq-eqb, ne-eqb, lt-ltb, le-ltb, ltb-false, eqb-false, eqb-true}
-use Rattle.signals.specs.Words.{dateOf, valueAfter, headValue, changesNothing}
+use Rattle.signals.specs.Words.{dateOf, valueAfter, headValue, changesNothing, mostWords}
 use Rattle.names.proofs.Truth.{or-left, or-right, not-false-true}
 use Rattle.format.proofs.Walking.{short, long, sub-step}
 use Rattle.format.specs.Names.{same, among, fieldFits, unpadded}
@@ -86,12 +86,12 @@ module _ (earlier : List (List ℕ)) (s : List ℕ) (at : ℕ) where
           unfolding signalFault
           signal-none p = rw (le-ltb _ _ (long s at 8 p8), ← fe, t, ← ke, u, le-ltb _ _ (long s at 10 p10), ← we, eq-eqb _ _ p)
 
-          pub signal-many : (w ≡ 0 → ⊥) → 256 < w → signalFault earlier (drop at s) ≡ 17
+          pub signal-many : (w ≡ 0 → ⊥) → mostWords < w → signalFault earlier (drop at s) ≡ 17
           unfolding signalFault
           signal-many z p =
               rw (le-ltb _ _ (long s at 8 p8), ← fe, t, ← ke, u, le-ltb _ _ (long s at 10 p10), ← we, ne-eqb _ _ z, lt-ltb _ _ p)
 
-          pub signal-words : (w ≡ 0 → ⊥) → w ≤ 256 → sheetWordsFault w (drop (at + 10) s) ≡ signalFault earlier (drop at s)
+          pub signal-words : (w ≡ 0 → ⊥) → w ≤ mostWords → sheetWordsFault w (drop (at + 10) s) ≡ signalFault earlier (drop at s)
           unfolding signalFault
           signal-words z p =
               sym
@@ -146,7 +146,7 @@ pub record Sound (earlier : List (List ℕ)) (rest : List ℕ) : Type 0 where
   pub field : fieldFits (take 8 rest) ≡ true
   pub new : among (nameAt rest) earlier ≡ false
   pub some : wordCount rest ≡ 0 → ⊥
-  pub most : wordCount rest ≤ 256
+  pub most : wordCount rest ≤ mostWords
   pub words : sheetWordsFault (wordCount rest) (drop 10 rest) ≡ 0
   pub whole : signalSize rest ≤ length rest
 
@@ -156,8 +156,8 @@ sound earlier rest h =
     let a = past (ltb (length rest) 8) 14 _ h in
     let b = past (not (fieldFits (take 8 rest)) || among (nameAt rest) earlier) 15 _ (a .1) in
     let d = past (ltb (length rest) 10) 14 _ (b .1) in
-    let e = past (eqb (wordCount rest) 0 || ltb 256 (wordCount rest)) 16 _ (d .1) in
-    let z : wordCount rest ≡ 0 → ⊥ = eqb-false (wordCount rest) 0 (or-left _ (ltb 256 (wordCount rest)) (e .0)) in
+    let e = past (eqb (wordCount rest) 0 || ltb mostWords (wordCount rest)) 16 _ (d .1) in
+    let z : wordCount rest ≡ 0 → ⊥ = eqb-false (wordCount rest) 0 (or-left _ (ltb mostWords (wordCount rest)) (e .0)) in
     record {
       field = not-false-true _ (or-left _ (among (nameAt rest) earlier) (b .0));
       new = or-right (not (fieldFits (take 8 rest))) _ (b .0);

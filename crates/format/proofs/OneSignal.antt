@@ -15,6 +15,7 @@ use Rattle.format.specs.Names.{padded, unpadded}
 use Rattle.slices.specs.Bytes.{low16, bytes16, wordsIn, wordBytes, Bytes}
 use Rattle.format.specs.Reading.{nameAt, wordCount, signalSize, signalFault, entry}
 use Rattle.format.specs.Writing.{entryBytes, Fits}
+use Rattle.signals.specs.Words.{mostWords}
 
 -- a signal that is written reads back, whatever follows
 module _ (earlier : List (List ℕ)) (name list tail : List ℕ) (f : Fits earlier (entry name list)) where
@@ -73,7 +74,7 @@ module _ (earlier : List (List ℕ)) (name list tail : List ℕ) (f : Fits earli
         le-ltb (length (entryBytes (entry name list) ++ tail)) 10 (omega arith),
         count-back,
         ne-eqb (length list) 0 (m .0),
-        le-ltb 256 (length list) (m .1),
+        le-ltb mostWords (length list) (m .1),
         after-count,
       )
       (words-accepted list tail (f .words) (f .listed))

@@ -8,7 +8,7 @@ use mathlib.Core.Logic.{_⊎_, inl, inr, ⊎-elim}
 use lib.Dec.{leb, ltb}
 use lib.ListN.{length, drop, length-append}
 use borrow.Author.Tests.{ltb-false, ltb-true, le-ltb, lt-ltb}
-use Rattle.signals.specs.Words.{dateOf, valueAfter, headValue, changesNothing, wordsFault, listFault}
+use Rattle.signals.specs.Words.{dateOf, valueAfter, headValue, changesNothing, wordsFault, listFault, mostWords}
 use Rattle.names.proofs.Truth.{true-false, or-left, or-right}
 use Rattle.format.proofs.Judging.{past}
 use Rattle.format.proofs.Digits.{low32-written, low32-below, four-past, written32, bytes-drop}
@@ -73,7 +73,7 @@ later-broken last before (v ∷ ws) n w rest k b h m =
 sound-some : (w : ℕ) (ws : List ℕ) → SoundSoFar (w ∷ ws) → (ltb 1 w ≡ false) × (wordsFault 0 (headValue w) ws ≡ 0)
 unfolding listFault
 sound-some w ws (inl e) = absurd (omega (arith, ap length e))
-sound-some w ws (inr h) = past (ltb 1 w) 1 _ (past (ltb 256 (suc (length ws))) 0 _ h .1)
+sound-some w ws (inr h) = past (ltb 1 w) 1 _ (past (ltb mostWords (suc (length ws))) 0 _ h .1)
 
 pub cut-given : (n : ℕ) (ws rest : List ℕ) → Words ws → SoundSoFar ws → length ws < n → length rest < 4
     → sheetWordsFault n (wordBytes ws ++ rest) ≡ 15
@@ -101,12 +101,13 @@ refused-first w n = go (ltb 1 w) n
     go true m = refl
     go false m = absurd (m refl)
 
-refused-later : (h : ℕ) (ws : List ℕ) (w : ℕ) → ltb 1 h ≡ false → length (ws ++ w ∷ []) < 256 → (listFault (h ∷ (ws ++ w ∷ [])) ≡ 0 → ⊥)
+refused-later : (h : ℕ) (ws : List ℕ) (w : ℕ) → ltb 1 h ≡ false → length (ws ++ w ∷ []) < mostWords
+    → (listFault (h ∷ (ws ++ w ∷ [])) ≡ 0 → ⊥)
     → wordsFault 0 (headValue h) (ws ++ w ∷ []) ≡ 0 → ⊥
 unfolding listFault
-refused-later h ws w e l n q = n (rw (le-ltb 256 (suc (length (ws ++ w ∷ []))) l, e) q)
+refused-later h ws w e l n q = n (rw (le-ltb mostWords (suc (length (ws ++ w ∷ []))) l, e) q)
 
-pub broken-given : (n : ℕ) (ws : List ℕ) (w : ℕ) (rest : List ℕ) → n ≤ 256 → Words ws → SoundSoFar ws → length ws < n → w < 4294967296
+pub broken-given : (n : ℕ) (ws : List ℕ) (w : ℕ) (rest : List ℕ) → n ≤ mostWords → Words ws → SoundSoFar ws → length ws < n → w < 4294967296
     → (listFault (ws ++ w ∷ []) ≡ 0 → ⊥) → sheetWordsFault n (wordBytes ws ++ (bytes32 w ++ rest)) ≡ 17
 unfolding sheetWordsFault wordBytes
 broken-given n [] w rest m k s l b f = rw (le-ltb _ 4 (four-more w rest), low32-written w rest b, refused-first w f)
@@ -281,11 +282,11 @@ pub record BrokenAt (n : ℕ) (bytes : List ℕ) : Type 0 where
   pub fewer : length ws < n
   pub all : bytes ≡ wordBytes ws ++ (bytes32 w ++ left)
 
-module _ (n : ℕ) (bytes : List ℕ) (b : Bytes bytes) (m : n ≤ 256) (z : n ≡ 0 → ⊥) (l : 4 ≤ length bytes)
+module _ (n : ℕ) (bytes : List ℕ) (b : Bytes bytes) (m : n ≤ mostWords) (z : n ≡ 0 → ⊥) (l : 4 ≤ length bytes)
     (e : ltb 1 (low32 bytes) ≡ false) where
-  head-listed : (ws : List ℕ) → suc (length ws) ≤ 256 → wordsFault 0 (headValue (low32 bytes)) ws ≡ listFault (low32 bytes ∷ ws)
+  head-listed : (ws : List ℕ) → suc (length ws) ≤ mostWords → wordsFault 0 (headValue (low32 bytes)) ws ≡ listFault (low32 bytes ∷ ws)
   unfolding listFault
-  head-listed ws h = sym (rw (le-ltb 256 (suc (length ws)) h, e))
+  head-listed ws h = sym (rw (le-ltb mostWords (suc (length ws)) h, e))
 
   list-cut : Cut (wordsFault 0 (headValue (low32 bytes))) (n - 1) (drop 4 bytes) → CutAt n bytes
   list-cut c =
@@ -318,7 +319,7 @@ high-refused : (w : ℕ) → ltb 1 w ≡ true → listFault (w ∷ []) ≡ 0 →
 unfolding listFault
 high-refused w e h = let q = rw e at h in omega arith
 
-pub words-found : (n : ℕ) (bytes : List ℕ) (f : ℕ) → Bytes bytes → n ≤ 256 → (n ≡ 0 → ⊥) → sheetWordsFault n bytes ≡ f → (f ≡ 0 → ⊥)
+pub words-found : (n : ℕ) (bytes : List ℕ) (f : ℕ) → Bytes bytes → n ≤ mostWords → (n ≡ 0 → ⊥) → sheetWordsFault n bytes ≡ f → (f ≡ 0 → ⊥)
     → ((f ≡ 15) × CutAt n bytes) ⊎ ((f ≡ 17) × BrokenAt n bytes)
 unfolding sheetWordsFault wordBytes
 words-found n bytes f b m z h k = go (ltb (length bytes) 4) (ltb 1 (low32 bytes)) refl refl h

@@ -10,7 +10,7 @@ use lib.ListN.{length, getD, drop, drop-of-length-le}
 use lib.Seq.{drop-cons}
 use borrow.Author.Tests.{le-leb, lt-leb, lt-ltb, le-ltb}
 use Rattle.lists.specs.Reading.{headFault}
-use Rattle.signals.specs.Words.{dateOf, valueAfter, headValue, changesNothing, wordsFault, listFault}
+use Rattle.signals.specs.Words.{dateOf, valueAfter, headValue, changesNothing, wordsFault, listFault, mostWords}
 
 module _ (l : List ℕ) (passed last : ℕ) (before : Bool) (h : passed < length l) where
   pub fault-3 : dateOf (getD l passed 0) ≤ last → wordsFault last before (drop passed l) ≡ 3
@@ -37,20 +37,20 @@ unfolding headFault
 empty-1 [] e = refl
 empty-1 (w ∷ ws) e = absurd (omega arith)
 
-pub long-1 : (l : List ℕ) → 256 < length l → headFault l ≡ 1
+pub long-1 : (l : List ℕ) → mostWords < length l → headFault l ≡ 1
 unfolding headFault
 long-1 [] e = refl
-long-1 (w ∷ ws) e = rw (lt-ltb 256 (length (w ∷ ws)) e)
+long-1 (w ∷ ws) e = rw (lt-ltb mostWords (length (w ∷ ws)) e)
 
-pub head-2 : (l : List ℕ) → (length l ≡ 0 → ⊥) → length l ≤ 256 → 1 < getD l 0 0 → headFault l ≡ 2
+pub head-2 : (l : List ℕ) → (length l ≡ 0 → ⊥) → length l ≤ mostWords → 1 < getD l 0 0 → headFault l ≡ 2
 unfolding headFault
 head-2 [] n s h = absurd (n refl)
-head-2 (w ∷ ws) n s h = rw (le-ltb 256 (length (w ∷ ws)) s, lt-ltb 1 w h)
+head-2 (w ∷ ws) n s h = rw (le-ltb mostWords (length (w ∷ ws)) s, lt-ltb 1 w h)
 
-pub head-0 : (l : List ℕ) → (length l ≡ 0 → ⊥) → length l ≤ 256 → getD l 0 0 ≤ 1 → headFault l ≡ 0
+pub head-0 : (l : List ℕ) → (length l ≡ 0 → ⊥) → length l ≤ mostWords → getD l 0 0 ≤ 1 → headFault l ≡ 0
 unfolding headFault
 head-0 [] n s h = absurd (n refl)
-head-0 (w ∷ ws) n s h = rw (le-ltb 256 (length (w ∷ ws)) s, le-ltb 1 w h)
+head-0 (w ∷ ws) n s h = rw (le-ltb mostWords (length (w ∷ ws)) s, le-ltb 1 w h)
 
 pub head-some : (l : List ℕ) → headFault l ≡ 0 → 0 < length l
 unfolding headFault
@@ -73,9 +73,9 @@ module _ (fault : ℕ) where
   pub list-head : (l : List ℕ) → fault ≡ headFault l → (fault ≡ 0 → ⊥) → fault ≡ listFault l
   unfolding headFault listFault
   list-head [] e n = e
-  list-head (h ∷ ws) e n = e ∙ head-first (ltb 256 (length (h ∷ ws))) (ltb 1 h) (wordsFault 0 (headValue h) ws) (λ z. n (e ∙ z))
+  list-head (h ∷ ws) e n = e ∙ head-first (ltb mostWords (length (h ∷ ws))) (ltb 1 h) (wordsFault 0 (headValue h) ws) (λ z. n (e ∙ z))
 
   pub list-words : (l : List ℕ) → fault ≡ headFault l → fault ≡ 0 → wordsFault 0 (headValue (getD l 0 0)) (drop 1 l) ≡ listFault l
   unfolding headFault listFault
   list-words [] e z = absurd (omega arith)
-  list-words (h ∷ ws) e z = head-past (ltb 256 (length (h ∷ ws))) (ltb 1 h) (wordsFault 0 (headValue h) ws) (sym e ∙ z)
+  list-words (h ∷ ws) e z = head-past (ltb mostWords (length (h ∷ ws))) (ltb 1 h) (wordsFault 0 (headValue h) ws) (sym e ∙ z)

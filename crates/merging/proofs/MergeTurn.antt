@@ -11,7 +11,7 @@ use lib.Seq.{set-set}
 use borrow.Author.Tests.{lt-ltb, le-ltb, ltb-true, ltb-false, eq-eqb}
 use Rattle.signals.specs.Moment.{gap, M}
 use Rattle.signals.specs.Signal.{Signal, Table, num}
-use Rattle.signals.specs.Words.{dateOf, signalOf, lastDate, lastFrom, listOf, listFault, headValue}
+use Rattle.signals.specs.Words.{dateOf, signalOf, lastDate, lastFrom, listOf, listFault, headValue, mostWords}
 use Rattle.signals.specs.Normal.{Normal, Accepted, Rising}
 use Rattle.signals.specs.Passing.{heldValue, isNext, atDate, afterDate, passedDate}
 use Rattle.signals.proofs.Operand.{At, Passed, at-pass, at-end, next-later, value-held}
@@ -246,7 +246,7 @@ pub record Operands (a b : List ℕ) : Type 0 where
   pub first-small : lastDate a ≤ M
   pub second-small : lastDate b ≤ M
 
-pub short : (l : List ℕ) → Accepted l → length l ≤ 256
+pub short : (l : List ℕ) → Accepted l → length l ≤ mostWords
 short l h = accepted-normal l .0 h .1
 
 module _ (o : Operation) (table : Table) (a b old : List ℕ) (k : ℕ) (slot : List ℕ) (made : Made) (bit : Bool) (i j : ℕ)

@@ -11,7 +11,7 @@ use lib.ListN.{length}
 use borrow.Author.Tests.{lt-ltb, ltb-true, ltb-false}
 use Rattle.signals.specs.Moment.{M}
 use Rattle.signals.specs.Signal.{Signal}
-use Rattle.signals.specs.Words.{dateOf, listFault}
+use Rattle.signals.specs.Words.{dateOf, listFault, mostWords}
 use Rattle.signals.specs.Answers.{firstOf}
 use Rattle.signals.specs.Checks.{Check, FaultCheck}
 use Rattle.signals.specs.Quantified.{Up}
@@ -43,17 +43,17 @@ late-of (w ∷ ws) (suc i, l, h) = or-right (ltb M (dateOf w)) (changesAfterM ws
 
 answer-checks : (exact : List ℕ) (n : ℕ) → AnswerChecks exact n (answerFault exact n)
 unfolding answerFault partFault roomFault firstOf
-answer-checks exact n = go (ltb 256 (length exact)) (changesAfterM exact) (ltb n (length exact)) refl refl refl
+answer-checks exact n = go (ltb mostWords (length exact)) (changesAfterM exact) (ltb n (length exact)) refl refl refl
   where
-    not-long : ltb 256 (length exact) ≡ false → ¬ Breaks5 exact
-    not-long p b = omega (arith, ltb-false 256 (length exact) p)
+    not-long : ltb mostWords (length exact) ≡ false → ¬ Breaks5 exact
+    not-long p b = omega (arith, ltb-false mostWords (length exact) p)
 
     not-late : changesAfterM exact ≡ false → ¬ Breaks6 exact
     not-late q b = not-both (late-of exact b) q
 
-    go : (t u v : Bool) → ltb 256 (length exact) ≡ t → changesAfterM exact ≡ u → ltb n (length exact) ≡ v
+    go : (t u v : Bool) → ltb mostWords (length exact) ≡ t → changesAfterM exact ≡ u → ltb n (length exact) ≡ v
         → AnswerChecks exact n (answerFault exact n)
-    go true u v p q r = inl (ltb-true 256 (length exact) p, rw p)
+    go true u v p q r = inl (ltb-true mostWords (length exact) p, rw p)
     go false true v p q r = inr (not-long p, inl (late-up exact q, rw (p, q)))
     go false false true p q r = inr (not-long p, inr (not-late q, inl (ltb-true n (length exact) r, rw (p, q, r))))
     go false false false p q r =
@@ -183,11 +183,11 @@ two-6 operation a b n e =
     answer-6 (exactOfTwo operation a b) n (list-passed b (AnswerChecks (exactOfTwo operation a b) n) 6 (inr (omega arith)) (h .1) .1)
 
 -- an answer without 5 and 6
-pub part-none : (exact : List ℕ) → partFault exact ≡ 0 → (length exact ≤ 256) × (changesAfterM exact ≡ false)
+pub part-none : (exact : List ℕ) → partFault exact ≡ 0 → (length exact ≤ mostWords) × (changesAfterM exact ≡ false)
 unfolding partFault
-part-none exact = go (ltb 256 (length exact)) (changesAfterM exact) refl
+part-none exact = go (ltb mostWords (length exact)) (changesAfterM exact) refl
   where
-    go : (b c : Bool) → ltb 256 (length exact) ≡ b → _≡_ {A = ℕ} (cond b 5 (cond c 6 0)) 0 → (length exact ≤ 256) × (c ≡ false)
+    go : (b c : Bool) → ltb mostWords (length exact) ≡ b → _≡_ {A = ℕ} (cond b 5 (cond c 6 0)) 0 → (length exact ≤ mostWords) × (c ≡ false)
     go true c e z = absurd (omega arith)
     go false true e z = absurd (omega arith)
-    go false false e z = (ltb-false 256 (length exact) e, refl)
+    go false false e z = (ltb-false mostWords (length exact) e, refl)

@@ -23,6 +23,7 @@ use Rattle.packing.proofs.SmallAnswers.{SmallWritten, SmallVerdict, cho
 use Rattle.packing.proofs.SmallAnswers.{first-small}
 use Rattle.packing.proofs.SmallSheets.{sheet-small}
 use Rattle.signals.proofs.FirstFault.{both-none}
+use Rattle.signals.specs.Words.{mostWords}
 
 formula-small : (text : List ℕ) → formulaFault text < 65536
 unfolding formulaFault
@@ -45,7 +46,7 @@ work-small sheet work = choice (ltb work (neededWork sheet)) 18 0 (omega arith) 
 part-small : (exact : List ℕ) → partFault exact < 65536
 unfolding partFault
 part-small exact =
-    choice (ltb 256 (length exact)) 5 _ (omega arith) (choice (changesAfterM exact) 6 0 (omega arith) (omega arith))
+    choice (ltb mostWords (length exact)) 5 _ (omega arith) (choice (changesAfterM exact) 6 0 (omega arith) (omega arith))
 
 parts-small : (sheet : List ℕ) (ts : List Tree) → partsFault sheet ts < 65536
 unfolding partsFault
@@ -61,7 +62,7 @@ unfolding workingFault wordsOn partFault
 words-short sheet formula z =
     let e = whole-none sheet (formulaTree formula) z in
     let n = length (exactOn sheet (formulaTree formula)) in
-    omega (arith, ltb-false 256 n (passed (ltb 256 n) 5 _ (omega arith) e .0))
+    omega (arith, ltb-false mostWords n (passed (ltb mostWords n) 5 _ (omega arith) e .0))
 
 pub call-small : (sheet formula : List ℕ) (work : ℕ) (old : List ℕ) → SmallWritten (callAnswer sheet formula work old)
 unfolding callAnswer callFault roomFault

@@ -8,7 +8,7 @@ use lib.Dec.{ltb}
 use lib.ListN.{length}
 use Rattle.signals.specs.Moment.{M}
 use Rattle.signals.specs.Signal.{Signal}
-use Rattle.signals.specs.Words.{listFault}
+use Rattle.signals.specs.Words.{listFault, mostWords}
 use Rattle.signals.specs.Answers.{writtenOf}
 use Rattle.operations.specs.Calls.{changesAfterM, answerFault, lengthFault, faultOfOne, exactOfOne, faultOfTwo, exactOfTwo, faultOfDelay}
 use Rattle.operations.specs.Calls.{exactOfDelay, partFault, roomFault}
@@ -22,7 +22,7 @@ answer-small : (exact : List ℕ) (n : ℕ) → answerFault exact n < 65536
 unfolding answerFault partFault roomFault
 answer-small exact n =
     first-small (partFault exact) (roomFault exact n)
-    (choice (ltb 256 (length exact)) 5 _ (omega arith) (choice (changesAfterM exact) 6 0 (omega arith) (omega arith)))
+    (choice (ltb mostWords (length exact)) 5 _ (omega arith) (choice (changesAfterM exact) 6 0 (omega arith) (omega arith)))
     (choice (ltb n (length exact)) 7 0 (omega arith) (omega arith))
 
 answer-short : (exact : List ℕ) (n : ℕ) → answerFault exact n ≡ 0 → length exact < 65536

@@ -11,16 +11,17 @@ use borrow.Author.Tests.{ltb-true, ltb-false}
 use Rattle.signals.specs.Checks.{Check}
 use Rattle.signals.specs.ListFaults.{Breaks1, Breaks2}
 use Rattle.signals.proofs.Checks.{check-by}
+use Rattle.signals.specs.Words.{mostWords}
 
-not-breaks1 : (h : ℕ) (ws : List ℕ) → ltb 256 (length (h ∷ ws)) ≡ false → ¬ Breaks1 (h ∷ ws)
+not-breaks1 : (h : ℕ) (ws : List ℕ) → ltb mostWords (length (h ∷ ws)) ≡ false → ¬ Breaks1 (h ∷ ws)
 not-breaks1 h ws e (inl z) = omega arith
-not-breaks1 h ws e (inr l) = omega (arith, ltb-false 256 (length (h ∷ ws)) e)
+not-breaks1 h ws e (inr l) = omega (arith, ltb-false mostWords (length (h ∷ ws)) e)
 
 -- rest is the fault of the words after the first
 pub head-checks : (h : ℕ) (ws : List ℕ) (rest : ℕ) (later : ℕ → Type 0) → later rest
-    → Check 1 (Breaks1 (h ∷ ws)) (Check 2 (Breaks2 (h ∷ ws)) later) (cond (ltb 256 (length (h ∷ ws))) 1 (cond (ltb 1 h) 2 rest))
+    → Check 1 (Breaks1 (h ∷ ws)) (Check 2 (Breaks2 (h ∷ ws)) later) (cond (ltb mostWords (length (h ∷ ws))) 1 (cond (ltb 1 h) 2 rest))
 head-checks h ws rest later is =
-    check-by 1 (cond (ltb 1 h) 2 rest) (Breaks1 (h ∷ ws)) (Check 2 (Breaks2 (h ∷ ws)) later) (ltb 256 (length (h ∷ ws)))
-    (λ t. inr (ltb-true 256 (length (h ∷ ws)) t))
+    check-by 1 (cond (ltb 1 h) 2 rest) (Breaks1 (h ∷ ws)) (Check 2 (Breaks2 (h ∷ ws)) later) (ltb mostWords (length (h ∷ ws)))
+    (λ t. inr (ltb-true mostWords (length (h ∷ ws)) t))
     (not-breaks1 h ws)
     (λ t. check-by 2 rest (Breaks2 (h ∷ ws)) later (ltb 1 h) (ltb-true 1 h) (λ e b. omega (arith, ltb-false 1 h e)) (λ e. is))

@@ -12,6 +12,7 @@ use lib.ListN.{length, getD}
 use Rattle.signals.specs.Moment.{gap, instant}
 use Rattle.signals.specs.Signal.{Signal}
 use Rattle.signals.specs.Words.{word, dateOf, valueAt, valueAfter, headValue, changesNothing, wordsFault, listFault, valueFrom}
+use Rattle.signals.specs.Words.{mostWords}
 use Rattle.signals.specs.Words.{signalOf, lastFrom, lastDate, wordsOf, listOf}
 use Rattle.signals.specs.Settled.{SettledFrom, entry}
 use Rattle.signals.specs.Normal.{Normal, Accepted, Rising, DatesRise, AcceptedNormal, Unique, UniqueAccepted, ListOfSignal, ReadBack}
@@ -103,20 +104,20 @@ unique l m nl nm same =
 pub accepted-normal : AcceptedNormal
 unfolding listFault
 accepted-normal [] = (λ e. absurd (omega arith), λ p. absurd (p .0))
-accepted-normal (h ∷ ws) = go (ltb 256 (length (h ∷ ws))) (ltb 1 h) refl refl
+accepted-normal (h ∷ ws) = go (ltb mostWords (length (h ∷ ws))) (ltb 1 h) refl refl
   where
-    go : (t u : Bool) → ltb 256 (length (h ∷ ws)) ≡ t → ltb 1 h ≡ u
-        → (cond (ltb 256 (length (h ∷ ws))) 1 (cond (ltb 1 h) 2 (wordsFault 0 (headValue h) ws)) ≡ 0) ↔
-        (Normal (h ∷ ws) × (length (h ∷ ws) ≤ 256))
+    go : (t u : Bool) → ltb mostWords (length (h ∷ ws)) ≡ t → ltb 1 h ≡ u
+        → (cond (ltb mostWords (length (h ∷ ws))) 1 (cond (ltb 1 h) 2 (wordsFault 0 (headValue h) ws)) ≡ 0) ↔
+        (Normal (h ∷ ws) × (length (h ∷ ws) ≤ mostWords))
     go true u p q = (
       λ e. let z : _≡_ {A = ℕ} 1 0 = rw p at e in absurd (omega arith),
       λ n. absurd
-          (omega (arith, ltb-true 256 (length (h ∷ ws)) p, n .1)),
+          (omega (arith, ltb-true mostWords (length (h ∷ ws)) p, n .1)),
     )
     go false true p q =
         (λ e. let z : _≡_ {A = ℕ} 2 0 = rw (p, q) at e in absurd (omega arith), λ n. absurd (omega (arith, ltb-true 1 h q, n .0 .0)))
     go false false p q =
-        (λ e. ((ltb-false 1 h q, rw (p, q) at e), ltb-false 256 (length (h ∷ ws)) p), λ n. rw (p, q) (n .0 .1))
+        (λ e. ((ltb-false 1 h q, rw (p, q) at e), ltb-false mostWords (length (h ∷ ws)) p), λ n. rw (p, q) (n .0 .1))
 
 pub unique-accepted : UniqueAccepted
 unique-accepted l m a b = unique l m (accepted-normal l .0 a .0) (accepted-normal m .0 b .0)

@@ -9,6 +9,7 @@ use lib.ListN.{length, length-append}
 use borrow.Author.Tests.{ltb-false}
 use Rattle.signals.specs.Signal.{Signal}
 use Rattle.signals.specs.Words.{word, dateOf, valueAt, valueAfter, headValue, datesFault, tidyFault, signalOf, lastFrom, lastDate}
+use Rattle.signals.specs.Words.{mostWords}
 use Rattle.signals.specs.Words.{wordsOf, listOf}
 use Rattle.signals.specs.Settled.{SettledFrom, Same, entry}
 use Rattle.signals.specs.Normal.{Normal, Rising}
@@ -22,16 +23,16 @@ use Rattle.signals.proofs.Normal.{last-le, ahead-settled, start, read-b
 pub record Tidy (h : ℕ) (ws : List ℕ) : Type 0 where
   pub first : h ≤ 1
   pub rises : Rising 0 ws
-  pub short : length (h ∷ ws) ≤ 256
+  pub short : length (h ∷ ws) ≤ mostWords
 
 pub tidy : (h : ℕ) (ws : List ℕ) → tidyFault (h ∷ ws) ≡ 0 → Tidy h ws
 unfolding tidyFault
-tidy h ws z = go (ltb 256 (length (h ∷ ws))) (ltb 1 h) refl refl z
+tidy h ws z = go (ltb mostWords (length (h ∷ ws))) (ltb 1 h) refl refl z
   where
-    go : (t u : Bool) → ltb 256 (length (h ∷ ws)) ≡ t → ltb 1 h ≡ u → cond t 1 (cond u 2 (datesFault 0 ws)) ≡ 0 → Tidy h ws
+    go : (t u : Bool) → ltb mostWords (length (h ∷ ws)) ≡ t → ltb 1 h ≡ u → cond t 1 (cond u 2 (datesFault 0 ws)) ≡ 0 → Tidy h ws
     go true u p q e = absurd (omega arith)
     go false true p q e = absurd (omega arith)
-    go false false p q e = record { first = ltb-false 1 h q; rises = no-fault-rise 0 ws e; short = ltb-false 256 (length (h ∷ ws)) p }
+    go false false p q e = record { first = ltb-false 1 h q; rises = no-fault-rise 0 ws e; short = ltb-false mostWords (length (h ∷ ws)) p }
 
 not-empty : tidyFault [] ≡ 0 → ⊥
 unfolding tidyFault
@@ -88,7 +89,7 @@ tidied-denotes : (l : List ℕ) → tidyFault l ≡ 0 → Same (signalOf (tidied
 unfolding tidied
 tidied-denotes l z = list-of-signal (signalOf l) (lastDate l) (tidy-settled l z) .denotes
 
-short : (l : List ℕ) → tidyFault l ≡ 0 → length l ≤ 256
+short : (l : List ℕ) → tidyFault l ≡ 0 → length l ≤ mostWords
 short [] z = absurd (not-empty z)
 short (h ∷ ws) z = tidy h ws z .short
 

@@ -43,9 +43,6 @@ word-of w =
     let after : num (eqb (w % 2) 1) ≡ w % 2 = num-bit (w % 2) (omega arith) in
     omega arith
 
-pub same-word : (v w : ℕ) → dateOf v ≡ dateOf w → valueAt v ≡ valueAt w → valueAfter v ≡ valueAfter w → v ≡ w
-same-word v w d a b = cc (word-of v, word-of w)
-
 pub date-le : (w : ℕ) → w < 2 ^ 32 → dateOf w ≤ M
 unfolding dateOf
 date-le w h = omega arith

@@ -8,7 +8,7 @@ use lib.Dec.{ltb}
 use lib.ListN.{length, getD, drop, drop-of-length-le}
 use lib.Seq.{drop-cons}
 use borrow.Author.Tests.{le-leb, lt-leb}
-use Rattle.signals.specs.Words.{dateOf, datesFault, tidyFault}
+use Rattle.signals.specs.Words.{dateOf, datesFault, tidyFault, mostWords}
 use Rattle.lists.specs.Reading.{headFault}
 use Rattle.lists.proofs.Judging.{head-first, head-past}
 
@@ -29,9 +29,9 @@ module _ (fault : ℕ) where
   pub tidy-head : (l : List ℕ) → fault ≡ headFault l → (fault ≡ 0 → ⊥) → fault ≡ tidyFault l
   unfolding headFault tidyFault
   tidy-head [] e n = e
-  tidy-head (h ∷ ws) e n = e ∙ head-first (ltb 256 (length (h ∷ ws))) (ltb 1 h) (datesFault 0 ws) (λ z. n (e ∙ z))
+  tidy-head (h ∷ ws) e n = e ∙ head-first (ltb mostWords (length (h ∷ ws))) (ltb 1 h) (datesFault 0 ws) (λ z. n (e ∙ z))
 
   pub tidy-dates : (l : List ℕ) → fault ≡ headFault l → fault ≡ 0 → datesFault 0 (drop 1 l) ≡ tidyFault l
   unfolding headFault tidyFault
   tidy-dates [] e z = absurd (omega arith)
-  tidy-dates (h ∷ ws) e z = head-past (ltb 256 (length (h ∷ ws))) (ltb 1 h) (datesFault 0 ws) (sym e ∙ z)
+  tidy-dates (h ∷ ws) e z = head-past (ltb mostWords (length (h ∷ ws))) (ltb 1 h) (datesFault 0 ws) (sym e ∙ z)

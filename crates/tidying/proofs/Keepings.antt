@@ -7,7 +7,7 @@ use mathlib.Core.List.{List, [], _∷_, _++_, append-assoc, append-nil}
 use lib.ListN.{length, getD, drop, set, length-set, length-append}
 use borrow.Author.Tests.{eq-eqb, ne-eqb, lt-ltb, le-ltb}
 use Rattle.signals.specs.Signal.{Signal, num}
-use Rattle.signals.specs.Words.{dateOf, word, changesNothing, tidyFault, signalOf, wordsOf, listOf, lastFrom, lastDate}
+use Rattle.signals.specs.Words.{dateOf, word, changesNothing, tidyFault, signalOf, wordsOf, listOf, lastFrom, lastDate, mostWords}
 use Rattle.signals.specs.Settled.{entry}
 use Rattle.signals.specs.Passing.{heldValue, atDate, afterDate}
 use Rattle.signals.specs.Words.{tidied}
@@ -163,7 +163,7 @@ module _ (l old out : List ℕ) (count passed : ℕ) (k : Keeping l old out coun
       })
 
 -- few words are counted
-pub keep-few : (l old out : List ℕ) (count passed : ℕ) → tidyFault l ≡ 0 → Keeping l old out count passed → count ≤ 256
+pub keep-few : (l old out : List ℕ) (count passed : ℕ) → tidyFault l ≡ 0 → Keeping l old out count passed → count ≤ mostWords
 keep-few l old out count passed z k =
     let whole = simp length-append at (ap length (k .left)) in
     omega (arith, whole, k .count-is, accepted-normal (tidied l) .0 (tidying .accepted l z) .1)
