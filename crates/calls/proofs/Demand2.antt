@@ -26,7 +26,7 @@ use Rattle.grammar.proofs.Reading.{tree-of}
 use Rattle.slices.specs.Bytes.{Bytes, Words}
 use Rattle.format.specs.Names.{among}
 use Rattle.format.specs.Reading.{sheetFault, signalsOn, names, listNamed, environmentOn, entry}
-use Rattle.format.specs.Sentences.{SheetFaulty}
+use Rattle.format.specs.Sentences.{SheetFaultIs}
 use Rattle.format.specs.Calls.{appendFault, appended}
 use Rattle.format.proofs.Steps.{same-refl}
 use Rattle.format.proofs.Named.{among-snoc, named-new}
@@ -205,12 +205,12 @@ append-back sheet name list room b k z work old l m =
 
 -- 14 to 17 by their sentences
 sheet-faults : (sheet formula : List ℕ) (work : ℕ) (old : List ℕ) → Bytes sheet → (n : ℕ) → 14 ≤ n → n ≤ 17
-    → (faultIn (defined .answer sheet formula work old) ≡ n) ↔ SheetFaulty sheet n
+    → (faultIn (defined .answer sheet formula work old) ≡ n) ↔ SheetFaultIs sheet n
 sheet-faults sheet formula work old b n l m =
     call-sheet sheet formula work (length old) (faultIn (callAnswer sheet formula work old)) n (call-faults sheet formula work old) b l m
 
 claim-sheet-faults : (sheet F G : List ℕ) (work : ℕ) → Bytes sheet → (n : ℕ) → 14 ≤ n → n ≤ 17
-    → (faultOfVerdict (defined .claim sheet F G work) ≡ n) ↔ SheetFaulty sheet n
+    → (faultOfVerdict (defined .claim sheet F G work) ≡ n) ↔ SheetFaultIs sheet n
 claim-sheet-faults sheet F G work b n l m =
     rw (claim-fault-shown sheet F G work) (claim-sheet sheet F G work (claimFault sheet F G work) n (claim-fault sheet F G work) b l m)
 

@@ -8,7 +8,7 @@ use Rattle.calls.specs.Tabled.{Breaks7, Breaks18, ReadingChecks, Working
 use Rattle.signals.specs.Checks.{FaultCheck, Check, NoFault}
 use Rattle.slices.specs.Bytes.{Bytes}
 use Rattle.format.specs.Reading.{sheetFault}
-use Rattle.format.specs.Sentences.{SheetFaulty}
+use Rattle.format.specs.Sentences.{SheetFaultIs}
 use Rattle.format.proofs.ExactSheets.{sheet-faults-exact}
 
 -- none of the numbers 14 to 17
@@ -40,14 +40,14 @@ from-sheet sheet later fault n o (inl a) l m = (λ e. sym (a .1) ∙ e, λ e. a 
 from-sheet sheet later fault n o (inr a) l m =
     (λ e. absurd (o fault (a .1) (omega arith) (omega arith)), λ e. absurd (a .0 (λ z. omega arith)))
 
-sentence : (sheet : List ℕ) (fault n : ℕ) → Bytes sheet → 14 ≤ n → (fault ≡ n) ↔ (sheetFault sheet ≡ n) → (fault ≡ n) ↔ SheetFaulty sheet n
+sentence : (sheet : List ℕ) (fault n : ℕ) → Bytes sheet → 14 ≤ n → (fault ≡ n) ↔ (sheetFault sheet ≡ n) → (fault ≡ n) ↔ SheetFaultIs sheet n
 sentence sheet fault n b l h =
-    let x = sheet-faults-exact sheet b n (λ z. omega arith) in
+    let x = sheet-faults-exact sheet b n in
     (λ e. x .0 (h .0 e), λ s. h .1 (x .1 s))
 
 pub call-sheet : (sheet formula : List ℕ) (work room fault n : ℕ) → CallFaultIs sheet formula work room fault → Bytes sheet → 14 ≤ n
     → n ≤ 17
-    → (fault ≡ n) ↔ SheetFaulty sheet n
+    → (fault ≡ n) ↔ SheetFaultIs sheet n
 call-sheet sheet formula work room fault n h b l m =
     sentence sheet fault n b l
     (from-sheet sheet _ fault n
@@ -57,7 +57,7 @@ call-sheet sheet formula work room fault n h b l m =
     h l m)
 
 pub claim-sheet : (sheet F G : List ℕ) (work fault n : ℕ) → ClaimFaultIs sheet F G work fault → Bytes sheet → 14 ≤ n → n ≤ 17
-    → (fault ≡ n) ↔ SheetFaulty sheet n
+    → (fault ≡ n) ↔ SheetFaultIs sheet n
 claim-sheet sheet F G work fault n h b l m =
     sentence sheet fault n b l
     (from-sheet sheet _ fault n

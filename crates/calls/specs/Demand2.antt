@@ -14,7 +14,7 @@ use Rattle.grammar.specs.Grammar.{Writes}
 use Rattle.slices.specs.Bytes.{Bytes, Words}
 use Rattle.format.specs.Names.{among}
 use Rattle.format.specs.Reading.{sheetFault, signalsOn, names, listNamed, environmentOn}
-use Rattle.format.specs.Sentences.{SheetFaulty}
+use Rattle.format.specs.Sentences.{SheetFaultIs}
 use Rattle.format.specs.Calls.{appendFault, appended}
 use Rattle.calls.specs.OnSheet.{signalOn}
 use Rattle.calls.specs.Calls.{neededWork}
@@ -74,9 +74,9 @@ pub record Demand2 (E : Engine) : Type 0 where
   pub claimFaults : (sheet F G : List ℕ) (work : ℕ) → ClaimFaultIs sheet F G work (faultOfVerdict (E .claim sheet F G work))
   -- 14 to 17 on a sheet of bytes, by their sentences
   pub sheetFaults : (sheet formula : List ℕ) (work : ℕ) (old : List ℕ) → Bytes sheet → (n : ℕ) → 14 ≤ n → n ≤ 17
-      → (faultIn (E .answer sheet formula work old) ≡ n) ↔ SheetFaulty sheet n
+      → (faultIn (E .answer sheet formula work old) ≡ n) ↔ SheetFaultIs sheet n
   pub claimSheetFaults : (sheet F G : List ℕ) (work : ℕ) → Bytes sheet → (n : ℕ) → 14 ≤ n → n ≤ 17
-      → (faultOfVerdict (E .claim sheet F G work) ≡ n) ↔ SheetFaulty sheet n
+      → (faultOfVerdict (E .claim sheet F G work) ≡ n) ↔ SheetFaultIs sheet n
   -- a refused call writes nothing to the caller's output
   pub refusedKeeps : (sheet formula : List ℕ) (work : ℕ) (old : List ℕ) → ¬ (faultIn (E .answer sheet formula work old) ≡ 0)
       → E .output sheet formula work old ≡ old

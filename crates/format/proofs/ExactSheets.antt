@@ -1,80 +1,26 @@
--- The exact faults of signals in a row, of whole sheets, and of the calls on them.
-use Prim.Native.Nat.{ℕ, zero, suc, _≤_, _<_}
+-- The faults of a sheet are given exactly as its checks say.
+use Prim.Native.Nat.{ℕ, _≤_, _<_}
 use native.Mathlib.Omega.{arith}
 use mathlib.Core.Path.{_≡_, refl, sym, ap, subst, _∙_}
-use mathlib.Core.Bool.{Bool, true, false, cond}
-use mathlib.Core.List.{List, [], _∷_, _++_, append-assoc}
+use mathlib.Core.Bool.{Bool, true, false}
+use mathlib.Core.List.{List, [], _++_, append-assoc}
+use mathlib.Core.Logic.{inl, inr}
 use lib.Dec.{ltb, eqb}
-use lib.ListN.{length, take, drop, length-append, length-drop, take-append-drop}
-use lib.Seq.{drop-drop, drop-at}
-use borrow.Author.Tests.{ltb-true, ltb-false, eqb-true, eqb-false, ne-eqb}
+use lib.ListN.{length, take, drop, length-drop, take-append-drop}
+use lib.Seq.{drop-drop}
+use borrow.Author.Tests.{ltb-true, ltb-false, eqb-true, eqb-false}
+use Rattle.signals.proofs.Checks.{check-single, exactly}
 use Rattle.names.proofs.Truth.{true-false}
 use Rattle.format.proofs.Steps.{same-equal, same-refl}
-use Rattle.format.proofs.Digits.{low16-written, low16-below, written16, bytes-drop}
-use Rattle.format.proofs.Filling.{two}
-use Rattle.format.proofs.Judging.{sound, front-short, front-mark, front-cut, front-version, front-no-count, front-many, front-fine}
+use Rattle.format.proofs.Digits.{low16-below, written16, bytes-drop}
+use Rattle.format.proofs.Judging.{front-short, front-mark, front-cut, front-version, front-no-count, front-many, front-fine}
 use Rattle.format.proofs.Judging.{sheet-front, sheet-past}
-use Rattle.format.proofs.OneSignal.{name-back, tail-back, signal-back, signal-written, signal-fits}
-use Rattle.format.proofs.Exactly.{signal-given, signal-found}
+use Rattle.format.proofs.SheetFields.{number-single}
+use Rattle.format.proofs.SheetSignals.{signals-single, signals-checks}
 use Rattle.format.specs.Names.{same}
-use Rattle.slices.specs.Bytes.{low16, bytes16, wordsIn, Bytes}
-use Rattle.format.specs.Reading.{mark, nameAt, wordCount, signalSize, signalFault, signalsFault, frontFault, sheetFault, countOn}
-use Rattle.format.specs.Reading.{Entry, entry, nameOf}
-use Rattle.format.specs.Writing.{entryBytes, Fits}
-use Rattle.format.specs.Sentences.{SignalFaulty, SignalsFaulty, SheetFaulty, SheetFaultsExact}
-use Rattle.format.specs.Sentences.SignalFaulty.{nameCut, nameMalformed, nameRepeated, countCut, countOutside, wordCut, wordBroken}
-use Rattle.format.specs.Sentences.SignalsFaulty.{tooLong, here, later}
-use Rattle.format.specs.Sentences.SheetFaulty.{frontWrong, countMissing, countMany, inside}
-use Rattle.signals.specs.Answers.{firstOf}
-
-faulty : {earlier : List (List ℕ)} {rest : List ℕ} {f : ℕ} → SignalFaulty earlier rest f → f ≡ 0 → ⊥
-faulty (nameCut l) e = omega arith
-faulty (nameMalformed l n) e = omega arith
-faulty (nameRepeated name r n a) e = omega arith
-faulty (countCut name r n l) e = omega arith
-faulty (countOutside name k r n h o) e = omega arith
-faulty (wordCut name k ws r n m b s l c) e = omega arith
-faulty (wordBroken name k ws w r n m b s l c q) e = omega arith
-
-signals-given : {earlier : List (List ℕ)} {n : ℕ} {rest : List ℕ} {f : ℕ} → SignalsFaulty earlier n rest f → signalsFault earlier n rest ≡ f
-unfolding signalsFault firstOf
-signals-given (tooLong {rest = r} l) = rw (ne-eqb (length r) 0 (λ e. omega (arith, e)))
-signals-given (here {earlier = a} {rest = r} s) = rw (signal-given a s, ne-eqb _ 0 (faulty s))
-signals-given (later {earlier = a} {n = n} {rest = r} {f = f} e fits s) = go e fits (signals-given s)
-  where
-    go : (e : Entry) → Fits a e → signalsFault (a ++ nameOf e ∷ []) n r ≡ f
-        → firstOf (signalFault a (entryBytes e ++ r))
-        (signalsFault (a ++ nameAt (entryBytes e ++ r) ∷ []) n (drop (signalSize (entryBytes e ++ r)) (entryBytes e ++ r)))
-        ≡ f
-    go (entry name list) fits h = rw (signal-back a name list r fits, name-back a name list r fits, tail-back a name list r fits) h
-
-signals-found : (earlier : List (List ℕ)) (n : ℕ) (rest : List ℕ) (f : ℕ) → Bytes rest → (f ≡ 0 → ⊥) → signalsFault earlier n rest ≡ f
-    → SignalsFaulty earlier n rest f
-unfolding signalsFault firstOf
-signals-found earlier zero rest f b z h = go (eqb (length rest) 0) refl h
-  where
-    go : (t : Bool) → eqb (length rest) 0 ≡ t → cond t 0 15 ≡ f → SignalsFaulty earlier 0 rest f
-    go true p k = absurd (z (sym k))
-    go false p k =
-        subst (λ (g : ℕ). SignalsFaulty earlier 0 rest g) k (tooLong (some (length rest) (eqb-false (length rest) 0 p)))
-      where
-        some : (m : ℕ) → (m ≡ 0 → ⊥) → 0 < m
-        some zero q = absurd (q refl)
-        some (suc m) q = omega arith
-signals-found earlier (suc n) rest f b z h =
-    go (eqb (signalFault earlier rest) 0) refl h
-    (λ k. signals-found (earlier ++ nameAt rest ∷ []) n (drop (signalSize rest) rest) f (bytes-drop rest (signalSize rest) b) z k)
-  where
-    go : (t : Bool) → eqb (signalFault earlier rest) 0 ≡ t
-        → cond t (signalsFault (earlier ++ nameAt rest ∷ []) n (drop (signalSize rest) rest)) (signalFault earlier rest) ≡ f
-        → (signalsFault (earlier ++ nameAt rest ∷ []) n (drop (signalSize rest) rest) ≡ f
-        → SignalsFaulty (earlier ++ nameAt rest ∷ []) n (drop (signalSize rest) rest) f)
-        → SignalsFaulty earlier (suc n) rest f
-    go true p k again =
-        let s = sound earlier rest (eqb-true (signalFault earlier rest) 0 p) in
-        subst (λ (x : List ℕ). SignalsFaulty earlier (suc n) x f) (signal-written earlier rest b s)
-        (later (entry (nameAt rest) (wordsIn (wordCount rest) (drop 10 rest))) (signal-fits earlier rest b s) (again k))
-    go false p k again = here (signal-found earlier rest b f z k)
+use Rattle.slices.specs.Bytes.{low16, bytes16, Bytes}
+use Rattle.format.specs.Reading.{mark, signalsFault, frontFault, sheetFault, countOn}
+use Rattle.format.specs.Sentences.{SignalsFaultIs, SheetFaultIs, SheetFaultsExact}
 
 -- a sheet that begins with the mark and the version
 module _ (rest : List ℕ) where
@@ -129,61 +75,68 @@ front-wrong sheet b n =
         (ap (λ (x : List ℕ). take 5 x) (starts (ltb-false (length sheet) 5 p₃) p₂ (eqb-true (low16 (drop 3 sheet)) 1 p₄))
         ∙ five (drop 5 sheet)))
 
-sheet-given : {sheet : List ℕ} {f : ℕ} → Bytes sheet → SheetFaulty sheet f → sheetFault sheet ≡ f
-sheet-given b (frontWrong {sheet = s} n) =
-    let e = front-wrong s b n in
-    sym (sheet-front s (λ z. omega (arith, z, e))) ∙ e
-sheet-given b (countMissing r l) = right-cut r l
-sheet-given b (countMany n r l h) =
-    let e = low16-written n r h in
-    right-many (bytes16 n ++ r) (rw length-append (omega (arith, two n))) (rw e l)
-sheet-given b (inside n r l s) =
-    let e = low16-written n r (omega arith) in
-    right-on (bytes16 n ++ r) (rw length-append (omega (arith, two n))) (rw e l)
-    ∙ ap (λ (k : ℕ). signalsFault [] k (drop 2 (bytes16 n ++ r))) e
-    ∙ ap (λ (x : List ℕ). signalsFault [] n x) (drop-at (bytes16 n) r 2 (two n))
-    ∙ signals-given s
-
 -- after mark and version
-rest-found : (rest : List ℕ) (f : ℕ) → Bytes rest → (f ≡ 0 → ⊥) → sheetFault (mark ++ (bytes16 1 ++ rest)) ≡ f
-    → SheetFaulty (mark ++ (bytes16 1 ++ rest)) f
-rest-found rest f b z h = go (ltb (length rest) 2) (ltb 32 (low16 rest)) refl refl
+rest-checks : (rest : List ℕ) → Bytes rest → SheetFaultIs (mark ++ (bytes16 1 ++ rest)) (sheetFault (mark ++ (bytes16 1 ++ rest)))
+unfolding bytes16
+rest-checks rest b = go (ltb (length rest) 2) (ltb 32 (low16 rest)) refl refl
   where
-    kept : 2 ≤ length rest → bytes16 (low16 rest) ++ drop 2 rest ≡ rest
-    kept l = written16 rest b l
-
-    go : (s t : Bool) → ltb (length rest) 2 ≡ s → ltb 32 (low16 rest) ≡ t → SheetFaulty (mark ++ (bytes16 1 ++ rest)) f
-    go true t p q =
-        subst (λ (g : ℕ). SheetFaulty (mark ++ (bytes16 1 ++ rest)) g) (sym (right-cut rest (ltb-true (length rest) 2 p)) ∙ h)
-        (countMissing rest (ltb-true (length rest) 2 p))
+    go : (s t : Bool) → ltb (length rest) 2 ≡ s → ltb 32 (low16 rest) ≡ t
+        → SheetFaultIs (mark ++ (bytes16 1 ++ rest)) (sheetFault (mark ++ (bytes16 1 ++ rest)))
+    go true t p q = inr ((λ n. n (five rest)), inl (omega (arith, ltb-true (length rest) 2 p), right-cut rest (ltb-true (length rest) 2 p)))
     go false true p q =
         let l = ltb-false (length rest) 2 p in
-        subst (λ (g : ℕ). SheetFaulty (mark ++ (bytes16 1 ++ rest)) g) (sym (right-many rest l (ltb-true 32 (low16 rest) q)) ∙ h)
-        (subst (λ (x : List ℕ). SheetFaulty (mark ++ (bytes16 1 ++ x)) 15) (kept l)
-        (countMany (low16 rest) (drop 2 rest) (ltb-true 32 (low16 rest) q) (low16-below rest b)))
+        inr (
+          (λ n. n (five rest)),
+          inr (
+            (λ c. omega (arith, c)),
+            (
+              low16 rest,
+              drop 2 rest,
+              low16-below rest b,
+              sym (written16 rest b l),
+              inl (ltb-true 32 (low16 rest) q, right-many rest l (ltb-true 32 (low16 rest) q)),
+            ),
+          ),
+        )
     go false false p q =
         let l = ltb-false (length rest) 2 p in
         let m = ltb-false 32 (low16 rest) q in
-        subst (λ (x : List ℕ). SheetFaulty (mark ++ (bytes16 1 ++ x)) f) (kept l)
-        (inside (low16 rest) (drop 2 rest) m
-        (signals-found [] (low16 rest) (drop 2 rest) f (bytes-drop rest 2 b) z (sym (right-on rest l m) ∙ h)))
+        inr (
+          (λ n. n (five rest)),
+          inr (
+            (λ c. omega (arith, c)),
+            (
+              low16 rest,
+              drop 2 rest,
+              low16-below rest b,
+              sym (written16 rest b l),
+              inr (
+                (λ c. omega (arith, c)),
+                subst (λ (f : ℕ). SignalsFaultIs [] (low16 rest) (drop 2 rest) f) (sym (right-on rest l m))
+                    (signals-checks [] (low16 rest) (drop 2 rest) (bytes-drop rest 2 b)),
+              ),
+            ),
+          ),
+        )
 
-sheet-found : (sheet : List ℕ) (f : ℕ) → Bytes sheet → (f ≡ 0 → ⊥) → sheetFault sheet ≡ f → SheetFaulty sheet f
-sheet-found sheet f b z h = go (same (take 5 sheet) (mark ++ bytes16 1)) refl
+sheet-checks : (sheet : List ℕ) → Bytes sheet → SheetFaultIs sheet (sheetFault sheet)
+sheet-checks sheet b = go (same (take 5 sheet) (mark ++ bytes16 1)) refl
   where
-    go : (t : Bool) → same (take 5 sheet) (mark ++ bytes16 1) ≡ t → SheetFaulty sheet f
+    go : (t : Bool) → same (take 5 sheet) (mark ++ bytes16 1) ≡ t → SheetFaultIs sheet (sheetFault sheet)
     go true p =
         let e : mark ++ (bytes16 1 ++ drop 5 sheet) ≡ sheet =
         sym (append-assoc mark (bytes16 1) (drop 5 sheet))
         ∙ ap (λ (x : List ℕ). x ++ drop 5 sheet) (sym (same-equal (take 5 sheet) (mark ++ bytes16 1) p))
         ∙ take-append-drop 5 sheet in
-        subst (λ (x : List ℕ). SheetFaulty x f) e
-        (rest-found (drop 5 sheet) f (bytes-drop sheet 5 b) z (ap sheetFault e ∙ h))
+        subst (λ (x : List ℕ). SheetFaultIs x (sheetFault x)) e (rest-checks (drop 5 sheet) (bytes-drop sheet 5 b))
     go false p =
         let n : take 5 sheet ≡ mark ++ bytes16 1 → ⊥ =
         λ e. true-false (sym (ap (λ (x : List ℕ). same x (mark ++ bytes16 1)) e ∙ same-refl (mark ++ bytes16 1)) ∙ p) in
         let w = front-wrong sheet b n in
-        subst (λ (g : ℕ). SheetFaulty sheet g) (sym w ∙ sheet-front sheet (λ q. omega (arith, q, w)) ∙ h) (frontWrong n)
+        inl (n, sym (sheet-front sheet (λ q. omega (arith, q, w))) ∙ w)
 
 pub sheet-faults-exact : SheetFaultsExact
-sheet-faults-exact sheet b f z = (sheet-found sheet f b z, sheet-given b)
+sheet-faults-exact sheet b =
+    exactly (SheetFaultIs sheet) (sheetFault sheet)
+    (check-single (check-single (number-single (drop 5 sheet) _ (λ n signals. check-single (signals-single [] n signals)))))
+    (sheet-checks sheet b)

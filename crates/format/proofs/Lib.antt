@@ -18,7 +18,8 @@ pub mod FaultNumbers
 pub mod Looked
 pub mod Theorems
 pub mod LookupPlace
-pub mod WordCuts
-pub mod Exactly
+pub mod SheetFields
+pub mod SheetWords
+pub mod SheetSignals
 pub mod ExactSheets
 pub mod ExactCalls

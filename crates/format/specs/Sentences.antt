@@ -1,61 +1,65 @@
--- Statement: When each fault of document 01's table is given on a sheet, in its sentences: what stands before the fault has none.
-use Prim.Native.Nat.{ℕ, suc, _≤_, _<_}
+-- Statement: When each fault of document 01's table is given on a sheet: its fields front to back, each judged before the next is read.
+use Prim.Native.Nat.{ℕ, zero, suc, _≤_, _<_}
 use mathlib.Core.Path.{_≡_}
 use mathlib.Core.Bool.{true, false}
 use mathlib.Core.List.{List, [], _∷_, _++_}
-use mathlib.Core.Logic.{_⊎_, _↔_}
-use lib.ListN.{length, take}
+use mathlib.Core.Logic.{_⊎_}
+use lib.ListN.{length, take, drop}
 use Rattle.signals.specs.Words.{mostWords, listFault}
 use Rattle.signals.specs.Checks.{Check, FaultCheck, NoFault, Exactly}
 use Rattle.names.specs.Sentence.{IsName}
 use Rattle.format.specs.Names.{padded, among}
-use Rattle.slices.specs.Bytes.{Bytes, Words, bytes16, bytes32, wordBytes}
-use Rattle.format.specs.Reading.{mark, sheetFault, signalsOn, names, Entry, nameOf}
-use Rattle.format.specs.Writing.{entryBytes, Fits}
+use Rattle.slices.specs.Bytes.{Bytes, bytes16, bytes32}
+use Rattle.format.specs.Reading.{mark, sheetFault, signalsOn, names}
 use Rattle.format.specs.Calls.{lookupFault, appendFault, appended}
 
--- the words read so far break none of 1 to 4
-abbrev pub SoundSoFar : List ℕ → Type 0
-SoundSoFar ws = (ws ≡ []) ⊎ (listFault ws ≡ 0)
+-- a field at the front of the bytes: the one value that it holds, with which what follows it is judged
+abbrev pub Field : {A : Type 0} → (A → Type 0) → (A → List ℕ) → List ℕ → (A → List ℕ → ℕ → Type 0) → ℕ → Type 0
+Field {A} Fits written bytes later fault = (a : A) × (rest : List ℕ) × Fits a × (bytes ≡ written a ++ rest) × later a rest fault
 
--- a name that no earlier signal has
-pub record NewName (earlier : List (List ℕ)) (name : List ℕ) : Type 0 where
-  pub named : IsName name
-  pub new : among name earlier ≡ false
+-- 8 name bytes, a 16-bit number, a word of 32 bits
+abbrev pub NameField : List ℕ → (List ℕ → List ℕ → ℕ → Type 0) → ℕ → Type 0
+NameField = Field IsName padded
 
--- The fault of one signal, by the first field that is cut or wrong.
-pub data SignalFaulty (earlier : List (List ℕ)) : List ℕ → ℕ → Type 0 where
-  nameCut : {rest : List ℕ} → length rest < 8 → SignalFaulty earlier rest 15
-  nameMalformed : {rest : List ℕ} → 8 ≤ length rest → ((name : List ℕ) → IsName name → take 8 rest ≡ padded name → ⊥)
-      → SignalFaulty earlier rest 16
-  nameRepeated : (name rest : List ℕ) → IsName name → among name earlier ≡ true → SignalFaulty earlier (padded name ++ rest) 16
-  countCut : (name rest : List ℕ) → NewName earlier name → length rest < 2 → SignalFaulty earlier (padded name ++ rest) 15
-  countOutside : (name : List ℕ) (n : ℕ) (rest : List ℕ) → NewName earlier name → n < 65536 → (n ≡ 0) ⊎ (mostWords < n)
-      → SignalFaulty earlier (padded name ++ (bytes16 n ++ rest)) 17
-  wordCut : (name : List ℕ) (n : ℕ) (ws rest : List ℕ) → NewName earlier name → n ≤ mostWords → Words ws → SoundSoFar ws → length ws < n
-      → length rest < 4 → SignalFaulty earlier (padded name ++ (bytes16 n ++ (wordBytes ws ++ rest))) 15
-  wordBroken : (name : List ℕ) (n : ℕ) (ws : List ℕ) (w : ℕ) (rest : List ℕ) → NewName earlier name → n ≤ mostWords → Words ws
-      → SoundSoFar ws → length ws < n → w < 4294967296 → (listFault (ws ++ w ∷ []) ≡ 0 → ⊥)
-      → SignalFaulty earlier (padded name ++ (bytes16 n ++ (wordBytes ws ++ (bytes32 w ++ rest)))) 17
+abbrev pub NumberField : List ℕ → (ℕ → List ℕ → ℕ → Type 0) → ℕ → Type 0
+NumberField = Field (λ n. n < 65536) bytes16
 
--- The fault of n signals: at the first faulty one, after those without a fault, or bytes left over.
-pub data SignalsFaulty : List (List ℕ) → ℕ → List ℕ → ℕ → Type 0 where
-  tooLong : {earlier : List (List ℕ)} {rest : List ℕ} → 0 < length rest → SignalsFaulty earlier 0 rest 15
-  here : {earlier : List (List ℕ)} {n : ℕ} {rest : List ℕ} {f : ℕ} → SignalFaulty earlier rest f → SignalsFaulty earlier (suc n) rest f
-  later : {earlier : List (List ℕ)} {n : ℕ} {rest : List ℕ} {f : ℕ} (e : Entry) → Fits earlier e
-      → SignalsFaulty (earlier ++ nameOf e ∷ []) n rest f → SignalsFaulty earlier (suc n) (entryBytes e ++ rest) f
+abbrev pub WordField : List ℕ → (ℕ → List ℕ → ℕ → Type 0) → ℕ → Type 0
+WordField = Field (λ w. w < 4294967296) bytes32
 
--- The fault of a sheet: 14 mark or version wrong or cut, 15 count missing or over 32, then that of its signals.
-pub data SheetFaulty : List ℕ → ℕ → Type 0 where
-  frontWrong : {sheet : List ℕ} → (take 5 sheet ≡ mark ++ bytes16 1 → ⊥) → SheetFaulty sheet 14
-  countMissing : (rest : List ℕ) → length rest < 2 → SheetFaulty (mark ++ (bytes16 1 ++ rest)) 15
-  countMany : (n : ℕ) (rest : List ℕ) → 32 < n → n < 65536 → SheetFaulty (mark ++ (bytes16 1 ++ (bytes16 n ++ rest))) 15
-  inside : (n : ℕ) (rest : List ℕ) {f : ℕ} → n ≤ 32 → SignalsFaulty [] n rest f
-      → SheetFaulty (mark ++ (bytes16 1 ++ (bytes16 n ++ rest))) f
+-- n more words after those before: each is judged before the next is read; cut is 15, breaking 1 to 4 is 17
+abbrev pub WordsFaultIs : List ℕ → ℕ → List ℕ → (List ℕ → ℕ → Type 0) → ℕ → Type 0
+WordsFaultIs before zero bytes later = later bytes
+WordsFaultIs before (suc n) bytes later =
+    Check 15 (length bytes < 4)
+    (WordField bytes
+    (λ w rest. Check 17 (¬ (listFault (before ++ w ∷ []) ≡ 0)) (WordsFaultIs (before ++ w ∷ []) n rest later)))
 
--- A sheet has a fault exactly when the fault's sentence holds and nothing earlier on the sheet has one.
+-- One signal, after those with the earlier names: name, word count, words. A field cut short is 15 before its content is judged.
+abbrev pub SignalFaultIs : List (List ℕ) → List ℕ → (List ℕ → List ℕ → ℕ → Type 0) → ℕ → Type 0
+SignalFaultIs earlier bytes later =
+    Check 15 (length bytes < 8)
+    (Check 16 (¬ ((name : List ℕ) × IsName name × (take 8 bytes ≡ padded name)))
+    (NameField bytes
+    (λ name counted. Check 16 (among name earlier ≡ true)
+    (Check 15 (length counted < 2)
+    (NumberField counted
+    (λ n words. Check 17 ((n ≡ 0) ⊎ (mostWords < n)) (WordsFaultIs [] n words (later name))))))))
+
+-- n signals, and no bytes left over
+abbrev pub SignalsFaultIs : List (List ℕ) → ℕ → List ℕ → ℕ → Type 0
+SignalsFaultIs earlier zero bytes = Check 15 (0 < length bytes) NoFault
+SignalsFaultIs earlier (suc n) bytes = SignalFaultIs earlier bytes (λ name rest. SignalsFaultIs (earlier ++ name ∷ []) n rest)
+
+-- A sheet: 14 mark or version wrong or cut, 15 count missing or over 32, then its signals.
+abbrev pub SheetFaultIs : List ℕ → ℕ → Type 0
+SheetFaultIs sheet =
+    Check 14 (¬ (take 5 sheet ≡ mark ++ bytes16 1))
+    (Check 15 (length sheet < 7)
+    (NumberField (drop 5 sheet) (λ n signals. Check 15 (32 < n) (SignalsFaultIs [] n signals))))
+
 abbrev pub SheetFaultsExact : Type 0
-SheetFaultsExact = (sheet : List ℕ) → Bytes sheet → (f : ℕ) → (f ≡ 0 → ⊥) → (sheetFault sheet ≡ f) ↔ SheetFaulty sheet f
+SheetFaultsExact = (sheet : List ℕ) → Bytes sheet → Exactly (SheetFaultIs sheet) (sheetFault sheet)
 
 -- A lookup takes sheet, 16, 13.
 abbrev pub LookupFaultsExact : Type 0
