@@ -115,10 +115,10 @@ def bound(tokens):
 
 
 def chunks(tokens):
-    """The declarations of a block: each begins a line at the column of the first."""
+    """The declarations of a block: each begins a line at the column of the first, which a closing bracket may do too."""
     found = []
     for token in tokens:
-        if not found or (token.first and token.column <= tokens[0].column):
+        if not found or (token.first and token.column <= tokens[0].column and token not in (")", "}")):
             found.append([])
         found[-1].append(token)
     return found

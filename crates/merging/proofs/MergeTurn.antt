@@ -27,7 +27,7 @@ use Rattle.building.specs.declared.Made.{Made}
 use Rattle.showing.specs.declared.Operation.{Operation}
 use Rattle.showing.specs.declared.Shown.{Shown}
 use Rattle.building.proofs.Scanning.{Scanning, scanning-begin, scanning-emit, scanning-done, built-over}
-use Rattle.showing.proofs.ShownHeld.{heldBy, Turned, turned, first, still-for-good}
+use Rattle.showing.proofs.ShownHeld.{heldBy, Turned, turned, shown-first, still-for-good}
 
 -- no word of the list is dated after n
 abbrev pub Dates : List ℕ → ℕ → Type 0
@@ -130,7 +130,7 @@ module _ (o : Operation) (table : Table) (a b : List ℕ) (n : ℕ) (old : List 
 
       shows : ((firstShown o table (heldValue a 1) (heldValue b 1)) .after ≡ merged o table (signalOf a) (signalOf b) 0)
           × ((firstShown o table (heldValue a 1) (heldValue b 1)) .carried ≡ bitOf o (signalOf a) (signalOf b) 0)
-      shows = first o table (signalOf a) (signalOf b) (heldValue a 1) (heldValue b 1) va vb
+      shows = shown-first o table (signalOf a) (signalOf b) (heldValue a 1) (heldValue b 1) va vb
 
   module _ (da : Dates a n) (db : Dates b n) (small : n < NEVER) (i j k : ℕ) (slot : List ℕ) (made : Made) (bit : Bool)
       (m : Merging k slot made bit i j) (more : i + j < length a + length b) where

@@ -118,15 +118,15 @@ turned ResetWins table f g k d v1 a1 b1 v2 a2 b2 c e h i =
     let t = latch-turned false f g k d v1 a1 b1 v2 a2 b2 c e h i in record { held = t .0; bit = t .1 }
 
 -- gap 0
-pub first : (o : Operation) (table : Table) (f g : Signal) (p q : Bool) → f 0 ≡ p → g 0 ≡ q
+pub shown-first : (o : Operation) (table : Table) (f g : Signal) (p q : Bool) → f 0 ≡ p → g 0 ≡ q
     → ((firstShown o table p q) .after ≡ merged o table f g 0) × ((firstShown o table p q) .carried ≡ bitOf o f g 0)
 unfolding connective rising falling isGap
-first Connective table f g p q e h = (rw (e, h), refl)
-first Rising table f g p q e h = (refl, refl)
-first Falling table f g p q e h = (refl, refl)
-first SetWins table f g p q e h =
+shown-first Connective table f g p q e h = (rw (e, h), refl)
+shown-first Rising table f g p q e h = (refl, refl)
+shown-first Falling table f g p q e h = (refl, refl)
+shown-first SetWins table f g p q e h =
     let c = carried-first true f g p q e h in (rw (← c, ← e) (sym (latch-in true f g 0)), sym c)
-first ResetWins table f g p q e h =
+shown-first ResetWins table f g p q e h =
     let c = carried-first false f g p q e h in (rw (← c) (sym (latch-in false f g 0)), sym c)
 
 -- operands that stand still for good
