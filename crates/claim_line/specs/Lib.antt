@@ -1,5 +1,4 @@
 -- The program's input, its claim and the line that it prints, as definitions.
 pub mod Input
-pub mod Line
 pub mod Printing
 pub mod OneLine

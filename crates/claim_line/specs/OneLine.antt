@@ -6,16 +6,10 @@ use mathlib.Core.List.{List, [], _∷_, _++_}
 use lib.ListN.{length, getD}
 use Rattle.signals.specs.Moment.{M}
 use Rattle.signals.specs.declared.Verdict.{Verdict}
-use Rattle.signals.specs.declared.Verdict.the-variants.{Holds, FailsAt, FailsAfter, Refused}
-use Rattle.claim_line.specs.Line.{lineOf}
-use Rattle.claim_line.specs.Printing.{longest, claimOf, printed}
-
--- the number of an answer that has one
-abbrev pub numberIn : Verdict → ℕ
-numberIn Holds = 0
-numberIn (FailsAt k) = k
-numberIn (FailsAfter k) = k
-numberIn (Refused n) = n
+use Rattle.signals.specs.declared.Verdict.the-variants.{FailsAfter, Refused}
+use Rattle.verdict_line.specs.Line.{lineOf, numberIn}
+use Rattle.verdict_line.specs.Written.{longest}
+use Rattle.claim_line.specs.Printing.{claimOf, printed}
 
 pub record OneLine : Type 0 where
   -- no line is longer, and one is as long

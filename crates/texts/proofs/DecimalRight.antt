@@ -11,7 +11,8 @@ use borrow.Author.Tests.{ne-eqb, le-leb, eqb-true, eqb-false}
 use Rattle.names.proofs.Truth.{and-left, and-right}
 use Rattle.names.specs.Names.{digit as isDigit, allOf}
 use Rattle.texts.specs.Lengths.{isLength, valueFrom, value}
-use Rattle.texts.specs.Decimal.{digit, leading, decimal, DecimalRight}
+use Rattle.texts.specs.Decimal.{digit, leading, decimal}
+use Rattle.texts.specs.DecimalRight.{DecimalRight}
 
 -- one digit more
 pub from-more : (before : ℕ) (w : List ℕ) (b : ℕ) → valueFrom before (w ++ (b ∷ [])) ≡ valueFrom before w * 10 + (b - 48)

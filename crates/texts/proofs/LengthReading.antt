@@ -4,23 +4,13 @@ use native.Mathlib.Omega.{arith}
 use mathlib.Core.Path.{_≡_, refl, sym, ap, _∙_}
 use mathlib.Core.Bool.{Bool, true, false, _&&_}
 use mathlib.Core.List.{List, [], _∷_}
-use lib.Dec.{leb}
 use lib.ListN.{length, getD, drop}
-use borrow.Author.Tests.{ne-eqb, eq-eqb, lt-ltb, le-ltb, le-leb, lt-leb}
+use borrow.Author.Tests.{ne-eqb, eq-eqb, lt-ltb, le-ltb}
 use Rattle.slices.proofs.Steps.{drop-step, drop-end}
 use Rattle.signals.specs.Moment.{M}
 use Rattle.texts.specs.Lengths.{isLength, valueFrom, value, capped, lengthRead}
 use Rattle.names.specs.Names.{digit as isDigit, allOf}
 use Rattle.texts.specs.declared.Read.the-variants as read
-
--- a byte that is a digit
-pub below-digits : (b : ℕ) → b < 48 → isDigit b ≡ false
-unfolding isDigit
-below-digits b h = rw (lt-leb 48 b h)
-
-pub from-zero : (b : ℕ) → 48 ≤ b → isDigit b ≡ leb b 57
-unfolding isDigit
-from-zero b h = rw (le-leb 48 b h)
 
 -- the bytes from a place on
 module _ (text : List ℕ) (i : ℕ) (p : i < length text) where
@@ -75,10 +65,6 @@ more-bytes (b ∷ bs) h g e =
     rw (ne-eqb (length bs) 0 (λ z. g (omega arith)), ne-eqb b 48 e) (and-all (isDigit b) (allOf isDigit bs))
 
 -- numbers up to M + 1
-pub capped-over : (n : ℕ) → M + 1 < n → M + 1 ≡ capped n
-unfolding capped
-capped-over n h = omega arith
-
 pub capped-under : (n : ℕ) → n ≤ M + 1 → n ≡ capped n
 unfolding capped
 capped-under n h = omega arith

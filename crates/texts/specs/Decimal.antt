@@ -1,13 +1,11 @@
--- Believed: A number of at most ten digits in decimal, as document 01 has it of lengths: without needless leading zeros, and it writes the
--- number.
-use Prim.Native.Nat.{ℕ, zero, suc, _+_, _/_, _%_, _^_, _<_}
+-- Believed: A number of at most ten digits in decimal, and put into an output.
+use Prim.Native.Nat.{ℕ, zero, suc, _+_, _/_, _%_}
 use mathlib.Core.Path.{_≡_}
-use mathlib.Core.Bool.{true, cond}
+use mathlib.Core.Bool.{cond}
 use mathlib.Core.List.{List, [], _∷_, _++_}
 use lib.Dec.{eqb}
 use lib.ListN.{length}
 use Rattle.slices.specs.Slices.{putAt}
-use Rattle.texts.specs.Lengths.{isLength, value}
 
 -- a digit's byte; 48 is 0
 abbrev pub digit : ℕ → ℕ
@@ -25,7 +23,3 @@ decimal n = leading 9 (n / 10) ++ (digit n ∷ [])
 -- a number put into an output at a place, where its digits fit, and how many these are: the output at entry, the number of digits, the exit
 abbrev pub PutNumber : List ℕ → ℕ → ℕ → ℕ → List ℕ → Type 0
 PutNumber out at n count exit = (count ≡ length (decimal n)) × (exit ≡ putAt out at (decimal n))
-
-pub record DecimalRight : Type 0 where
-  pub wellFormed : (n : ℕ) → n < 10 ^ 10 → isLength (decimal n) ≡ true
-  pub writes : (n : ℕ) → n < 10 ^ 10 → value (decimal n) ≡ n

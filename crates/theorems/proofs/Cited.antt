@@ -243,8 +243,8 @@ signals-Wording-Tests = Rattle.signals.proofs.Wording.tests
 pub signals-Wording-Wording : Rattle.signals.specs.Wording.Wording
 signals-Wording-Wording = Rattle.signals.proofs.Wording.wording
 
-pub texts-Decimal-DecimalRight : Rattle.texts.specs.Decimal.DecimalRight
-texts-Decimal-DecimalRight = Rattle.texts.proofs.DecimalRight.decimal-right
+pub texts-DecimalRight-DecimalRight : Rattle.texts.specs.DecimalRight.DecimalRight
+texts-DecimalRight-DecimalRight = Rattle.texts.proofs.DecimalRight.decimal-right
 
 pub tidying-TidyingGives-TidyingGives : Rattle.tidying.specs.TidyingGives.TidyingGives
 tidying-TidyingGives-TidyingGives = Rattle.tidying.proofs.TidyingGives.tidying-gives

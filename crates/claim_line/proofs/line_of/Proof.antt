@@ -1,15 +1,12 @@
 -- `claim_line::line_of` meets its contract.
 use borrow.Author.Needs.{needs}
 use native.Mathlib.Omega.{arith}
-use Prim.Native.Nat.{ℕ}
 use mathlib.Core.Path.{_≡_}
-use mathlib.Core.List.{List}
-use lib.ListN.{length, take, replicate}
+use lib.ListN.{length, take}
 use denote.Ref.{now}
 use Rattle.claim_line.specs.Input.{limit}
-use Rattle.claim_line.specs.Printing.{longest}
 use Rattle.claim_line.proofs.Splitting.{counted-first}
-use Rattle.claim_line.proofs.Telling.{line-told, within, work-words}
+use Rattle.claim_line.proofs.Telling.{line-told, work-words}
 use Rattle.claim_line.proofs.line_of.Statement.{statement}
 use Rattle.claim_line.proofs.line_of.Tie as tie
 
@@ -34,15 +31,12 @@ slice-aggregate-claim c = search needs
 claim-requires : tie.Need-claim-requires
 claim-requires c κs = search needs
 
-slice-aggregate-tell : tie.Need-slice-aggregate-tell
-slice-aggregate-tell c = search needs
-
-tell-requires : tie.Need-tell-requires
-tell-requires c κs = search needs
+line-for-requires : tie.Need-line-for-requires
+line-for-requires c κs = search needs
 
 returns : tie.Need-returns
 returns c =
-    let claiming = c .before .before .before .before in
+    let claiming = c .before .before in
     let splitting = claiming .before .before in
     let entry = splitting .before .before .before .before .before .before in
     let a = entry .args in
@@ -52,18 +46,13 @@ returns c =
     let f = splitting .before .first-line in
     let g = splitting .first-line2 in
     let said = claiming .claim in
-    let told = c .before .tell in
-    let exit = told .last .1 .0 in
-    let zeros : List ℕ = replicate longest 0 in
+    let told = c .line-for in
     let whole : length (now (a .input)) ≡ limit = omega (arith, splitting .before .before .before .before .before .first-arg .given .0) in
-    let room : length exit ≡ longest = search needs in
     let counts = counted-first (a .n) (now (a .input)) (now (text .result)) whole (text .ensures) in
     let says =
     line-told (take (a .n) (now (a .input))) (now (text .result)) (now (after .result)) (now (sheet .result)) (now (f .result))
     (now (g .result)) counts (after .ensures) (sheet .ensures) (f .ensures) (g .ensures) in
-    let filled = says (said .result) zeros exit _ (told .result) (work-words _ _ (search needs)) (said .ensures .0) (told .ensures) in
-    let held = within (said .result) zeros exit (told .result) room (told .ensures) in
-    (whole, filled, held .0, held .1)
+    (whole, says (said .result) _ _ _ (work-words _ _ (search needs)) (said .ensures .0) (told .ensures))
 
 pub line-of-spec : {M : Type 1} → statement M
 line-of-spec =
@@ -76,6 +65,5 @@ line-of-spec =
     first-line-requires-2
     slice-aggregate-claim
     claim-requires
-    slice-aggregate-tell
-    tell-requires
+    line-for-requires
     returns)

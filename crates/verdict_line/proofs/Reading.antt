@@ -9,8 +9,7 @@ use Rattle.signals.specs.declared.Verdict.{Verdict}
 use Rattle.signals.specs.declared.Verdict.the-variants.{Holds, FailsAt, FailsAfter, Refused}
 use Rattle.texts.specs.Lengths.{valueFrom, value}
 use Rattle.texts.specs.Decimal.{decimal}
-use Rattle.claim_line.specs.Line.{line, lineOf, holdsText, failsAtText, failsAfterText, refusedText}
-use Rattle.claim_line.specs.OneLine.{numberIn}
+use Rattle.verdict_line.specs.Line.{line, lineOf, numberIn, holdsText, failsAtText, failsAfterText, refusedText}
 use Rattle.texts.proofs.DecimalRight.{from-more, value-decimal}
 
 -- a number's digits and the line feed, read as digits

@@ -28,3 +28,10 @@ lineOf Holds = line holdsText []
 lineOf (FailsAt k) = line failsAtText (decimal k)
 lineOf (FailsAfter k) = line failsAfterText (decimal k)
 lineOf (Refused n) = line refusedText (decimal n)
+
+-- the number of an answer that has one
+abbrev pub numberIn : Verdict → ℕ
+numberIn Holds = 0
+numberIn (FailsAt k) = k
+numberIn (FailsAfter k) = k
+numberIn (Refused n) = n

@@ -1,0 +1,4 @@
+-- What a line is, and what the proofs of the functions cite.
+pub mod Lines
+pub mod Reading
+pub mod Filling
