@@ -9,15 +9,15 @@ ghost use Rattle.format.specs.Reading.{entry};
 ghost use Rattle.format.specs.Writing.{entryBytes};
 ghost use Rattle.format.specs.Calls.{appendFault};
 ghost use Rattle.appending.specs.Calls.{CallOfBegin, CallOfAppend};
+use finding::FIRST_AT;
+use finding::WORD_BYTES;
+use finding::WORD_COUNT_AT;
+use finding::WORDS_AT;
 use sheets::COUNT_AT;
-use sheets::FIRST_AT;
 use sheets::MARK;
 use sheets::MOST_SIGNALS;
 use sheets::VERSION;
 use sheets::VERSION_AT;
-use sheets::WORD_BYTES;
-use sheets::WORD_COUNT_AT;
-use sheets::WORDS_AT;
 use signals::Written;
 
 // Writes a 16-bit number, low byte first.
@@ -91,7 +91,7 @@ pub fn begin(out: &mut [u8]) -> Written
 fn append_fault(sheet: &[u8], name: &[u8], list: &[u32], room: usize) -> u32
     ensures { λ r. ⌜ r ≡ appendFault (now (sheet .entry)) (now (name .entry)) (now (list .entry)) room ⌝ }
 {
-    let looked = sheets::lookup_fault(sheet, name);
+    let looked = lookups::lookup_fault(sheet, name);
     if looked == 0 {
         return 16;
     }

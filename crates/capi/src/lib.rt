@@ -146,7 +146,7 @@ pub extern "C" fn sgl_sheet_fault(sheet: &[u8]) -> u32
 pub extern "C" fn sgl_lookup(sheet: &[u8], name: &[u8]) -> u64
     ensures { λ r. ⌜ r ≡ packPlace (placeOf (now (sheet .entry)) (now (name .entry))) ⌝ }
 {
-    packing::pack_place(sheets::locate(sheet, name))
+    packing::pack_place(lookups::locate(sheet, name))
 }
 
 // Appends a signal to a sheet.

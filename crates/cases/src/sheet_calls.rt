@@ -35,7 +35,7 @@ fn place(found: Place) {
 }
 
 fn looked_up(sheet: &[u8], name: &[u8]) {
-    let found = sheets::lookup(sheet, name);
+    let found = lookups::lookup(sheet, name);
     with_bytes(counted(PLAIN, found.len() as u64), found);
 }
 
@@ -43,9 +43,9 @@ fn looked_up(sheet: &[u8], name: &[u8]) {
 fn question(call: usize, sheet: &[u8], name: &[u8]) {
     match call {
         27 => answer(number(sheets::sheet_fault(sheet))),
-        28 => answer(number(sheets::lookup_fault(sheet, name))),
+        28 => answer(number(lookups::lookup_fault(sheet, name))),
         29 => looked_up(sheet, name),
-        30 => place(sheets::locate(sheet, name)),
+        30 => place(lookups::locate(sheet, name)),
         _ => answer(yes(names::well_named(sheet))),
     }
 }

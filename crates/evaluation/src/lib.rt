@@ -115,7 +115,7 @@ fn load(sheet: &[u8], text: &[u8], code: u64, work: &mut [u32], at: usize) -> us
         let place = (code / 256) as usize;
         let count = (code / 16 % 16) as usize;
         let name = name_of(text, place, count);
-        let part = sheets::lookup(sheet, name);
+        let part = lookups::lookup(sheet, name);
         return put_part(part, work, at);
     }
     if kind == marks::kind::UP {
@@ -351,7 +351,7 @@ fn found(sheet: &[u8], text: &[u8], code: u64) -> bool
         let place = (code / 256) as usize;
         let count = (code / 16 % 16) as usize;
         let name = name_of(text, place, count);
-        return sheets::lookup_fault(sheet, name) == 0;
+        return lookups::lookup_fault(sheet, name) == 0;
     }
     true
 }

@@ -12,13 +12,13 @@ use lib.Seq.{drop-drop}
 use borrow.Author.Tests.{eq-eqb, ne-eqb, lt-ltb, le-ltb, ltb-false, eqb-false, eqb-true}
 use Rattle.signals.specs.Words.{dateOf, valueAfter, headValue, changesNothing, mostWords}
 use Rattle.names.proofs.Truth.{or-left, or-right, not-false-true}
-use Rattle.format.proofs.Walking.{short, long, sub-step}
+use Rattle.format.proofs.Walking.{short, long, sub-step, wholes-all}
 use Rattle.format.specs.Names.{same, among, fieldFits, unpadded}
 use Rattle.slices.specs.Bytes.{low16, low32}
 use Rattle.format.specs.Reading.{mark, nameAt, wordCount, signalSize, laterWordsFault, sheetWordsFault, signalFault, signalsFault}
 use Rattle.format.specs.Reading.{frontFault, sheetFault, countOn, signalsFrom, names}
 use Rattle.format.specs.Calls.{placeFrom}
-use Rattle.format.specs.Walk.{Whole, sizeOf}
+use Rattle.format.specs.Walk.{Whole, sizeOf, placeAmong}
 use Rattle.format.specs.declared.Place.{Place}
 use Rattle.format.specs.declared.Place.the-variants.{At, Refused}
 use Rattle.signals.specs.Answers.{firstOf}
@@ -118,6 +118,10 @@ found-known name at (suc n) rest =
         ≡ t || among name (names (signalsFrom n (drop (signalSize rest) rest)))
     go true h = refl
     go false h = h
+
+pub known-whole : (name : List ℕ) (at n : ℕ) (rest : List ℕ) → Whole n rest
+    → foundIn (placeAmong name at n rest) ≡ among name (names (signalsFrom n rest))
+known-whole name at n rest w = rw (wholes-all n rest w) (found-known name at n rest)
 
 -- a fault passed by
 pub past : (t : Bool) (f g : ℕ) → cond t (suc f) g ≡ 0 → (t ≡ false) × (g ≡ 0)

@@ -8,6 +8,7 @@ use lib.Dec.{eqb}
 use lib.ListN.{length, take, drop, length-drop}
 use borrow.Author.Tests.{eq-eqb, ne-eqb, eqb-true}
 use Rattle.names.proofs.Truth.{true-false}
+use Rattle.format.proofs.Walking.{wholes-all}
 use Rattle.format.proofs.Judging.{sound, foundIn, found-known, Fronted, fronted}
 use Rattle.format.proofs.PlaceSays.{place-says}
 use Rattle.names.specs.Names.{wellNamed}
@@ -17,7 +18,7 @@ use Rattle.format.specs.Reading.{nameAt, wordCount, signalSize, signalFa
 use Rattle.format.specs.Reading.{signalsFrom, names}
 use Rattle.format.specs.Calls.{faultOfPlace, firstByte, byteCount, placeFor, placeFrom, placeOn, placeOf, lookupFault, lookupOf}
 use Rattle.format.specs.Calls.{partAt}
-use Rattle.format.specs.Walk.{Whole}
+use Rattle.format.specs.Walk.{Whole, placeAmong}
 use Rattle.format.specs.declared.Place.{Place}
 use Rattle.format.specs.declared.Place.the-variants.{At, Refused}
 use Rattle.signals.specs.Answers.{firstOf}
@@ -63,6 +64,10 @@ found-place : (p : Place) → foundIn p ≡ true → At (firstByte p) (byteCount
 found-place (At start count) e = refl
 found-place (Refused fault) e = true-false (sym e)
 
+pub count-is : (sheet : List ℕ) (n : ℕ) → n ≡ low16 (drop 5 sheet) → n ≡ countOn sheet
+unfolding countOn
+count-is sheet n e = e
+
 module _ (sheet name : List ℕ) where
   pub place-bad-sheet : (sheetFault sheet ≡ 0 → ⊥) → Refused (sheetFault sheet) ≡ placeOf sheet name
   unfolding placeOf lookupFault firstOf
@@ -83,6 +88,9 @@ module _ (sheet name : List ℕ) where
             → placeFor (cond k 0 13) (firstByte (placeOn sheet name)) (byteCount (placeOn sheet name)) ≡ placeOn sheet name
         go true e = found-place (placeOn sheet name) e
         go false e = sym (place-refused name 7 (countOn sheet) (drop 7 sheet) e)
+
+    pub place-sought : (n : ℕ) → n ≡ low16 (drop 5 sheet) → wellNamed name ≡ true → placeAmong name 7 n (drop 7 sheet) ≡ placeOf sheet name
+    place-sought n e t = rw (count-is sheet n e, wholes-all _ _ (sheet-whole sheet z)) (place-walked t)
 
 -- a place that a lookup gives lies within the sheet
 within-from : (name : List ℕ) (at n : ℕ) (rest : List ℕ) (start count : ℕ) → Whole n rest
@@ -147,10 +155,6 @@ place-within sheet name start count e = go (eqb (lookupFault sheet name) 0) refl
 pub place-fault : (sheet name : List ℕ) → faultOfPlace (placeOf sheet name) ≡ lookupFault sheet name
 unfolding placeOf
 place-fault sheet name = place-says .fault (lookupFault sheet name) _ _
-
-pub count-is : (sheet : List ℕ) (n : ℕ) → n ≡ low16 (drop 5 sheet) → n ≡ countOn sheet
-unfolding countOn
-count-is sheet n e = e
 
 -- the part at the place that a lookup gives: its bytes, and where it lies in the sheet's memory
 pub part-is : (sheet name : List ℕ) (start count : ℕ) → placeOf sheet name ≡ At start count

@@ -1,7 +1,7 @@
 -- One turn of a loop over words or signals, and what is known of the signals passed.
-use Prim.Native.Nat.{ℕ, suc, _+_, _-_, _*_, _≤_, _<_, _/_, _%_}
+use Prim.Native.Nat.{ℕ, zero, suc, _+_, _-_, _*_, _≤_, _<_, _/_, _%_}
 use native.Mathlib.Omega.{arith}
-use mathlib.Core.Path.{_≡_, sym, ap, _∙_}
+use mathlib.Core.Path.{_≡_, refl, sym, ap, _∙_}
 use mathlib.Core.Bool.{Bool, true, false, not, cond}
 use mathlib.Core.List.{List}
 use lib.Dec.{eqb}
@@ -13,7 +13,7 @@ use Rattle.format.specs.Names.{same, unpadded}
 use Rattle.slices.specs.Bytes.{low16, low32}
 use Rattle.format.specs.Reading.{nameAt, wordCount, signalSize, laterWordsFault, sheetWordsFault}
 use Rattle.format.specs.Calls.{placeFrom}
-use Rattle.format.specs.Walk.{Whole}
+use Rattle.format.specs.Walk.{Whole, wholeSignals, placeAmong}
 use Rattle.format.specs.declared.Place.{Place}
 use Rattle.format.specs.declared.Place.the-variants.{At, Refused}
 
@@ -25,6 +25,10 @@ short s at k h = rw length-drop h
 
 pub long : (s : List ℕ) (at k : ℕ) → k ≤ length s - at → k ≤ length (drop at s)
 long s at k h = rw length-drop h
+
+-- the name field at a place
+pub field-is : (s : List ℕ) (at : ℕ) → take (at + 8 - at) (drop at s) ≡ take 8 (drop at s)
+field-is s at = let e : at + 8 - at ≡ 8 = omega arith in rw e
 
 -- one of the words after the first, w, at a place
 module _ (last : ℕ) (before : Bool) (n i : ℕ) (s : List ℕ) (at : ℕ) (h : i < n) where
@@ -65,65 +69,67 @@ module _ (n : ℕ) (s : List ℕ) (at : ℕ) where
     unfolding sheetWordsFault headValue
     words-next q = sym (rw (le-ltb _ _ (long s at 4 p), ← e, le-ltb _ _ q, drop-drop))
 
--- one of the signals
-module _ (n i : ℕ) (rest : List ℕ) (h : i < n) (w : Whole (n - i) rest) where
-  pub whole-step : Whole (suc (n - (i + 1))) rest
-  whole-step = rw (sub-step n i h) at w
+-- the word count and the size of a signal
+pub count-at : (s : List ℕ) (at r : ℕ) → r ≡ low16 (drop (at + 8) s) → r ≡ wordCount (drop at s)
+unfolding wordCount
+count-at s at r h = h ∙ ap low16 (sym (drop-drop 8 at s))
 
-module _ (name : List ℕ) (at n i : ℕ) (rest : List ℕ) (h : i < n) where
-  pub place-here : same (nameAt rest) name ≡ true → placeFrom name at (n - i) rest ≡ At (at + 10) (4 * wordCount rest)
-  unfolding placeFrom
-  place-here e = rw (sub-step n i h, e)
-
-  pub place-later : same (nameAt rest) name ≡ false
-      → placeFrom name at (n - i) rest ≡ placeFrom name (at + signalSize rest) (n - (i + 1)) (drop (signalSize rest) rest)
-  unfolding placeFrom
-  place-later e = rw (sub-step n i h, e)
-
-pub place-none : (name : List ℕ) (at n i : ℕ) (rest : List ℕ) → n ≤ i → placeFrom name at (n - i) rest ≡ Refused 13
-unfolding placeFrom
-place-none name at n i rest h = let e : n - i ≡ 0 = omega arith in rw e
+pub size-at : (rest : List ℕ) (r : ℕ) → r ≡ low16 (drop 8 rest) → 10 + 4 * r ≡ signalSize rest
+unfolding signalSize wordCount
+size-at rest r h = ap (λ (k : ℕ). 10 + 4 * k) h
 
 pub size-least : (rest : List ℕ) → 10 ≤ signalSize rest
 unfolding signalSize
 size-least rest = omega arith
 
--- a whole signal stands at a place of the sheet
-module _ (sheet : List ℕ) (at n i : ℕ) (h : i < n) (p : at ≤ length sheet) (w : Whole (n - i) (drop at sheet)) where
-  pub room : at + signalSize (drop at sheet) ≤ length sheet
-  room = omega (arith, whole-step n i (drop at sheet) h w .0, length-drop at sheet)
-
-  pub room10 : at + 10 ≤ length sheet
-  room10 = omega (arith, room, size-least (drop at sheet))
-
-  pub whole-next : Whole (n - (i + 1)) (drop (at + signalSize (drop at sheet)) sheet)
-  whole-next = rw drop-drop at (whole-step n i (drop at sheet) h w .1)
-
--- the word count and the size of the signal at a place
-pub count-at : (s : List ℕ) (at r : ℕ) → r ≡ low16 (drop (at + 8) s) → r ≡ wordCount (drop at s)
-unfolding wordCount
-count-at s at r h = h ∙ ap low16 (sym (drop-drop 8 at s))
-
-pub size-at : (rest : List ℕ) (r : ℕ) → r ≡ wordCount rest → 10 + 4 * r ≡ signalSize rest
+words-size : (rest : List ℕ) → 4 * wordCount rest ≡ signalSize rest - 10
 unfolding signalSize
-size-at rest r h = ap (λ (k : ℕ). 10 + 4 * k) h
+words-size rest = omega arith
 
--- the signals of a sheet from a place on, where a turn has read this name
-module _ (name sheet : List ℕ) (at n i : ℕ) (whole : Place) (h : i < n)
-    (field held : List ℕ) (alike : Bool) (f : field ≡ take 8 (drop at sheet)) (e : held ≡ unpadded field) (a : alike ≡ same held name)
-    (inv : placeFrom name at (n - i) (drop at sheet) ≡ whole) where
+-- the signals that are whole: all where all are, none where the first is cut, else one before the others
+pub wholes-all : (n : ℕ) (rest : List ℕ) → Whole n rest → wholeSignals n rest ≡ n
+unfolding wholeSignals
+wholes-all zero rest w = refl
+wholes-all (suc n) rest w = rw (le-ltb _ _ (w .0), wholes-all n (drop (signalSize rest) rest) (w .1))
+
+wholes-none : (n : ℕ) (rest : List ℕ) → length rest < signalSize rest → wholeSignals n rest ≡ 0
+unfolding wholeSignals
+wholes-none zero rest p = refl
+wholes-none (suc n) rest p = rw (lt-ltb _ _ p)
+
+wholes-one : (n i : ℕ) (rest : List ℕ) → i < n → signalSize rest ≤ length rest
+    → wholeSignals (n - i) rest ≡ suc (wholeSignals (n - (i + 1)) (drop (signalSize rest) rest))
+unfolding wholeSignals
+wholes-one n i rest h p = rw (sub-step n i h, le-ltb _ _ p)
+
+-- no signal is left to look at, or the next is cut
+pub place-end : (name : List ℕ) (at n i : ℕ) (rest : List ℕ) → n ≤ i → placeAmong name at (n - i) rest ≡ Refused 13
+unfolding placeFrom wholeSignals
+place-end name at n i rest h = let e : n - i ≡ 0 = omega arith in rw e
+
+pub place-cut : (name : List ℕ) (at n : ℕ) (rest : List ℕ) → length rest < signalSize rest → placeAmong name at n rest ≡ Refused 13
+unfolding placeFrom
+place-cut name at n rest p = rw (wholes-none n rest p)
+
+-- the sheet ends before its first signal
+pub place-short : (name sheet : List ℕ) (n : ℕ) → length sheet < 7 → placeAmong name 7 n (drop 7 sheet) ≡ Refused 13
+place-short name sheet n p = place-cut name 7 n (drop 7 sheet) (omega (arith, length-drop 7 sheet, size-least (drop 7 sheet)))
+
+-- a signal of this size stands whole at a place, and a turn has read its name
+module _ (name sheet : List ℕ) (at n i : ℕ) (whole : Place) (h : i < n) (size : ℕ) (s : size ≡ signalSize (drop at sheet))
+    (p : size ≤ length sheet - at) (held : List ℕ) (alike : Bool) (e : held ≡ unpadded (take (at + 8 - at) (drop at sheet)))
+    (a : alike ≡ same held name) (inv : placeAmong name at (n - i) (drop at sheet) ≡ whole) where
   held-is : same (nameAt (drop at sheet)) name ≡ alike
   unfolding nameAt
-  held-is = sym (a ∙ rw (e, f))
+  held-is = sym (a ∙ rw (e, field-is sheet at))
 
-  pub found : (words : ℕ) → alike ≡ true → words ≡ wordCount (drop at sheet) → At (at + 10) (4 * words) ≡ whole
-  found words t c = rw c (sym (place-here name at n i (drop at sheet) h (held-is ∙ t)) ∙ inv)
+  one : wholeSignals (n - i) (drop at sheet) ≡ suc (wholeSignals (n - (i + 1)) (drop (signalSize (drop at sheet)) (drop at sheet)))
+  one = wholes-one n i (drop at sheet) h (omega (arith, length-drop at sheet, s))
 
-  pub not-here : alike ≡ false
-      → placeFrom name (at + signalSize (drop at sheet)) (n - (i + 1)) (drop (at + signalSize (drop at sheet)) sheet) ≡ whole
-  not-here t =
-      sym (rw drop-drop at (place-later name at n i (drop at sheet) h (held-is ∙ t))) ∙ inv
+  pub found : alike ≡ true → At (at + 10) (size - 10) ≡ whole
+  unfolding placeFrom
+  found t = rw (s, ← words-size (drop at sheet)) (sym (rw (one, held-is, t) refl) ∙ inv)
 
--- the name field at a place
-pub field-is : (s : List ℕ) (at : ℕ) → take (at + 8 - at) (drop at s) ≡ take 8 (drop at s)
-field-is s at = let e : at + 8 - at ≡ 8 = omega arith in rw e
+  pub not-here : alike ≡ false → placeAmong name (at + size) (n - (i + 1)) (drop (at + size) sheet) ≡ whole
+  unfolding placeFrom
+  not-here t = rw (s, ← drop-drop) (sym (rw (one, held-is, t) refl) ∙ inv)

@@ -1,12 +1,14 @@
-// Reading sheets: check, and lookup with its sister.
+// Checking a sheet, front to back.
 ghost use mathlib.Core.Path.{_≡_};
-ghost use Prim.Native.Nat.{_+_, _*_, _≤_, _<_};
-ghost use lib.ListN.{length, take, drop};
+ghost use Prim.Native.Nat.{_≤_};
+ghost use lib.ListN.{length, drop};
 ghost use Rattle.format.specs.Names.{among};
-ghost use Rattle.format.specs.Reading.{wordCount, signalSize, sheetWordsFault, signalFault, frontFault, sheetFault, signalsFrom, names};
-ghost use Rattle.format.specs.Calls.{placeFrom, placeOf, lookupFault};
+ghost use Rattle.format.specs.Reading.{sheetWordsFault, signalFault, frontFault, sheetFault, signalsFrom, names};
 ghost use Rattle.format.specs.Walk.{Whole};
-ghost use Rattle.sheets.specs.LookedUp.{LookedUp};
+use finding::FIRST_AT;
+use finding::WORD_BYTES;
+use finding::WORD_COUNT_AT;
+use finding::WORDS_AT;
 use format::Place;
 
 // The mark is the three letters SGL.
@@ -19,43 +21,10 @@ pub const MOST_SIGNALS: usize = 32;
 
 const MOST_WORDS: usize = signals::WORDS;
 
-// Where on a sheet the version, the count of signals and the first signal stand.
+// Where on a sheet the version and the count of signals stand.
 pub const VERSION_AT: usize = 3;
 
 pub const COUNT_AT: usize = 5;
-
-pub const FIRST_AT: usize = 7;
-
-// Where in a signal its word count and its words stand, and the bytes of a word.
-pub const WORD_COUNT_AT: usize = 8;
-
-pub const WORDS_AT: usize = 10;
-
-pub const WORD_BYTES: usize = 4;
-
-// The name field of the signal at a place.
-fn field_at(sheet: &[u8], at: usize) -> &[u8]
-    requires { ⌜ at + 8 ≤ length (now sheet) ⌝ }
-    ensures { λ r. ⌜ now r ≡ take 8 (drop at (now (sheet .entry))) ⌝ }
-{
-    &sheet[at..at + WORD_COUNT_AT]
-}
-
-// The number of words of the signal at a place.
-fn word_count(sheet: &[u8], at: usize) -> usize
-    requires { ⌜ at + 10 ≤ length (now sheet) ⌝ }
-    ensures { λ r. ⌜ (r ≡ wordCount (drop at (now (sheet .entry)))) × (r < 65536) ⌝ }
-{
-    slices::read16(sheet, at + WORD_COUNT_AT)
-}
-
-// The number of bytes of the signal at a place.
-fn signal_size(sheet: &[u8], at: usize) -> usize
-    requires { ⌜ at + 10 ≤ length (now sheet) ⌝ }
-    ensures { λ r. ⌜ r ≡ signalSize (drop at (now (sheet .entry))) ⌝ }
-{
-    WORDS_AT + WORD_BYTES * word_count(sheet, at)
-}
 
 // The fault of the n words of a signal that start at a place: each is judged before the next is read.
 fn words_fault(s: &[u8], from: usize, n: usize) -> u32
@@ -92,33 +61,12 @@ fn words_fault(s: &[u8], from: usize, n: usize) -> u32
     0
 }
 
-// Where the words of the signal with this name stand, among the first `count` signals.
-fn find(sheet: &[u8], count: usize, name: &[u8]) -> Place
-    requires { ⌜ (7 ≤ length (now sheet)) × Whole count (drop 7 (now sheet)) ⌝ }
-    ensures { λ r. ⌜ r ≡ placeFrom (now (name .entry)) 7 count (drop 7 (now (sheet .entry))) ⌝ }
-{
-    let mut at = FIRST_AT;
-    let mut i: usize = 0;
-    while i < count {
-        let held = name_fields::name_in(field_at(sheet, at));
-        if name_fields::alike(held, name) {
-            return Place::At {
-                start: at + WORDS_AT,
-                count: WORD_BYTES * word_count(sheet, at),
-            };
-        }
-        at += signal_size(sheet, at);
-        i += 1;
-    }
-    Place::Refused(13)
-}
-
 // The name is one of the first `count` signals'.
 fn known(sheet: &[u8], count: usize, name: &[u8]) -> bool
     requires { ⌜ (7 ≤ length (now sheet)) × Whole count (drop 7 (now sheet)) ⌝ }
     ensures { λ r. ⌜ r ≡ among (now (name .entry)) (names (signalsFrom count (drop 7 (now (sheet .entry))))) ⌝ }
 {
-    match find(sheet, count, name) {
+    match finding::find(sheet, count, name) {
         Place::At { start: _, count: _ } => true,
         Place::Refused(_) => false,
     }
@@ -134,7 +82,7 @@ fn signal_fault(sheet: &[u8], at: usize, count: usize) -> u32
     if left < WORD_COUNT_AT {
         return 15;
     }
-    let field = field_at(sheet, at);
+    let field = &sheet[at..at + WORD_COUNT_AT];
     if name_fields::field_fits(field) {
         if known(sheet, count, name_fields::name_in(field)) {
             return 16;
@@ -142,7 +90,7 @@ fn signal_fault(sheet: &[u8], at: usize, count: usize) -> u32
         if left < WORDS_AT {
             return 15;
         }
-        let words = word_count(sheet, at);
+        let words = slices::read16(sheet, at + WORD_COUNT_AT);
         if words == 0 {
             return 17;
         }
@@ -197,50 +145,8 @@ pub fn sheet_fault(sheet: &[u8]) -> u32
         if fault != 0 {
             return fault;
         }
-        at += signal_size(sheet, at);
+        at += finding::signal_size(&sheet[at..]);
         i += 1;
     }
     if at == sheet.len() { 0 } else { 15 }
-}
-
-// Where the words of the signal with this name stand on a sheet; refused with the sheet's fault, 16 or 13.
-pub fn locate(sheet: &[u8], name: &[u8]) -> Place
-    ensures { λ r. ⌜ r ≡ placeOf (now (sheet .entry)) (now (name .entry)) ⌝ }
-{
-    let fault = sheet_fault(sheet);
-    if fault != 0 {
-        return Place::Refused(fault);
-    }
-    if names::well_named(name) {
-        let count = slices::read16(sheet, COUNT_AT);
-        find(sheet, count, name)
-    } else {
-        Place::Refused(16)
-    }
-}
-
-// The part of the sheet that is the words of the signal with this name, empty when refused.
-pub fn lookup<'a>(sheet: &'a [u8], name: &[u8]) -> &'a [u8]
-    ensures { λ r. ⌜ LookedUp (sheet .entry) (now (name .entry)) r ⌝ }
-{
-    match locate(sheet, name) {
-        Place::At { start, count } => {
-            let end = start + count;
-            &sheet[start..end]
-        }
-        Place::Refused(_) => {
-            let front = 0;
-            &sheet[front..front]
-        }
-    }
-}
-
-// The fault of a lookup, 0 when found.
-pub fn lookup_fault(sheet: &[u8], name: &[u8]) -> u32
-    ensures { λ r. ⌜ r ≡ lookupFault (now (sheet .entry)) (now (name .entry)) ⌝ }
-{
-    match locate(sheet, name) {
-        Place::At { start: _, count: _ } => 0,
-        Place::Refused(fault) => fault,
-    }
 }

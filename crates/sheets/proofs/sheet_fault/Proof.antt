@@ -1,14 +1,15 @@
 -- `sheets::sheet_fault` meets its contract: the fault from here, after the signals passed, is the fault of the sheet.
-use Rattle.format.proofs.Walking.{size-least}
+use Rattle.slices.proofs.Steps.{part-rest}
 use Rattle.format.proofs.Judging.{none-left, some-left}
 use borrow.Author.Needs.{needs}
 use native.Mathlib.Omega.{arith}
-use Prim.Native.Nat.{_+_, _-_, _≤_}
-use mathlib.Core.Path.{_≡_, refl, sym, _∙_}
+use Prim.Native.Nat.{ℕ, _+_, _-_, _≤_}
+use mathlib.Core.Path.{_≡_, refl, sym, ap, _∙_}
+use mathlib.Core.List.{List}
 use lib.ListN.{length, drop}
 use denote.Ref.{now}
 use native.Mathlib.Nat.{sub-zero}
-use Rattle.format.specs.Reading.{sheetFault, signalsFault, signalsFrom, names, countOn}
+use Rattle.format.specs.Reading.{signalSize, signalFault, sheetFault, signalsFault, signalsFrom, names, countOn}
 use Rattle.format.specs.Walk.{Whole, sizeOf}
 use Rattle.format.proofs.Judging.{fronted, sheet-front, sheet-past, signals-fault, signals-end, room-next, at-next, whole-after, fault-next}
 use Rattle.sheets.proofs.sheet_fault.Statement.{statement}
@@ -63,32 +64,42 @@ returns-2 c =
     signal-fault .ensures ∙ signals-fault _ (read16 .result) (loop .i) (drop (loop .at) (now (args .sheet))) (loop-test .taken)
     (λ e. c .if2 .taken (signal-fault .ensures ∙ e)) ∙ loop .inv .4
 
+sub-signal-size : tie.Need-sub-signal-size Inv-loop μ-loop
+sub-signal-size c = search needs
+
+part-signal-size-start : tie.Need-part-signal-size-start Inv-loop μ-loop
+part-signal-size-start c = search needs
+
+part-signal-size-end : tie.Need-part-signal-size-end Inv-loop μ-loop
+part-signal-size-end c = search needs
+
 signal-size-requires : tie.Need-signal-size-requires Inv-loop μ-loop
-signal-size-requires c κs =
-    let args = c .before .before .before .before .before .before .before .before .args in
-    let read16 = c .before .before .before .before .read16 in
-    let loop = c .before .before .before .loop in
-    let loop-test = c .before .before .loop-test in
-    let signal-fault = c .before .signal-fault in
-    omega (
-      arith,
-      room-next (now (args .sheet)) (loop .at) (read16 .result) (loop .i) (loop-test .taken) (loop .inv .1) (loop .inv .2)
-          (loop .inv .3) (sym (signal-fault .ensures) ∙ c .if2 .left),
-      size-least (drop (loop .at) (now (args .sheet))),
-    )
+signal-size-requires c κs = tt
+
+-- the sheet and the place, and the size of the signal there
+abbrev S : tie.After-signal-size Inv-loop μ-loop → List ℕ
+S c = c .before .before .before .before .before .before .before .before .before .before .args .sheet .now
+
+abbrev P : tie.After-signal-size Inv-loop μ-loop → ℕ
+P c = c .before .before .before .before .before .loop .at
+
+size-is : (c : tie.After-signal-size Inv-loop μ-loop) → c .signal-size .result ≡ signalSize (drop (P c) (S c))
+size-is c = c .signal-size .ensures ∙ ap signalSize (part-rest (S c) (P c))
+
+-- the signal there has no fault
+fine : (c : tie.After-signal-size Inv-loop μ-loop)
+    → signalFault (names (signalsFrom (c .before .before .before .before .before .loop .i) (drop 7 (S c)))) (drop (P c) (S c)) ≡ 0
+fine c = sym (c .before .before .before .signal-fault .ensures) ∙ c .before .before .if2 .left
 
 add-at : tie.Need-add-at Inv-loop μ-loop
 add-at c =
-    let args = c .before .before .before .before .before .before .before .before .before .args in
-    let read16 = c .before .before .before .before .before .read16 in
-    let loop = c .before .before .before .before .loop in
-    let loop-test = c .before .before .before .loop-test in
-    let signal-fault = c .before .before .signal-fault in
-    let if2 = c .before .if2 in
+    let read16 = c .before .before .before .before .before .before .read16 in
+    let loop = c .before .before .before .before .before .loop in
+    let loop-test = c .before .before .before .before .loop-test in
     omega (
       arith,
-      room-next (now (args .sheet)) (loop .at) (read16 .result) (loop .i) (loop-test .taken) (loop .inv .1) (loop .inv .2)
-          (loop .inv .3) (sym (signal-fault .ensures) ∙ if2 .left),
+      size-is c,
+      room-next (S c) (P c) (read16 .result) (loop .i) (loop-test .taken) (loop .inv .1) (loop .inv .2) (loop .inv .3) (fine c),
     )
 
 add-i : tie.Need-add-i Inv-loop μ-loop
@@ -99,21 +110,15 @@ loop-less c = omega arith
 
 loop-again : tie.Need-loop-again Inv-loop μ-loop
 loop-again c =
-    let args = c .before .before .before .before .before .before .before .before .before .args in
-    let read16 = c .before .before .before .before .before .read16 in
-    let loop = c .before .before .before .before .loop in
-    let loop-test = c .before .before .before .loop-test in
-    let signal-fault = c .before .before .signal-fault in
-    let if2 = c .before .if2 in (
+    let read16 = c .before .before .before .before .before .before .read16 in
+    let loop = c .before .before .before .before .before .loop in
+    let h = c .before .before .before .before .loop-test .taken in (
       loop .inv .0,
-      rw (c .signal-size .ensures) (at-next (now (args .sheet)) (loop .at) (read16 .result) (loop .i) (loop-test .taken) (loop .inv .1)
-          (loop .inv .2) (loop .inv .3) (sym (signal-fault .ensures) ∙ if2 .left)),
-      rw (c .signal-size .ensures) (room-next (now (args .sheet)) (loop .at) (read16 .result) (loop .i) (loop-test .taken) (loop .inv .1)
-          (loop .inv .2) (loop .inv .3) (sym (signal-fault .ensures) ∙ if2 .left)),
-      whole-after (now (args .sheet)) (loop .at) (read16 .result) (loop .i) (loop-test .taken) (loop .inv .1) (loop .inv .2) (loop .inv .3)
-          (sym (signal-fault .ensures) ∙ if2 .left),
-      rw (c .signal-size .ensures) (fault-next (now (args .sheet)) (loop .at) (read16 .result) (loop .i) (loop-test .taken) (loop .inv .1)
-          (loop .inv .2) (loop .inv .3) (sym (signal-fault .ensures) ∙ if2 .left) ∙ loop .inv .4),
+      rw (size-is c) (at-next (S c) (P c) (read16 .result) (loop .i) h (loop .inv .1) (loop .inv .2) (loop .inv .3) (fine c)),
+      rw (size-is c) (room-next (S c) (P c) (read16 .result) (loop .i) h (loop .inv .1) (loop .inv .2) (loop .inv .3) (fine c)),
+      whole-after (S c) (P c) (read16 .result) (loop .i) h (loop .inv .1) (loop .inv .2) (loop .inv .3) (fine c),
+      rw (size-is c) (fault-next (S c) (P c) (read16 .result) (loop .i) h (loop .inv .1) (loop .inv .2) (loop .inv .3) (fine c)
+          ∙ loop .inv .4),
     )
 
 returns-3 : tie.Need-returns-3 Inv-loop μ-loop
@@ -146,6 +151,9 @@ sheet-fault-spec =
     loop-holds
     signal-fault-requires
     returns-2
+    sub-signal-size
+    part-signal-size-start
+    part-signal-size-end
     signal-size-requires
     add-at
     add-i

@@ -1,14 +1,11 @@
--- `sheets::locate` meets its contract.
+-- `lookups::locate` meets its contract.
 use borrow.Author.Needs.{needs}
-use Prim.Native.Nat.{ℕ}
 use mathlib.Core.Path.{sym, ap, _∙_}
-use lib.ListN.{drop}
 use denote.Ref.{now}
 use Rattle.format.specs.declared.Place.the-variants.{Refused}
-use Rattle.format.specs.Calls.{placeFrom}
-use Rattle.format.proofs.Locating.{count-is, front-none, sheet-whole, place-bad-sheet, place-bad-name, place-walked}
-use Rattle.sheets.proofs.locate.Statement.{statement}
-use Rattle.sheets.proofs.locate.Tie as tie
+use Rattle.format.proofs.Locating.{place-bad-sheet, place-bad-name, place-sought}
+use Rattle.lookups.proofs.locate.Statement.{statement}
+use Rattle.lookups.proofs.locate.Tie as tie
 
 sheet-fault-requires : tie.Need-sheet-fault-requires
 sheet-fault-requires c κs = search needs
@@ -27,14 +24,7 @@ read16-requires : tie.Need-read16-requires
 read16-requires c κs = search needs
 
 find-requires : tie.Need-find-requires
-find-requires c κs =
-    let args = c .before .before .before .before .before .before .before .args in
-    let sheet-fault = c .before .before .before .before .sheet-fault in
-    let if1 = c .before .before .before .if1 in (
-      front-none (now (args .sheet)) (sym (sheet-fault .ensures) ∙ if1 .left) .room,
-      rw (count-is (now (args .sheet)) (c .read16 .result) (c .read16 .ensures .0))
-          (sheet-whole (now (args .sheet)) (sym (sheet-fault .ensures) ∙ if1 .left)),
-    )
+find-requires c κs = search needs
 
 returns-2 : tie.Need-returns-2
 returns-2 c =
@@ -44,9 +34,8 @@ returns-2 c =
     let well-named = c .before .before .before .well-named in
     let if2 = c .before .before .if2 in
     let read16 = c .before .read16 in
-    c .find .ensures ∙ ap (λ (k : ℕ). placeFrom (now (args .name)) 7 k (drop 7 (now (args .sheet))))
-    (count-is (now (args .sheet)) (read16 .result) (read16 .ensures .0))
-    ∙ place-walked (now (args .sheet)) (now (args .name)) (sym (sheet-fault .ensures) ∙ if1 .left) (sym (well-named .ensures) ∙ if2 .taken)
+    c .find .ensures ∙ place-sought (now (args .sheet)) (now (args .name)) (sym (sheet-fault .ensures) ∙ if1 .left) (read16 .result)
+    (read16 .ensures .0) (sym (well-named .ensures) ∙ if2 .taken)
 
 returns-3 : tie.Need-returns-3
 returns-3 c =

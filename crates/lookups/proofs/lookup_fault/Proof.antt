@@ -1,11 +1,11 @@
--- `sheets::lookup_fault` meets its contract.
+-- `lookups::lookup_fault` meets its contract.
 use borrow.Author.Needs.{needs}
 use mathlib.Core.Path.{sym, ap, _∙_}
 use denote.Ref.{now}
 use Rattle.format.specs.Calls.{faultOfPlace}
 use Rattle.format.proofs.Locating.{place-fault}
-use Rattle.sheets.proofs.lookup_fault.Statement.{statement}
-use Rattle.sheets.proofs.lookup_fault.Tie as tie
+use Rattle.lookups.proofs.lookup_fault.Statement.{statement}
+use Rattle.lookups.proofs.lookup_fault.Tie as tie
 
 locate-requires : tie.Need-locate-requires
 locate-requires c κs = search needs

@@ -1,11 +1,11 @@
--- `sheets::lookup` meets its contract.
+-- `lookups::lookup` meets its contract.
 use borrow.Author.Needs.{needs}
 use native.Mathlib.Omega.{arith}
 use mathlib.Core.Path.{sym, _∙_}
 use denote.Ref.{now, ptr}
 use Rattle.format.proofs.Locating.{place-within, part-is, lies-at, part-none}
-use Rattle.sheets.proofs.lookup.Statement.{statement}
-use Rattle.sheets.proofs.lookup.Tie as tie
+use Rattle.lookups.proofs.lookup.Statement.{statement}
+use Rattle.lookups.proofs.lookup.Tie as tie
 
 locate-requires : tie.Need-locate-requires
 locate-requires c κs = search needs
