@@ -15,7 +15,7 @@ use Rattle.signals.specs.declared.Written.the-variants.{Count, Refused}
 use Rattle.signals.proofs.FirstFault.{both-none}
 use Rattle.operations.proofs.CallFaults.{part-none}
 use Rattle.operations.specs.Calls.{partFault, roomFault, answerFault, changesAfterM}
-use Rattle.building.specs.Building.{Built, madeFault, Delivers}
+use Rattle.building.specs.Building.{Built, HandsOver, madeFault, Delivers}
 use Rattle.building.specs.declared.Made.{Made}
 use Rattle.building.proofs.BuildingLaws.{slot-short}
 use Rattle.signals.specs.Words.{mostWords}
@@ -30,6 +30,17 @@ copy-step s o i hs ho =
 pub copy-next : (s o out : List ℕ) (i : ℕ) → out ≡ take i s ++ drop i o → i < length s → i < length o
     → set out i (getD s i 0) ≡ take (i + 1) s ++ drop (i + 1) o
 copy-next s o out i e hs ho = rw e (copy-step s o i hs ho)
+
+-- handing a list over
+module _ (words out : List ℕ) where
+  pub no-room : length out < length words → HandsOver words out (Refused 7) out
+  unfolding roomFault writtenOf outputOf
+  no-room h = (rw (lt-ltb (length out) (length words) h), rw (lt-ltb (length out) (length words) h))
+
+  pub handed : length words ≤ length out → (after : List ℕ) → after ≡ words ++ drop (length words) out
+      → HandsOver words out (Count (length words)) after
+  unfolding roomFault writtenOf outputOf
+  handed h after q = (rw (le-ltb (length out) (length words) h), rw (le-ltb (length out) (length words) h) q)
 
 -- the tests that the code makes
 module _ (made : Made) (slot out : List ℕ) where
@@ -53,22 +64,12 @@ module _ (made : Made) (slot out : List ℕ) where
         rw (le-ltb mostWords (made .count) h, le-ltb (length slot) (made .count) s, l),
       )
 
-      pub no-room : made .late ≡ false → length out < made .count → Delivers made slot out (Refused 7) out
-      unfolding madeFault writtenOf outputOf
-      no-room l o = (
-        rw (le-ltb mostWords (made .count) h, le-ltb (length slot) (made .count) s, l, lt-ltb (length out) (made .count) o),
-        rw (le-ltb mostWords (made .count) h, le-ltb (length slot) (made .count) s, l, lt-ltb (length out) (made .count) o),
-      )
-
-      pub whole : made .late ≡ false → made .count ≤ length out → (after : List ℕ)
-          → after ≡ take (made .count) slot ++ drop (made .count) out
-          → Delivers made slot out (Count (made .count)) after
-      unfolding madeFault writtenOf outputOf
-      whole l o after q =
-          let long : length (take (made .count) slot) ≡ made .count = length-take-le (made .count) slot s in (
-            rw (le-ltb mostWords (made .count) h, le-ltb (length slot) (made .count) s, l, le-ltb (length out) (made .count) o, long),
-            rw (le-ltb mostWords (made .count) h, le-ltb (length slot) (made .count) s, l, le-ltb (length out) (made .count) o, long) q,
-          )
+      pub whole : made .late ≡ false → (answer : Written) (after : List ℕ) → HandsOver (take (made .count) slot) out answer after
+          → Delivers made slot out answer after
+      unfolding madeFault roomFault
+      whole l answer after d =
+          let long : length (take (made .count) slot) ≡ made .count = length-take-le (made .count) slot s in
+          rw (le-ltb mostWords (made .count) h, le-ltb (length slot) (made .count) s, l) (rw long at d)
 
 -- a call's words matter where it has no fault
 written-alike : (fault : ℕ) (words exact : List ℕ) → (fault ≡ 0 → words ≡ exact) → writtenOf fault words ≡ writtenOf fault exact

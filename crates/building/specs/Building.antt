@@ -10,7 +10,7 @@ use Rattle.signals.specs.Signal.{num}
 use Rattle.signals.specs.Words.{dateOf, mostWords, word}
 use Rattle.signals.specs.Answers.{writtenOf, outputOf}
 use Rattle.signals.specs.declared.Written.{Written}
-use Rattle.operations.specs.Calls.{changesAfterM}
+use Rattle.operations.specs.Calls.{changesAfterM, roomFault}
 use Rattle.building.specs.declared.Made.{Made}
 
 -- a word of these values after the value before changes nothing
@@ -68,6 +68,11 @@ pub record Built (exact old slot : List ℕ) (made : Made) : Type 0 where
   pub count-is : made .count ≡ length exact
   pub late-is : made .late ≡ changesAfterM exact
   pub slot-is : slot ≡ slotWith exact old
+
+-- a list handed to an output: 7 where that is shorter, which then stays as it was
+abbrev pub HandsOver : List ℕ → List ℕ → Written → List ℕ → Type 0
+HandsOver words out answer after =
+    (answer ≡ writtenOf (roomFault words (length out)) words) × (after ≡ outputOf (roomFault words (length out)) words out)
 
 -- 5, 6, 7 of an answer in a slot of s words, for an output of n: one that the slot does not hold whole is too long as well
 unfoldable pub madeFault : Made → ℕ → ℕ → ℕ

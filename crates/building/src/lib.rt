@@ -2,8 +2,8 @@
 ghost use mathlib.Core.Path.{_≡_};
 ghost use mathlib.Core.List.{_++_};
 ghost use Prim.Native.Nat.{_≤_};
-ghost use lib.ListN.{length, take, drop};
-ghost use Rattle.building.specs.Building.{idle, oneMore, Begins, Emits, Delivers};
+ghost use lib.ListN.{length, drop};
+ghost use Rattle.building.specs.Building.{idle, oneMore, Begins, Emits, HandsOver, Delivers};
 ghost use Rattle.building.specs.Slots.{madeAnswer};
 use signals::Date;
 use signals::M;
@@ -90,16 +90,27 @@ pub fn emit(slot: &mut [u32], made: Made, date: Date, at: bool, after: bool) -> 
     }
 }
 
-// The first count words of a slot, copied to the output.
-fn copy_words(slot: &[u32], count: usize, out: &mut [u32])
-    requires { ⌜ (count ≤ length (now slot)) × (count ≤ length (now out)) ⌝ }
-    ensures { λ r. ⌜ now (out .exit) ≡ take count (now (slot .entry)) ++ drop count (now (out .entry)) ⌝ }
+// Words copied to the front of the output.
+fn copy_words(words: &[u32], out: &mut [u32])
+    requires { ⌜ length (now words) ≤ length (now out) ⌝ }
+    ensures { λ r. ⌜ now (out .exit) ≡ now (words .entry) ++ drop (length (now (words .entry))) (now (out .entry)) ⌝ }
 {
     let mut i: usize = 0;
-    while i < count {
-        out[i] = slot[i];
+    while i < words.len() {
+        out[i] = words[i];
         i += 1;
     }
+}
+
+// A list handed to the output if that is long enough, else 7.
+pub fn hand_over(words: &[u32], out: &mut [u32]) -> Written
+    ensures { λ r. ⌜ HandsOver (now (words .entry)) (now (out .entry)) r (now (out .exit)) ⌝ }
+{
+    if out.len() < words.len() {
+        return Written::Refused(7);
+    }
+    copy_words(words, out);
+    Written::Count(words.len())
 }
 
 // The answer in a slot, judged (5, 6, 7) and handed over.
@@ -116,11 +127,7 @@ pub fn deliver(slot: &[u32], made: Made, out: &mut [u32]) -> Written
     if made.late {
         return Written::Refused(6);
     }
-    if out.len() < count {
-        return Written::Refused(7);
-    }
-    copy_words(slot, count, out);
-    Written::Count(count)
+    hand_over(&slot[..count], out)
 }
 
 // What a call in a lent slot gives: the answer's words, counted, stand in the slot; or it is over 256 words, or changes after M;

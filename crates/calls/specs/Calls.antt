@@ -18,9 +18,12 @@ use Rattle.operations.specs.Calls.{partFault, roomFault}
 use Rattle.calls.specs.OnSheet.{signalOn, settlingDate, exactOn, namesFound}
 use Rattle.signals.specs.Answers.{firstOf}
 
--- the work words that a call needs on a sheet
+-- the work words that a call needs, on any sheet
+abbrev pub workWords : ℕ
+workWords = 8192
+
 unfoldable pub neededWork : List ℕ → ℕ
-neededWork sheet = 8192
+neededWork sheet = workWords
 
 -- 10, 11, 8, 12 of the formula alone, then 13: a name that the sheet does not have
 unfoldable pub readingFault : List ℕ → List ℕ → ℕ

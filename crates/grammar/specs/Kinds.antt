@@ -39,3 +39,7 @@ SR = 10
 
 abbrev pub RS : ℕ
 RS = 11
+
+-- how many kinds there are
+abbrev pub KINDS : ℕ
+KINDS = 12

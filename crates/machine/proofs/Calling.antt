@@ -4,13 +4,11 @@ use native.Mathlib.Omega.{arith}
 use mathlib.Core.Path.{_≡_, refl, sym, _∙_}
 use mathlib.Core.List.{List}
 use lib.ListN.{length, take}
-use lib.Seq.{paste, length-take-le}
-use borrow.Author.Tests.{lt-ltb, le-ltb}
 use Rattle.signals.specs.Answers.{writtenOf, outputOf}
 use Rattle.signals.specs.declared.Written.{Written}
 use Rattle.signals.specs.declared.Written.the-variants as written
 use Rattle.signals.specs.declared.Verdict.the-variants as verdict
-use Rattle.questions.specs.Questions as questions
+use Rattle.building.specs.Building.{HandsOver}
 use Rattle.operations.proofs.JudgedCalls.{refused, passes-on}
 use Rattle.grammar.specs.Tree.{Tree}
 use Rattle.grammar.specs.Code.{code}
@@ -19,7 +17,8 @@ use Rattle.grammar.specs.Parts.{parts}
 use Rattle.signals.proofs.AnyDate.{one-verdict}
 use Rattle.format.specs.Reading.{sheetFault}
 use Rattle.calls.specs.OnSheet.{exactOn}
-use Rattle.calls.specs.Calls.{readingFault, workFault, neededWork, workingFault, wordsOn, callFault, callAnswer, callOutput}
+use Rattle.calls.specs.Calls.{workWords, readingFault, workFault, neededWork, workingFault, wordsOn, callFault, callAnswer, callOutput}
+use Rattle.signals.specs.Words.{mostWords}
 use Rattle.operations.specs.Calls.{roomFault}
 use Rattle.calls.proofs.NotRefused.{work-ok, work-short}
 use Rattle.machine.specs.Machine.{Plan, WorkedOut, Prepared, Coded, runFault}
@@ -28,25 +27,6 @@ use Rattle.machine.proofs.Stepping.{counted, refused-by}
 use Rattle.machine.proofs.SlotFacts.{short}
 use Rattle.signals.specs.Answers.{firstOf}
 use Rattle.signals.proofs.FirstFault.{next-is}
-
--- handing a list over
-module _ (work out : List ℕ) (n : ℕ) (enough : n ≤ length work) where
-  pub no-room : length out < n
-      → (written.Refused 7 ≡ writtenOf (roomFault (take n work) (length out)) (take n work)) ×
-      (out ≡ outputOf (roomFault (take n work) (length out)) (take n work) out)
-  unfolding roomFault writtenOf outputOf
-  no-room h =
-      let l : length (take n work) ≡ n = length-take-le n work enough in
-      (rw (l, lt-ltb (length out) n h), rw (l, lt-ltb (length out) n h))
-
-  pub handed : n ≤ length out → (after : List ℕ) → after ≡ paste out 0 work n
-      → (written.Count n ≡ writtenOf (roomFault (take n work) (length out)) (take n work)) ×
-      (after ≡ outputOf (roomFault (take n work) (length out)) (take n work) out)
-  unfolding roomFault writtenOf outputOf
-  handed h after e =
-      let l : length (take n work) ≡ n = length-take-le n work enough in
-      let z : 0 + n ≡ n = omega arith in
-      (rw (l, le-ltb (length out) n h), rw (l, le-ltb (length out) n h) (e ∙ rw z))
 
 -- a formula that was worked out
 module _ (sheet text before after : List ℕ) (answer : Written) (w : WorkedOut sheet before after 0 (formulaTree text) answer) where
@@ -69,7 +49,7 @@ module _ (sheet text before after : List ℕ) (answer : Written) (w : WorkedOut 
         let q = counted (workingFault sheet text) (wordsOn sheet text) n (sym did ∙ e) in
         rw (q .1) (w .stands (q .0) .stands)
 
-    pub run-fits : 256 ≤ length after → n ≤ length after
+    pub run-fits : mostWords ≤ length after → n ≤ length after
     unfolding wordsOn workingFault
     run-fits h =
         let q = counted (workingFault sheet text) (wordsOn sheet text) n (sym did ∙ e) in
@@ -77,8 +57,7 @@ module _ (sheet text before after : List ℕ) (answer : Written) (w : WorkedOut 
         omega (arith, q .1)
 
     pub run-counted : (out out′ : List ℕ) (r : Written)
-        → (r ≡ writtenOf (roomFault (take n after) (length out)) (take n after)) ×
-        (out′ ≡ outputOf (roomFault (take n after) (length out)) (take n after) out)
+        → HandsOver (take n after) out r out′
         → (r ≡ writtenOf (runFault sheet text (length out)) (wordsOn sheet text)) ×
         (out′ ≡ outputOf (runFault sheet text (length out)) (wordsOn sheet text) out)
     unfolding runFault
@@ -139,14 +118,14 @@ module _ (sheet formula work out : List ℕ) where
       from-reading rest r out′ h = from-sheet _ r out′ (passes-on (readingFault sheet formula) rest
           (wordsOn sheet formula) out r out′ read h)
 
-      pub call-work : length work < 8192 → Called (written.Refused 18) out work
+      pub call-work : length work < workWords → Called (written.Refused 18) out work
       unfolding callAnswer callOutput callFault neededWork
       call-work h =
           let w = work-short sheet (length work) h in
           let a = from-reading _ _ out (refused (workFault sheet (length work)) _ (wordsOn sheet formula) out 18 (sym w) (λ z. omega arith))
           in (a .0, a .1, λ x. refl)
 
-      pub call-run : 8192 ≤ length work → (r : Written) (out′ work′ : List ℕ) → Answers (runFault sheet formula (length out)) r out′
+      pub call-run : workWords ≤ length work → (r : Written) (out′ work′ : List ℕ) → Answers (runFault sheet formula (length out)) r out′
           → Called r out′ work′
       unfolding callAnswer callOutput callFault runFault firstFault neededWork
       call-run h r out′ work′ x =

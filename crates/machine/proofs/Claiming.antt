@@ -7,7 +7,7 @@ use mathlib.Core.Option.{Option}
 use lib.ListN.{length, take, drop}
 use lib.Seq.{take-take}
 use borrow.Author.Tests.{eq-eqb, ne-eqb}
-use Rattle.signals.specs.Words.{listFault, lastDate}
+use Rattle.signals.specs.Words.{mostWords, listFault, lastDate}
 use Rattle.signals.specs.declared.Written.{Written}
 use Rattle.signals.specs.declared.Written.the-variants as written
 use Rattle.signals.specs.declared.Verdict.{Verdict}
@@ -22,7 +22,7 @@ use Rattle.signals.specs.Words.{pairFault}
 use Rattle.format.specs.Reading.{sheetFault}
 use Rattle.calls.specs.OnSheet.{exactOn, signalOn, settlingDate}
 use Rattle.calls.specs.Calls.{readingFault, workFault, neededWork, partsFault, workingFault, claimFault, claimFails, claimVerdict}
-use Rattle.calls.specs.Calls.{claimAnswer}
+use Rattle.calls.specs.Calls.{workWords, claimAnswer}
 use Rattle.calls.proofs.Settles.{settles}
 use Rattle.calls.proofs.NotRefused.{work-ok, work-short}
 use Rattle.machine.specs.Machine.{InSlot, WorkedOut, judgeFault, claimOnFault, ClaimOn}
@@ -80,18 +80,18 @@ module _ (sheet g before after : List ℕ) (answer : Written) (w : WorkedOut she
     given : (partsFault sheet (parts (formulaTree g)) ≡ 0) × (n ≡ length (exactOn sheet (formulaTree g)))
     given = counted (partsFault sheet (parts (formulaTree g))) (exactOn sheet (formulaTree g)) n (sym (w .answer-is) ∙ e)
 
-    pub compare-short : n ≤ 256
+    pub compare-short : n ≤ mostWords
     compare-short = let s = short (exactOn sheet (formulaTree g)) (w .stands (given .0) .accepted) in omega (arith, given .1)
 
-    pub compare-done : (ok : sheetFault sheet ≡ 0) (t : Tree) (m : ℕ) → m ≤ 256 → InSlot before 0 m (exactOn sheet t) → (r : Verdict)
-        → r ≡ impliesOf (take m after) (take (256 + n - 256) (drop 256 after)) → r ≡ verdictFor (workingFault sheet g)
+    pub compare-done : (ok : sheetFault sheet ≡ 0) (t : Tree) (m : ℕ) → m ≤ mostWords → InSlot before 0 m (exactOn sheet t) → (r : Verdict)
+        → r ≡ impliesOf (take m after) (take (mostWords + n - mostWords) (drop mostWords after)) → r ≡ verdictFor (workingFault sheet g)
         (claimFails sheet t (formulaTree g))
     unfolding workingFault
     compare-done ok t m h s r x =
-        let k : 256 + n - 256 ≡ n = omega arith in
-        let second : take n (drop 256 after) ≡ exactOn sheet (formulaTree g) = rw (given .1) (w .stands (given .0) .stands) in
-        let cut : take m (take 256 after) ≡ take m (take 256 before) = ap (take m) (w .kept) in
-        let first : take m after ≡ exactOn sheet t = sym (take-take m 256 after h) ∙ cut ∙ take-take m 256 before h ∙ s .stands in
+        let k : mostWords + n - mostWords ≡ n = omega arith in
+        let second : take n (drop mostWords after) ≡ exactOn sheet (formulaTree g) = rw (given .1) (w .stands (given .0) .stands) in
+        let cut : take m (take mostWords after) ≡ take m (take mostWords before) = ap (take m) (w .kept) in
+        let first : take m after ≡ exactOn sheet t = sym (take-take m mostWords after h) ∙ cut ∙ take-take m mostWords before h ∙ s .stands in
         let y : r ≡ impliesOf (exactOn sheet t) (exactOn sheet (formulaTree g)) = rw (k, second, first) at x in
         y ∙ compared sheet ok t (formulaTree g) (s .accepted) (w .stands (given .0) .accepted) ∙ by-none
         (partsFault sheet (parts (formulaTree g))) _ (given .0)
@@ -107,7 +107,7 @@ module _ (sheet f g before after : List ℕ) (answer : Written) (w : WorkedOut s
     known : (partsFault sheet (parts (formulaTree f)) ≡ 0) × (n ≡ length (exactOn sheet (formulaTree f)))
     known = counted (partsFault sheet (parts (formulaTree f))) (exactOn sheet (formulaTree f)) n (sym (w .answer-is) ∙ e)
 
-    pub judge-short : n ≤ 256
+    pub judge-short : n ≤ mostWords
     judge-short = let s = short (exactOn sheet (formulaTree f)) (w .stands (known .0) .accepted) in omega (arith, known .1)
 
     pub judge-done : (r : Verdict)
@@ -126,7 +126,7 @@ module _ (sheet F G work : List ℕ) where
   on-reading f e n = record { answer-is = by-first f (readingFault sheet G) _ _ e n; kept = λ x. refl }
 
   module _ (read : readingFault sheet G ≡ 0) where
-    pub on-work : length work < 8192 → ClaimOn sheet F G work (Refused 18) work
+    pub on-work : length work < workWords → ClaimOn sheet F G work (Refused 18) work
     unfolding claimOnFault neededWork
     on-work h =
         record {
@@ -135,7 +135,7 @@ module _ (sheet F G work : List ℕ) where
           kept = λ x. refl;
         }
 
-    pub on-judged : 8192 ≤ length work → (r : Verdict) (after : List ℕ) → r ≡ verdictFor (judgeFault sheet F G)
+    pub on-judged : workWords ≤ length work → (r : Verdict) (after : List ℕ) → r ≡ verdictFor (judgeFault sheet F G)
         (claimFails sheet (formulaTree F) (formulaTree G)) → ClaimOn sheet F G work r after
     unfolding claimOnFault neededWork
     on-judged h r after x =

@@ -8,7 +8,7 @@ use lib.Dec.{ltb}
 use lib.ListN.{length}
 use borrow.Author.Tests.{ltb-false}
 use Rattle.signals.specs.Signal.{Signal, NOT, rising, falling, SR, RS, TON, TOF, AND, OR, connective, cell}
-use Rattle.signals.specs.Words.{signalOf, lastDate, listOf, listFault}
+use Rattle.signals.specs.Words.{mostWords, signalOf, lastDate, listOf, listFault}
 use Rattle.signals.specs.Settled.{SettledFrom}
 use Rattle.signals.proofs.Settling.{settling}
 use Rattle.signals.proofs.Normal.{accepted-settled, accepted-normal}
@@ -19,7 +19,7 @@ use Rattle.format.specs.Reading.{sheetFault}
 use Rattle.calls.specs.OnSheet.{signalOn, settlingDate, exactOn}
 use Rattle.operations.specs.Calls.{partFault}
 use Rattle.calls.proofs.Settles.{settles, exact-for}
-use Rattle.machine.specs.Machine.{unaryExact, binaryExact, AND-table, OR-table}
+use Rattle.applying.specs.CodeWords.{unaryExact, binaryExact, AND-table, OR-table}
 
 and-cell : (f g : Signal) (t : ℕ) → connective AND-table f g t ≡ AND f g t
 unfolding connective cell AND
@@ -92,9 +92,9 @@ module _ (sheet : List ℕ) (ok : sheetFault sheet ≡ 0) where
   -- a part without fault 5 has an accepted list
   pub accepted-part : (t : Tree) → partFault (exactOn sheet t) ≡ 0 → listFault (exactOn sheet t) ≡ 0
   unfolding partFault
-  accepted-part t h = accepted-normal (exactOn sheet t) .1 (exact-for sheet ok t .normal, size (ltb 256 (length (exactOn sheet t))) refl h)
+  accepted-part t h = accepted-normal (exactOn sheet t) .1 (exact-for sheet ok t .normal, size (ltb mostWords (length (exactOn sheet t))) refl h)
     where
-      size : (b : Bool) → ltb 256 (length (exactOn sheet t)) ≡ b → _≡_ {A = ℕ} (cond b 5 (cond (changesAfterM (exactOn sheet t)) 6 0)) 0
-          → length (exactOn sheet t) ≤ 256
+      size : (b : Bool) → ltb mostWords (length (exactOn sheet t)) ≡ b → _≡_ {A = ℕ} (cond b 5 (cond (changesAfterM (exactOn sheet t)) 6 0)) 0
+          → length (exactOn sheet t) ≤ mostWords
       size true e z = absurd (omega arith)
-      size false e z = ltb-false 256 (length (exactOn sheet t)) e
+      size false e z = ltb-false mostWords (length (exactOn sheet t)) e

@@ -2,7 +2,8 @@
 use Prim.Native.Nat.{ℕ, _+_, suc, _/_, _%_, zero, _≤_, _<_, _^_}
 use native.Mathlib.Omega.{arith}
 use mathlib.Core.Path.{_≡_, refl, sym, _∙_, ap}
-use mathlib.Core.Bool.{Bool, true, false}
+use mathlib.Core.Bool.{Bool, true, false, cond}
+use lib.Dec.{eqb}
 use mathlib.Core.List.{List, [], _∷_, _++_}
 use lib.ListN.{length, take, drop, getD, set}
 use lib.Seq.{paste, set-split, append-snoc}
@@ -10,11 +11,12 @@ use native.Mathlib.Numerals.{add-one}
 use borrow.Author.Tests.{eq-eqb, ne-eqb, le-ltb}
 use Rattle.signals.specs.Moment.{M}
 use Rattle.signals.specs.Signal.{constant, num}
-use Rattle.signals.specs.Words.{listOf, wordsOf, dateOf}
+use Rattle.signals.specs.Words.{mostWords, listOf, wordsOf, dateOf}
 use Rattle.signals.proofs.WordFacts.{date-le}
 use Rattle.operations.specs.Calls.{changesAfterM}
 use Rattle.slices.specs.Bytes.{Bytes, wordsIn}
 use Rattle.names.specs.Names.{wellNamed}
+use Rattle.grammar.specs.Kinds as kinds
 use Rattle.grammar.specs.Tree.{Leaf, leaf, down, up, name}
 use Rattle.grammar.specs.Formula.{nameAt}
 use Rattle.format.specs.Names.{among}
@@ -28,6 +30,7 @@ use Rattle.format.proofs.Theorems.{lookup-gives-the-list}
 use Rattle.signals.proofs.Normal.{read-back, accepted-normal}
 use Rattle.operations.specs.Calls.{partFault}
 use Rattle.calls.specs.OnSheet.{exactOn, settlingDate}
+use Rattle.applying.specs.CodeWords.{constantOf}
 use Rattle.machine.specs.Machine.{leafOf, leafKnown, Loaded}
 use Rattle.machine.proofs.SlotFacts.{short}
 use Rattle.machine.proofs.Putting.{words-length}
@@ -69,7 +72,7 @@ module _ (sheet n : List ℕ) (ok : sheetFault sheet ≡ 0) (bytes : Bytes sheet
   unfolding decoded
   part-words part e = rw e (the-part .words ∙ sym name-list)
 
-  pub part-short : (part : List ℕ) → part ≡ lookupOf sheet n → length part / 4 ≤ 256
+  pub part-short : (part : List ℕ) → part ≡ lookupOf sheet n → length part / 4 ≤ mostWords
   part-short part e =
       let l : length (wordsIn (length part / 4) part) ≡ length part / 4 = words-length (length part / 4) part in
       let w = ap length (part-words part e ∙ name-list) in
@@ -77,21 +80,21 @@ module _ (sheet n : List ℕ) (ok : sheetFault sheet ≡ 0) (bytes : Bytes sheet
       omega arith
 
 -- which leaf a code word of that kind stands for
-pub leaf-name : (text : List ℕ) (w : ℕ) → w % 16 ≡ 2 → leafOf text w ≡ name (nameAt text (w / 256) (w / 16 % 16))
+pub leaf-name : (text : List ℕ) (w : ℕ) → w % 16 ≡ kinds.NAME → leafOf text w ≡ name (nameAt text (w / 256) (w / 16 % 16))
 unfolding leafOf
-leaf-name text w e = rw (eq-eqb (w % 16) 2 e)
+leaf-name text w e = rw (eq-eqb (w % 16) kinds.NAME e)
 
-pub leaf-up : (text : List ℕ) (w : ℕ) → w % 16 ≡ 1 → leafOf text w ≡ up
+pub leaf-up : (text : List ℕ) (w : ℕ) → w % 16 ≡ kinds.UP → leafOf text w ≡ up
 unfolding leafOf
 leaf-up text w e = rw e
 
-pub leaf-down : (text : List ℕ) (w : ℕ) → (w % 16 ≡ 2 → ⊥) → (w % 16 ≡ 1 → ⊥) → leafOf text w ≡ down
+pub leaf-down : (text : List ℕ) (w : ℕ) → (w % 16 ≡ kinds.NAME → ⊥) → (w % 16 ≡ kinds.UP → ⊥) → leafOf text w ≡ down
 unfolding leafOf
-leaf-down text w a b = rw (ne-eqb (w % 16) 2 a, ne-eqb (w % 16) 1 b)
+leaf-down text w a b = rw (ne-eqb (w % 16) kinds.NAME a, ne-eqb (w % 16) kinds.UP b)
 
 -- the cases of loading
 pub loaded-name : (sheet text : List ℕ) (w : ℕ) (old work part name-bytes : List ℕ) (at count : ℕ) → sheetFault sheet ≡ 0 → Bytes sheet
-    → leafKnown sheet (leafOf text w) → w % 16 ≡ 2
+    → leafKnown sheet (leafOf text w) → w % 16 ≡ kinds.NAME
     → name-bytes ≡ nameAt text (w / 256) (w / 16 % 16) → part ≡ lookupOf sheet name-bytes
     → count ≡ length part / 4 → work ≡ paste old at (wordsIn (length part / 4) part) count → Loaded sheet (leafOf text w) old work at count
 loaded-name sheet text w old work part nb at count ok bytes known e en ep ec ew =
@@ -102,20 +105,23 @@ loaded-name sheet text w old work part nb at count ok bytes known e en ep ec ew 
     (record { count-is = ec ∙ sym (words-length (length part / 4) part) ∙ ap length x; work-is = rw (← x) ew })
 
 pub name-fits : (sheet text : List ℕ) (w : ℕ) (part name-bytes : List ℕ) → sheetFault sheet ≡ 0 → Bytes sheet → leafKnown sheet
-    (leafOf text w) → w % 16 ≡ 2
-    → name-bytes ≡ nameAt text (w / 256) (w / 16 % 16) → part ≡ lookupOf sheet name-bytes → length part / 4 ≤ 256
+    (leafOf text w) → w % 16 ≡ kinds.NAME
+    → name-bytes ≡ nameAt text (w / 256) (w / 16 % 16) → part ≡ lookupOf sheet name-bytes → length part / 4 ≤ mostWords
 name-fits sheet text w part nb ok bytes known e en ep =
     part-short sheet (nameAt text (w / 256) (w / 16 % 16)) ok bytes (rw (leaf-name text w e) at known) part (rw en at ep)
 
-pub loaded-up : (sheet text : List ℕ) (w : ℕ) (old work : List ℕ) (at : ℕ) → w % 16 ≡ 1 → work ≡ paste old at (1 ∷ []) 1 → Loaded sheet
-    (leafOf text w) old work at 1
-loaded-up sheet text w old work at e ew =
-    rw (leaf-up text w e) (record { count-is = rw (up-list sheet); work-is = rw (up-list sheet) ew })
+constant-is : (sheet text : List ℕ) (w : ℕ) → (w % 16 ≡ kinds.NAME → ⊥) → exactOn sheet (leaf (leafOf text w)) ≡ constantOf w ∷ []
+unfolding leafOf constantOf
+constant-is sheet text w x = rw (ne-eqb (w % 16) kinds.NAME x) (go (eqb (w % 16) kinds.UP))
+  where
+    go : (b : Bool) → exactOn sheet (leaf (cond b up down)) ≡ cond b 1 0 ∷ []
+    go true = up-list sheet
+    go false = down-list sheet
 
-pub loaded-down : (sheet text : List ℕ) (w : ℕ) (old work : List ℕ) (at : ℕ) → (w % 16 ≡ 2 → ⊥) → (w % 16 ≡ 1 → ⊥) → work ≡ paste old at
-    (0 ∷ []) 1 → Loaded sheet (leafOf text w) old work at 1
-loaded-down sheet text w old work at a b ew =
-    rw (leaf-down text w a b) (record { count-is = rw (down-list sheet); work-is = rw (down-list sheet) ew })
+pub loaded-constant : (sheet text : List ℕ) (w : ℕ) (old work : List ℕ) (at word : ℕ) → (w % 16 ≡ kinds.NAME → ⊥) → word ≡ constantOf w
+    → work ≡ paste old at (word ∷ []) 1 → Loaded sheet (leafOf text w) old work at 1
+loaded-constant sheet text w old work at word x e ew =
+    record { count-is = rw (constant-is sheet text w x); work-is = rw (constant-is sheet text w x, ← e) ew }
 
 -- names and constants never meet 5 or 6
 bytes-take : (n : ℕ) (l : List ℕ) → Bytes l → Bytes (take n l)
@@ -137,9 +143,9 @@ unfolding changesAfterM
 on-time [] h = refl
 on-time (w ∷ ws) h = rw (le-ltb M (dateOf w) (date-le w (h 0)), on-time ws (λ i. h (suc i)))
 
-no-part-fault : (l : List ℕ) → length l ≤ 256 → changesAfterM l ≡ false → partFault l ≡ 0
+no-part-fault : (l : List ℕ) → length l ≤ mostWords → changesAfterM l ≡ false → partFault l ≡ 0
 unfolding partFault
-no-part-fault l h e = rw (le-ltb 256 (length l) h, e)
+no-part-fault l h e = rw (le-ltb mostWords (length l) h, e)
 
 pub leaf-fault : (sheet : List ℕ) (l : Leaf) → sheetFault sheet ≡ 0 → Bytes sheet → leafKnown sheet l → partFault
     (exactOn sheet (leaf l)) ≡ 0

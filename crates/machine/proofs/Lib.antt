@@ -6,7 +6,6 @@ pub mod PartCodes
 pub mod Leaves
 pub mod Applying
 pub mod Stepping
-pub mod Dispatch
 pub mod Looping
 pub mod Preparing
 pub mod Calling

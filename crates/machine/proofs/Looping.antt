@@ -17,6 +17,7 @@ use Rattle.grammar.specs.Parts.{parts}
 use Rattle.format.specs.Reading.{sheetFault}
 use Rattle.calls.specs.OnSheet.{exactOn}
 use Rattle.calls.specs.Calls.{partsFault}
+use Rattle.signals.specs.Words.{mostWords}
 use Rattle.operations.specs.Calls.{partFault}
 use Rattle.machine.specs.declared.Next.{Next}
 use Rattle.machine.specs.Machine.{InSlot, Stacked, Enough, AllKnown, Stepped, Steps, Ready, worked, trace, partsIn, Plan}
@@ -64,7 +65,7 @@ pub record Going (sheet text codes : List ℕ) (n : ℕ) (t : Tree) (before work
   pub faults : partsFault sheet (parts t) ≡ partsFault sheet (trace (rest text codes n i) stack)
   pub known : AllKnown sheet (rest text codes n i)
   pub low : height ≤ i
-  pub kept : take (256 * base) work′ ≡ take (256 * base) before
+  pub kept : take (mostWords * base) work′ ≡ take (mostWords * base) before
 
 pub start : (sheet text codes : List ℕ) (n : ℕ) (before counts : List ℕ) (base : ℕ) (p : Plan sheet text codes n) → Going sheet text codes n
     (p .tree) before before counts base 0 0

@@ -1,5 +1,5 @@
 -- Reading a formula for a sheet: its code words, its names on the sheet, its lengths.
-use Prim.Native.Nat.{ℕ, _+_, _/_, _%_, _≤_, _<_}
+use Prim.Native.Nat.{ℕ, zero, suc, _+_, _/_, _%_, _≤_, _<_}
 use native.Mathlib.Decide.{ℕ-discrete}
 use native.Mathlib.Omega.{arith}
 use mathlib.Core.Path.{_≡_, refl, sym, _∙_, ap}
@@ -8,12 +8,13 @@ use mathlib.Core.List.{List, [], _∷_, _++_, map}
 use lib.Dec.{eqb, ltb}
 use lib.ListN.{length, drop, getD, length-map}
 use lib.Seq.{take-at}
-use borrow.Author.Tests.{ltb-true, ltb-false}
+use borrow.Author.Tests.{ltb-false}
 use Rattle.signals.specs.Moment.{M}
 use Rattle.signals.specs.Answers.{writtenOf}
 use Rattle.signals.specs.declared.Written.{Written}
 use Rattle.signals.specs.declared.Written.the-variants.{Count, Refused}
 use Rattle.signals.proofs.Truth.{and-left, and-right}
+use Rattle.grammar.specs.Kinds as kinds
 use Rattle.grammar.specs.Tree.{Tree, Leaf, Unary, Binary, leaf, unary, binary, down, up, name}
 use Rattle.grammar.specs.Code.{Part, operand, one, two, code, longest, ticksOf}
 use Rattle.grammar.specs.Formula.{partOf, codeOf, codeAfter, formulaFault, formulaTree, longestOf, partsOf, depthOf, accepted, nameAt}
@@ -31,9 +32,10 @@ use Rattle.calls.specs.Calls.{readingFault}
 use Rattle.calls.proofs.FirstFault.{passed}
 use Rattle.calls.proofs.ReadingFaults.{derived}
 use Rattle.format.proofs.SheetLists.{Sound, AllSound, sheet-sound}
+use Rattle.applying.specs.CodeWords.{operandsOf}
 use Rattle.machine.specs.Machine.{leafOf, AllKnown, partsIn, partFound, allFound, Prepared}
 use Rattle.machine.proofs.Leaves.{leaf-name, leaf-up, leaf-down}
-use Rattle.machine.proofs.PartCodes.{part-leaf-low, part-leaf-high, part-unary, part-binary}
+use Rattle.machine.proofs.PartCodes.{part-leaf, part-one, part-two, name-none, arity-small}
 use Rattle.machine.proofs.Stepping.{counted, refused-by}
 use Rattle.machine.proofs.Looping.{rest, rest-next, rest-none}
 use Rattle.signals.specs.Answers.{firstOf}
@@ -148,30 +150,24 @@ module _ (text : List ℕ) (fine : formulaFault text ≡ 0) where
       ) code-is
 
 -- one code word's name
-pub found-name : (sheet text : List ℕ) (w : ℕ) (n : List ℕ) (fault : ℕ) → sheetFault sheet ≡ 0 → w % 16 ≡ 2 → n ≡ nameAt text (w / 256)
+pub found-name : (sheet text : List ℕ) (w : ℕ) (n : List ℕ) (fault : ℕ) → sheetFault sheet ≡ 0 → w % 16 ≡ kinds.NAME → n ≡ nameAt text (w / 256)
     (w / 16 % 16) → fault ≡ lookupFault sheet n
     → eqb fault 0 ≡ partFound sheet (partOf text w)
 found-name sheet text w n fault ok e en ef =
-    rw (part-leaf-low text w (omega arith), leaf-name text w e, ef, en) (looked sheet (nameAt text (w / 256) (w / 16 % 16)) ok)
+    rw (part-leaf text w (name-none (w % 16) e), leaf-name text w e, ef, en) (looked sheet (nameAt text (w / 256) (w / 16 % 16)) ok)
 
-pub found-other : (sheet text : List ℕ) (w : ℕ) → (w % 16 ≡ 2 → ⊥) → true ≡ partFound sheet (partOf text w)
-found-other sheet text w ne = low (ltb (w % 16) 3) refl
+pub found-other : (sheet text : List ℕ) (w : ℕ) → (w % 16 ≡ kinds.NAME → ⊥) → true ≡ partFound sheet (partOf text w)
+found-other sheet text w ne = go (operandsOf w) refl (arity-small (w % 16))
   where
-    leafy : true ≡ leafFound sheet (leafOf text w)
-    leafy = one-or-not (ℕ-discrete (w % 16) 1)
-      where
-        one-or-not : Dec (w % 16 ≡ 1) → true ≡ leafFound sheet (leafOf text w)
-        one-or-not (yes e) = rw (leaf-up text w e)
-        one-or-not (no x) = rw (leaf-down text w ne x)
+    leafy : Dec (w % 16 ≡ kinds.UP) → true ≡ leafFound sheet (leafOf text w)
+    leafy (yes e) = rw (leaf-up text w e)
+    leafy (no x) = rw (leaf-down text w ne x)
 
-    high : 3 ≤ w % 16 → (b : Bool) → ltb (w % 16) 12 ≡ b → (c : Bool) → ltb (w % 16) 8 ≡ c → true ≡ partFound sheet (partOf text w)
-    high l true p true q = rw (part-unary text w l (ltb-true (w % 16) 8 q))
-    high l true p false q = rw (part-binary text w (ltb-false (w % 16) 8 q) (ltb-true (w % 16) 12 p))
-    high l false p c q = rw (part-leaf-high text w l (ltb-false (w % 16) 12 p)) leafy
-
-    low : (b : Bool) → ltb (w % 16) 3 ≡ b → true ≡ partFound sheet (partOf text w)
-    low true p = rw (part-leaf-low text w (ltb-true (w % 16) 3 p)) leafy
-    low false p = high (ltb-false (w % 16) 3 p) (ltb (w % 16) 12) refl (ltb (w % 16) 8) refl
+    go : (k : ℕ) → operandsOf w ≡ k → k ≤ 2 → true ≡ partFound sheet (partOf text w)
+    go zero e h = rw (part-leaf text w e) (leafy (ℕ-discrete (w % 16) kinds.UP))
+    go (suc zero) e h = rw (part-one text w e)
+    go (suc (suc zero)) e h = rw (part-two text w e)
+    go (suc (suc (suc k))) e h = absurd (omega arith)
 
 -- the loop over all of them
 pub all-of : (sheet text codes : List ℕ) (n : ℕ) → allFound sheet (partsIn text codes n) ≡ allFound sheet (rest text codes n 0)

@@ -5,7 +5,7 @@ use mathlib.Core.Path.{_≡_, refl, sym, _∙_, ap}
 use mathlib.Core.List.{List, [], _∷_, _++_, append-assoc}
 use lib.ListN.{length, take, drop, getD, set, take-append-drop}
 use lib.Seq.{paste, take-append-le, drop-append-le, take-at, drop-at, length-take-le, getD-set-same, getD-set-other}
-use Rattle.signals.specs.Words.{listFault}
+use Rattle.signals.specs.Words.{mostWords, listFault}
 use Rattle.grammar.specs.Tree.{Tree}
 use Rattle.signals.proofs.Normal.{accepted-normal}
 use Rattle.calls.specs.OnSheet.{exactOn}
@@ -36,19 +36,19 @@ here d s at n hd hs =
     (take-at (take n s) (drop (at + n) d) n (length-take-le n s hs))
 
 -- an accepted list is short
-pub short : (l : List ℕ) → listFault l ≡ 0 → length l ≤ 256
+pub short : (l : List ℕ) → listFault l ≡ 0 → length l ≤ mostWords
 short l h = accepted-normal l .0 h .1
 
 -- the slots below the one that a list is put into
-pub keep-slots : (sheet work words counts : List ℕ) (base h n c : ℕ) (st : List Tree) → length st ≤ h → 256 * (base + h) ≤ length work
-    → Stacked sheet work counts base st → Stacked sheet (paste work (256 * (base + h)) words n) (set counts h c) base st
+pub keep-slots : (sheet work words counts : List ℕ) (base h n c : ℕ) (st : List Tree) → length st ≤ h → mostWords * (base + h) ≤ length work
+    → Stacked sheet work counts base st → Stacked sheet (paste work (mostWords * (base + h)) words n) (set counts h c) base st
 keep-slots sheet work words counts base h n c [] le room s = tt
 keep-slots sheet work words counts base h n c (t ∷ st) le room s =
     let k = short (exactOn sheet t) (s .0 .accepted) in
     let g : getD (set counts h c) (length st) 0 ≡ getD counts (length st) 0 = getD-set-other counts h (length st) c 0 (omega arith) in (
       record {
         long = g ∙ s .0 .long;
-        stands = rw g (below work words (256 * (base + h)) n (256 * (base + length st)) (getD counts (length st) 0) room
+        stands = rw g (below work words (mostWords * (base + h)) n (mostWords * (base + length st)) (getD counts (length st) 0) room
             (omega (arith, s .0 .long)) ∙ s .0 .stands);
         accepted = s .0 .accepted;
       },
@@ -56,16 +56,16 @@ keep-slots sheet work words counts base h n c (t ∷ st) le room s =
     )
 
 -- the list of a tree put on top of the stack, at its height
-pub push-slot : (sheet work words counts : List ℕ) (base c : ℕ) (t : Tree) (st : List Tree) → c ≡ length (exactOn sheet t) → 256 *
+pub push-slot : (sheet work words counts : List ℕ) (base c : ℕ) (t : Tree) (st : List Tree) → c ≡ length (exactOn sheet t) → mostWords *
     (base + length st) ≤ length work
     → take c words ≡ exactOn sheet t → c ≤ length words → listFault (exactOn sheet t) ≡ 0 → length st < length counts
     → Stacked sheet work counts base st
-    → Stacked sheet (paste work (256 * (base + length st)) words c) (set counts (length st) c) base (t ∷ st)
+    → Stacked sheet (paste work (mostWords * (base + length st)) words c) (set counts (length st) c) base (t ∷ st)
 push-slot sheet work words counts base c t st ec room e enough ok hc s =
     let g : getD (set counts (length st) c) (length st) 0 ≡ c = getD-set-same counts (length st) c 0 hc in (
       record {
         long = g ∙ ec;
-        stands = rw g (here work words (256 * (base + length st)) c room enough ∙ e);
+        stands = rw g (here work words (mostWords * (base + length st)) c room enough ∙ e);
         accepted = ok;
       },
       keep-slots sheet work words counts base (length st) c c st (omega arith) room s,

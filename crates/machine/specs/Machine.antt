@@ -8,48 +8,27 @@ use lib.ListN.{length, take, drop, getD, set}
 use lib.Seq.{paste}
 use Rattle.signals.specs.Answers.{writtenOf, verdictFor}
 use Rattle.signals.specs.declared.Written.{Written}
-use Rattle.signals.specs.declared.Written.the-variants as written
 use Rattle.signals.specs.declared.Verdict.{Verdict}
 use Rattle.signals.specs.Moment.{M}
-use Rattle.signals.specs.Signal.{Table, tableOf, NOT, rising, falling, SR, RS, TON, TOF, connective}
-use Rattle.signals.specs.Words.{listFault}
-use Rattle.operations.specs.Calls.{exactOfOne, exactOfTwo, exactOfDelay}
-use Rattle.building.specs.Slots.{builtAnswer}
-use Rattle.building.specs.declared.SlotAnswer.{SlotAnswer}
-use Rattle.building.specs.declared.SlotAnswer.the-variants.{Stands, TooLong, TooLate, NotBegun}
-use Rattle.grammar.specs.Tree.{Tree, Leaf, Unary, Binary, leaf, unary, binary, down, up, name, invert, rise, fall, ton, tof, and, or, sr}
-use Rattle.grammar.specs.Tree.{rs}
+use Rattle.signals.specs.Words.{mostWords, listFault}
+use Rattle.grammar.specs.Kinds as kinds
+use Rattle.grammar.specs.Tree.{Tree, Leaf, leaf, unary, binary, down, up, name}
 use Rattle.grammar.specs.Code.{Part, operand, one, two, ticksOf, top, code}
 use Rattle.grammar.specs.Formula.{nameAt, partOf, codeOf, formulaTree}
 use Rattle.names.specs.Names.{wellNamed}
 use Rattle.format.specs.Names.{among}
 use Rattle.format.specs.Reading.{signalsOn, names}
 use Rattle.calls.specs.OnSheet.{exactOn, leafFound}
-use Rattle.calls.specs.Calls.{partsFault, readingFault, workFault, workingFault, wordsOn, claimFails}
+use Rattle.calls.specs.Calls.{workWords, partsFault, readingFault, workFault, workingFault, wordsOn, claimFails}
 use Rattle.grammar.specs.Parts.{parts}
 use Rattle.operations.specs.Calls.{roomFault, partFault}
 use Rattle.machine.specs.declared.Next.{Next}
 use Rattle.signals.specs.Answers.{firstOf}
 
--- the words of a slot, as many as a list can have, and those of a work area that is long enough
-abbrev pub listWords : ℕ
-listWords = 256
-
-abbrev pub workWords : ℕ
-workWords = 8192
-
--- the part that a code word stands for, by its kind in the low four bits: an operand below 3 and from 12 on, of one operand from 3 to 7,
--- of two from 8 to 11
+-- the leaf that a code word stands for, by its kind
 unfoldable pub leafOf : List ℕ → ℕ → Leaf
 leafOf text w =
-    cond (eqb (w % 16) 2) (name (nameAt text (w / 256) (w / 16 % 16))) (cond (eqb (w % 16) 1) up down)
-
-unfoldable pub unaryOf : ℕ → ℕ → Unary
-unaryOf kind n =
-    cond (eqb kind 3) invert (cond (eqb kind 4) rise (cond (eqb kind 5) fall (cond (eqb kind 6) (ton n) (tof n))))
-
-unfoldable pub binaryOf : ℕ → Binary
-binaryOf kind = cond (eqb kind 8) and (cond (eqb kind 9) or (cond (eqb kind 10) sr rs))
+    cond (eqb (w % 16) kinds.NAME) (name (nameAt text (w / 256) (w / 16 % 16))) (cond (eqb (w % 16) kinds.UP) up down)
 
 -- one part worked out
 abbrev pub worked : Part → List Tree → List Tree
@@ -83,7 +62,7 @@ Known sheet (two o) = Unit {0}
 -- the list stands at the front of a slot
 pub record InSlot (work : List ℕ) (slot count : ℕ) (l : List ℕ) : Type 0 where
   pub long : count ≡ length l
-  pub stands : take count (drop (listWords * slot) work) ≡ l
+  pub stands : take count (drop (mostWords * slot) work) ≡ l
   pub accepted : listFault l ≡ 0
 
 -- the stack's lists stand in the slots from base on, the last one topmost
@@ -96,30 +75,10 @@ Stacked sheet work counts base (t ∷ st) =
 pub record Stepped (sheet before work counts : List ℕ) (base : ℕ) (p : Part) (st : List Tree) (next : Next) : Type 0 where
   pub fault-is : next .fault ≡ partFault (exactOn sheet (top (worked p st)))
   pub height-is : next .fault ≡ 0 → next .height ≡ length (worked p st)
-  pub small : next .count ≤ listWords
+  pub small : next .count ≤ mostWords
   -- the slots below base are as they were
-  pub kept : take (listWords * base) work ≡ take (listWords * base) before
+  pub kept : take (mostWords * base) work ≡ take (mostWords * base) before
   pub stacked : next .fault ≡ 0 → Stacked sheet work (set counts (next .height - 1) (next .count)) base (worked p st)
-
--- the exact answers of the operators, from their operands' lists
-abbrev pub unaryExact : Unary → List ℕ → List ℕ
-unaryExact invert l = exactOfOne NOT l
-unaryExact rise l = exactOfOne rising l
-unaryExact fall l = exactOfOne falling l
-unaryExact (ton d) l = exactOfDelay (TON d) d l
-unaryExact (tof d) l = exactOfDelay (TOF d) d l
-
-abbrev pub AND-table : Table
-AND-table = tableOf _&&_
-
-abbrev pub OR-table : Table
-OR-table = (false ∷ true ∷ []) ∷ (true ∷ true ∷ []) ∷ []
-
-abbrev pub binaryExact : Binary → List ℕ → List ℕ → List ℕ
-binaryExact and l m = exactOfTwo (connective AND-table) l m
-binaryExact or l m = exactOfTwo (connective OR-table) l m
-binaryExact sr l m = exactOfTwo SR l m
-binaryExact rs l m = exactOfTwo RS l m
 
 -- the trees that parts make, one after the other
 unfoldable pub trace : List Part → List Tree → List Tree
@@ -136,18 +95,6 @@ pub record Loaded (sheet : List ℕ) (l : Leaf) (old work : List ℕ) (at count 
   pub count-is : count ≡ length (exactOn sheet (leaf l))
   pub work-is : work ≡ paste old at (exactOn sheet (leaf l)) count
 
--- an operation's answer in a buffer of 256 words or more
-pub record Given (exact buffer : List ℕ) (answer : SlotAnswer) : Type 0 where
-  pub answer-is : answer ≡ builtAnswer exact
-  pub stands : partFault exact ≡ 0 → take (length exact) buffer ≡ exact
-
--- document 01's number for each case of it: 5 or 6, or the word count; one that did not begin, which is not met, passes for no answer
-abbrev pub partAnswer : SlotAnswer → Written
-partAnswer (Stands n) = written.Count n
-partAnswer TooLong = written.Refused 5
-partAnswer TooLate = written.Refused 6
-partAnswer NotBegun = written.Refused 5
-
 -- what a step may rely on: the stack that the slots hold, with the part's operands
 pub record Ready (sheet work counts : List ℕ) (base height : ℕ) (p : Part) : Type 0 where
   pub stack : List Tree
@@ -160,7 +107,7 @@ pub record Room (work buffer counts : List ℕ) (base height : ℕ) : Type 0 whe
   pub low : base ≤ 1
   pub few : height ≤ 16
   pub slots : workWords ≤ length work
-  pub wide : listWords ≤ length buffer
+  pub wide : mostWords ≤ length buffer
   pub counted : 32 ≤ length counts
 
 -- the step's promise, for every such stack
@@ -183,7 +130,7 @@ pub record Plan (sheet text codes : List ℕ) (n : ℕ) : Type 0 where
 pub record WorkedOut (sheet before after : List ℕ) (base : ℕ) (t : Tree) (answer : Written) : Type 0 where
   pub answer-is : answer ≡ writtenOf (partsFault sheet (parts t)) (exactOn sheet t)
   pub stands : partsFault sheet (parts t) ≡ 0 → InSlot after base (length (exactOn sheet t)) (exactOn sheet t)
-  pub kept : take (listWords * base) after ≡ take (listWords * base) before
+  pub kept : take (mostWords * base) after ≡ take (mostWords * base) before
 
 -- the sheet has the names of the parts
 abbrev pub partFound : List ℕ → Part → Bool

@@ -23,3 +23,6 @@ pub const OR: u64 = 9;
 pub const SR: u64 = 10;
 
 pub const RS: u64 = 11;
+
+// How many kinds there are.
+pub const KINDS: u64 = 12;

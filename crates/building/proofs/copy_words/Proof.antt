@@ -1,19 +1,20 @@
--- `operations::copy_words` meets its contract: after i turns the first i words are the slot's and the rest is as it was.
+-- `building::copy_words` meets its contract: after i turns the first i words are there and the rest is as it was.
 use borrow.Author.Needs.{needs}
 use Prim.Native.Nat.{_≤_, _<_, _-_}
 use native.Mathlib.Omega.{arith}
-use mathlib.Core.Path.{_≡_, refl, sym, _∙_, ap}
+use mathlib.Core.Path.{_≡_, refl}
 use mathlib.Core.List.{_++_}
 use lib.ListN.{length, take, drop, length-set}
+use lib.Seq.{take-length}
 use Rattle.building.proofs.Delivering.{copy-next}
 use Rattle.building.proofs.copy_words.Statement.{statement}
 use Rattle.building.proofs.copy_words.Tie as tie
 
 abbrev Inv-loop : tie.InvT-loop
-Inv-loop slot count out₀ i₀ out i = (i ≤ count) × (length out ≡ length out₀) × (out ≡ take i slot ++ drop i out₀)
+Inv-loop words out₀ i₀ out i = (i ≤ length words) × (length out ≡ length out₀) × (out ≡ take i words ++ drop i out₀)
 
 abbrev μ-loop : tie.MeasureT-loop
-μ-loop slot count out₀ i₀ out i = count - i
+μ-loop words out₀ i₀ out i = length words - i
 
 loop-holds : tie.Need-loop-holds Inv-loop μ-loop
 loop-holds c = (omega arith, refl, refl)
@@ -51,7 +52,9 @@ same-length : tie.Need-same-length Inv-loop μ-loop
 same-length c = c .before .loop .inv .1
 
 returns : tie.Need-returns Inv-loop μ-loop
-returns c = let e : c .before .loop .i ≡ c .before .before .args .count = omega arith in rw e at (c .before .loop .inv .2)
+returns c =
+    let e : c .before .loop .i ≡ length (c .before .before .args .words .now) = omega arith in
+    rw take-length at (rw e at (c .before .loop .inv .2))
 
 pub copy-words-spec : {M : Type 1} → statement M
 copy-words-spec =

@@ -4,18 +4,18 @@ use borrow.Author.Needs.{needs}
 use Rattle.evaluation.proofs.found.Statement.{statement}
 use Rattle.evaluation.proofs.found.Tie as tie
 
-name-of-requires : tie.Need-name-of-requires
-name-of-requires c κs = search needs
+name-in-requires : tie.Need-name-in-requires
+name-in-requires c κs = search needs
 
 lookup-fault-requires : tie.Need-lookup-fault-requires
 lookup-fault-requires c κs = search needs
 
 returns : tie.Need-returns
 returns c = found-name _ _ _ _ _ (c .before .before .before .before .before .pre) (c .before .before .if1 .taken)
-    (c .before .name-of .ensures) (c .lookup-fault .ensures)
+    (c .before .name-in .ensures) (c .lookup-fault .ensures)
 
 returns-2 : tie.Need-returns-2
 returns-2 c = found-other _ _ _ (c .if1 .left)
 
 pub found-spec : {M : Type 1} → statement M
-found-spec = tie.close (tie.spec name-of-requires lookup-fault-requires returns returns-2)
+found-spec = tie.close (tie.spec name-in-requires lookup-fault-requires returns returns-2)

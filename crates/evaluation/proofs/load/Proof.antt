@@ -1,12 +1,12 @@
 -- `evaluation::load` meets its contract: by the kind, a name's list from the sheet or a constant's.
 use native.Mathlib.Omega.{arith}
-use Rattle.machine.proofs.Leaves.{loaded-name, name-fits, loaded-up, loaded-down}
+use Rattle.machine.proofs.Leaves.{loaded-name, name-fits, loaded-constant}
 use borrow.Author.Needs.{needs}
 use Rattle.evaluation.proofs.load.Statement.{statement}
 use Rattle.evaluation.proofs.load.Tie as tie
 
-name-of-requires : tie.Need-name-of-requires
-name-of-requires c κs = search needs
+name-in-requires : tie.Need-name-in-requires
+name-in-requires c κs = search needs
 
 lookup-requires : tie.Need-lookup-requires
 lookup-requires c κs = search needs
@@ -16,7 +16,7 @@ put-part-requires c κs = let s = name-fits (c .before .before .before .before .
     (c .before .before .before .before .before .before .before .pre .1 .0)
     (λ i. c .before .before .before .before .before .before .shared-slice-known .given i .fits)
     (c .before .before .before .before .before .before .before .pre .1 .1) (c .before .before .before .if1 .taken)
-    (c .before .before .name-of .ensures) (c .before .lookup .ensures .0) in omega
+    (c .before .before .name-in .ensures) (c .before .lookup .ensures .0) in omega
     (arith, c .before .before .before .before .before .before .before .pre .0)
 
 same-length : tie.Need-same-length
@@ -29,9 +29,12 @@ returns c = loaded-name (c .before .before .before .before .before .before .befo
     (c .before .before .before .before .before .before .before .before .before .before .pre .1 .0)
     (λ i. c .before .before .before .before .before .before .before .before .before .shared-slice-known .given i .fits)
     (c .before .before .before .before .before .before .before .before .before .before .pre .1 .1)
-    (c .before .before .before .before .before .before .if1 .taken) (c .before .before .before .before .before .name-of .ensures)
+    (c .before .before .before .before .before .before .if1 .taken) (c .before .before .before .before .before .name-in .ensures)
     (c .before .before .before .before .lookup .ensures .0) (c .before .before .put-part .ensures .0)
     (c .before .before .put-part .ensures .1)
+
+constant-requires : tie.Need-constant-requires
+constant-requires c κs = search needs
 
 put-word-requires : tie.Need-put-word-requires
 put-word-requires c κs = search needs
@@ -40,34 +43,21 @@ same-length-2 : tie.Need-same-length-2
 same-length-2 c = search needs
 
 returns-2 : tie.Need-returns-2
-returns-2 c = loaded-up _ _ _ (c .before .before .before .before .before .before .before .before .before .args .work .now) _
-    (c .before .before .before .before .before .before .before .before .before .args .at) (c .before .before .before .before .if2 .taken)
-    (c .before .before .put-word .ensures)
-
-put-word-requires-2 : tie.Need-put-word-requires-2
-put-word-requires-2 c κs = search needs
-
-same-length-3 : tie.Need-same-length-3
-same-length-3 c = search needs
-
-returns-3 : tie.Need-returns-3
-returns-3 c = loaded-down _ _ _ (c .before .before .before .before .before .before .before .before .before .args .work .now) _
-    (c .before .before .before .before .before .before .before .before .before .args .at)
-    (c .before .before .before .before .before .if1 .left) (c .before .before .before .before .if2 .left)
-    (c .before .before .put-word2 .ensures)
+returns-2 c =
+    let start = c .before .before .before .before .before .before .before .before .before in
+    loaded-constant _ _ _ (start .args .work .now) _ (start .args .at) _ (c .before .before .before .before .before .if1 .left)
+    (c .before .before .before .constant .ensures) (c .before .before .put-word .ensures)
 
 pub load-spec : {M : Type 1} → statement M
 load-spec =
     tie.close
     (tie.spec
-    name-of-requires
+    name-in-requires
     lookup-requires
     put-part-requires
     same-length
     returns
+    constant-requires
     put-word-requires
     same-length-2
-    returns-2
-    put-word-requires-2
-    same-length-3
-    returns-3)
+    returns-2)

@@ -26,11 +26,11 @@ loop-holds c = (
       (wordsIn (length (c .before .before .args .part .now) / 4) (c .before .before .args .part .now)),
 )
 
-mul-word-at : tie.Need-mul-word-at Inv-loop μ-loop
-mul-word-at c = search needs
+mul-read32 : tie.Need-mul-read32 Inv-loop μ-loop
+mul-read32 c = search needs
 
-word-at-requires : tie.Need-word-at-requires Inv-loop μ-loop
-word-at-requires c κs = search needs
+read32-requires : tie.Need-read32-requires Inv-loop μ-loop
+read32-requires c κs = search needs
 
 add-work : tie.Need-add-work Inv-loop μ-loop
 add-work c = search needs
@@ -47,11 +47,11 @@ add-i c = search needs
 loop-less : tie.Need-loop-less Inv-loop μ-loop
 loop-less c = search needs
 
-in-work : (c : tie.After-word-at Inv-loop μ-loop) → c .before .before .before .before .before .args .at + c .before .before .loop .i <
+in-work : (c : tie.After-read32 Inv-loop μ-loop) → c .before .before .before .before .before .args .at + c .before .before .loop .i <
     length (c .before .before .before .before .before .args .work .now)
 in-work c = omega arith
 
-in-part : (c : tie.After-word-at Inv-loop μ-loop) → c .before .before .loop .i < length
+in-part : (c : tie.After-read32 Inv-loop μ-loop) → c .before .before .loop .i < length
     (c .before .before .before .before .before .args .part .now) / 4
 in-part c = omega arith
 
@@ -62,7 +62,7 @@ loop-again c =
       refl,
       omega arith,
       simp length-set (here .inv .2),
-      put-word (args .work .now) (args .part .now) (here .work) (args .at) (here .i) _ (here .inv .3) (c .word-at .ensures) (in-work c)
+      put-word (args .work .now) (args .part .now) (here .work) (args .at) (here .i) _ (here .inv .3) (c .read32 .ensures) (in-work c)
           (in-part c),
     )
 
@@ -81,8 +81,8 @@ put-part-spec =
     Inv-loop
     μ-loop
     loop-holds
-    mul-word-at
-    word-at-requires
+    mul-read32
+    read32-requires
     add-work
     mul-work
     slice-write-work

@@ -1,5 +1,7 @@
 -- `evaluation::run_formula` meets its contract: the formula is worked out, and its words are handed over.
 use native.Mathlib.Omega.{arith}
+use mathlib.Core.Path.{sym}
+use lib.Seq.{length-take-le}
 use Rattle.machine.proofs.Calling.{run-refused, run-fits, run-counted}
 use borrow.Author.Needs.{needs}
 use Rattle.evaluation.proofs.run_formula.Statement.{statement}
@@ -11,18 +13,18 @@ work-out-requires c κs = search needs
 enum-known-answer : tie.Need-enum-known-answer
 enum-known-answer c = search needs
 
+slice-reshare-prefix-hand-over : tie.Need-slice-reshare-prefix-hand-over
+slice-reshare-prefix-hand-over c =
+    let out = c .before .before .before .before .before in
+    let start = out .before .before .before .before .before .before .before in
+    run-fits (start .args .sheet .now) (start .args .text .now) (start .args .work .now) _ _ (out .work-out .ensures _ (start .pre .2 .parts-are))
+    _ (c .before .answer .given .1) (omega (arith, start .pre .0, out .work-out .kept .1 .1 .1 .1 .0))
+
+slice-aggregate-hand-over : tie.Need-slice-aggregate-hand-over
+slice-aggregate-hand-over c = sym (length-take-le _ _ (slice-reshare-prefix-hand-over (c .before)))
+
 hand-over-requires : tie.Need-hand-over-requires
-hand-over-requires c κs = run-fits
-    (c .before .before .before .before .before .before .before .before .before .before .before .before .before .before .args .sheet .now)
-    (c .before .before .before .before .before .before .before .before .before .before .before .before .before .before .args .text .now)
-    (c .before .before .before .before .before .before .before .before .before .before .before .before .before .before .args .work .now) _ _
-    (c .before .before .before .before .before .before .before .work-out .ensures _
-    (c .before .before .before .before .before .before .before .before .before .before .before .before .before .before .pre .2 .parts-are))
-    _ (c .before .before .before .answer .given .1) (omega (
-      arith,
-      c .before .before .before .before .before .before .before .before .before .before .before .before .before .before .pre .0,
-      c .before .before .before .before .before .before .before .work-out .kept .1 .1 .1 .1 .0,
-    ))
+hand-over-requires c κs = search needs
 
 enum-known-answer-2 : tie.Need-enum-known-answer-2
 enum-known-answer-2 c = search needs
@@ -61,6 +63,8 @@ run-formula-spec =
     (tie.spec
     work-out-requires
     enum-known-answer
+    slice-reshare-prefix-hand-over
+    slice-aggregate-hand-over
     hand-over-requires
     enum-known-answer-2
     same-length

@@ -1,9 +1,9 @@
--- `machine::part_answer` gives the number of each case, or the word count.
+-- `applying::part_answer` gives the number of each case, or the word count.
 use mathlib.Core.Path.{sym, ap}
-use Rattle.machine.specs.Machine.{partAnswer}
+use Rattle.applying.specs.CodeWords.{partAnswer}
 use borrow.Author.Needs.{needs}
-use Rattle.machine.proofs.part_answer.Statement.{statement}
-use Rattle.machine.proofs.part_answer.Tie as tie
+use Rattle.applying.proofs.part_answer.Statement.{statement}
+use Rattle.applying.proofs.part_answer.Tie as tie
 
 enum-known-given : tie.Need-enum-known-given
 enum-known-given c = search needs

@@ -1,10 +1,10 @@
--- `evaluation::name_of` gives a part of the text, cut at its end.
+-- `applying::name_in` gives a part of the text, the name of a code word, cut at its end.
 use native.Mathlib.Nat.{add-sub-cancel-left}
 use mathlib.Core.Path.{refl}
-use Rattle.machine.proofs.Putting.{name-none, name-rest, name-whole}
+use Rattle.applying.proofs.CutNames.{name-none, name-rest, name-whole}
 use borrow.Author.Needs.{needs}
-use Rattle.evaluation.proofs.name_of.Statement.{statement}
-use Rattle.evaluation.proofs.name_of.Tie as tie
+use Rattle.applying.proofs.name_in.Statement.{statement}
+use Rattle.applying.proofs.name_in.Tie as tie
 
 slice-aggregate-result : tie.Need-slice-aggregate-result
 slice-aggregate-result c = search needs
@@ -40,10 +40,10 @@ part-result-end-2 : tie.Need-part-result-end-2
 part-result-end-2 c = search needs
 
 returns-3 : tie.Need-returns-3
-returns-3 c = name-whole _ _ _ _ (add-sub-cancel-left (c .before .before .before .args .place) (c .before .before .before .args .count))
+returns-3 c = name-whole _ _ _ _ (add-sub-cancel-left _ _)
 
-pub name-of-spec : {M : Type 1} → statement M
-name-of-spec =
+pub name-in-spec : {M : Type 1} → statement M
+name-in-spec =
     tie.close
     (tie.spec
     slice-aggregate-result

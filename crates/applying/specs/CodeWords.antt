@@ -1,0 +1,93 @@
+-- Mirrored: What a part's code word asks for, by its kind in the low four bits: its constant, the number of its operands, its operation on
+-- their lists in a lent slot, and document 01's number for what that gives.
+use Prim.Native.Nat.{ℕ, _/_, _%_}
+use mathlib.Core.Path.{_≡_}
+use mathlib.Core.Bool.{true, false, cond, _&&_}
+use mathlib.Core.List.{List, [], _∷_}
+use lib.Dec.{ltb, eqb}
+use lib.ListN.{length}
+use Rattle.signals.specs.Answers.{firstOf}
+use Rattle.signals.specs.declared.Written.{Written}
+use Rattle.signals.specs.declared.Written.the-variants as written
+use Rattle.signals.specs.Signal.{Table, tableOf, NOT, rising, falling, SR, RS, TON, TOF, connective}
+use Rattle.signals.specs.Words.{listFault, pairFault}
+use Rattle.operations.specs.Calls.{lengthFault, exactOfOne, exactOfTwo, exactOfDelay}
+use Rattle.building.specs.Slots.{slotAnswer, slotAfter}
+use Rattle.building.specs.declared.SlotAnswer.{SlotAnswer}
+use Rattle.building.specs.declared.SlotAnswer.the-variants.{Stands, TooLong, TooLate, NotBegun}
+use Rattle.grammar.specs.Kinds as kinds
+use Rattle.grammar.specs.Tree.{Unary, Binary, invert, rise, fall, ton, tof, and, or, sr, rs}
+
+-- the word of a constant's list
+unfoldable pub constantOf : ℕ → ℕ
+constantOf w = cond (eqb (w % 16) kinds.UP) 1 0
+
+-- how many operands a part of a kind takes: none below NOT and from KINDS on, one below AND, else two
+unfoldable pub arity : ℕ → ℕ
+arity kind = cond (ltb kind kinds.NOT) 0 (cond (ltb kind kinds.AND) 1 (cond (ltb kind kinds.KINDS) 2 0))
+
+abbrev pub operandsOf : ℕ → ℕ
+operandsOf w = arity (w % 16)
+
+-- the operators by their kind, that of a timer with its length
+unfoldable pub unaryOf : ℕ → ℕ → Unary
+unaryOf kind n =
+    cond (eqb kind kinds.NOT) invert
+    (cond (eqb kind kinds.RISING) rise (cond (eqb kind kinds.FALLING) fall (cond (eqb kind kinds.TON) (ton n) (tof n))))
+
+unfoldable pub binaryOf : ℕ → Binary
+binaryOf kind = cond (eqb kind kinds.AND) and (cond (eqb kind kinds.OR) or (cond (eqb kind kinds.SR) sr rs))
+
+-- those of a code word, a timer's length cut to 32 bits
+abbrev pub unaryIn : ℕ → Unary
+unaryIn w = unaryOf (w % 16) (w / 16 % 4294967296)
+
+abbrev pub binaryIn : ℕ → Binary
+binaryIn w = binaryOf (w % 16)
+
+-- what an operation of one operand is judged by, and the exact answers
+abbrev pub unaryFault : Unary → List ℕ → ℕ
+unaryFault invert l = listFault l
+unaryFault rise l = listFault l
+unaryFault fall l = listFault l
+unaryFault (ton d) l = firstOf (listFault l) (lengthFault d)
+unaryFault (tof d) l = firstOf (listFault l) (lengthFault d)
+
+abbrev pub unaryExact : Unary → List ℕ → List ℕ
+unaryExact invert l = exactOfOne NOT l
+unaryExact rise l = exactOfOne rising l
+unaryExact fall l = exactOfOne falling l
+unaryExact (ton d) l = exactOfDelay (TON d) d l
+unaryExact (tof d) l = exactOfDelay (TOF d) d l
+
+abbrev pub AND-table : Table
+AND-table = tableOf _&&_
+
+abbrev pub OR-table : Table
+OR-table = (false ∷ true ∷ []) ∷ (true ∷ true ∷ []) ∷ []
+
+abbrev pub binaryExact : Binary → List ℕ → List ℕ → List ℕ
+binaryExact and l m = exactOfTwo (connective AND-table) l m
+binaryExact or l m = exactOfTwo (connective OR-table) l m
+binaryExact sr l m = exactOfTwo SR l m
+binaryExact rs l m = exactOfTwo RS l m
+
+-- those of the operation that a code word asks for: of one operand below AND, else of two
+unfoldable pub judgedFor : ℕ → List ℕ → List ℕ → ℕ
+judgedFor w a b = cond (ltb (w % 16) kinds.AND) (unaryFault (unaryIn w) a) (pairFault a b)
+
+unfoldable pub exactFor : ℕ → List ℕ → List ℕ → List ℕ
+exactFor w a b = cond (ltb (w % 16) kinds.AND) (unaryExact (unaryIn w) a) (binaryExact (binaryIn w) a b)
+
+-- document 01's number for each case: 5 or 6, or the word count; one that did not begin, which the evaluator does not meet, passes for no answer
+abbrev pub partAnswer : SlotAnswer → Written
+partAnswer (Stands n) = written.Count n
+partAnswer TooLong = written.Refused 5
+partAnswer TooLate = written.Refused 6
+partAnswer NotBegun = written.Refused 5
+
+-- The whole of it: the answer and the slot at exit, from the code word, the operands and the slot at entry.
+abbrev pub PartInSlot : ℕ → List ℕ → List ℕ → List ℕ → Written → List ℕ → Type 0
+PartInSlot w a b slot answer after =
+    (answer ≡ partAnswer (slotAnswer (judgedFor w a b) (exactFor w a b) (length slot)))
+    × (after ≡ slotAfter (judgedFor w a b) (exactFor w a b) slot)
