@@ -1,9 +1,9 @@
 // The steps of the reader of a formula that read no sum. Each leaves a bad mark as it is.
 ghost use mathlib.Core.Bool.{true};
 ghost use mathlib.Core.Path.{_≡_};
-ghost use Prim.Native.Nat.{_≤_, _<_};
+ghost use Prim.Native.Nat.{_+_, _≤_, _<_};
 ghost use lib.ListN.{length};
-ghost use Rattle.marks.specs.Marks.{markOf, lent};
+ghost use Rattle.marks.specs.Marks.{markOf, lent, openKind, openBytes};
 ghost use Rattle.formulas.specs.Readers.{Lent, Marked, badMark, movedMark, expectMark, lengthMark, putMark, putCode};
 use marks::AT;
 use marks::DEEPEST;
@@ -13,6 +13,8 @@ use marks::PARTS;
 use marks::larger;
 use marks::length_end;
 use marks::next;
+use marks::opening;
+use marks::opening_bytes;
 
 // Makes a mark bad.
 pub(crate) fn fail(m: &mut [usize; 5])
@@ -27,6 +29,18 @@ pub(crate) fn move_to(m: &mut [usize; 5], to: usize)
     ensures { λ _. ⌜ Marked (now (m .exit)) (movedMark (markOf (now (m .entry))) to) ⌝ }
 {
     m[AT] = to;
+}
+
+// Passes what is next and begins a factor, and gives its kind; 0 where none is, the mark then staying.
+pub(crate) fn begin(text: &[u8; 1024], bytes: usize, m: &mut [usize; 5]) -> u64
+    requires { ⌜ (length (now m) ≡ 5) × (markOf (now m) .at ≤ 1024) ⌝ }
+    ensures { λ r. ⌜ (Marked (now (m .exit)) (movedMark (markOf (now (m .entry))) (markOf (now (m .entry)) .at + openBytes r)))
+        × (r ≡ openKind (lent (now (text .entry)) bytes) (markOf (now (m .entry)))) ⌝ }
+{
+    let first = opening(text, bytes, m);
+    let at = m[AT];
+    move_to(m, at + opening_bytes(first));
+    first
 }
 
 // Passes the byte `b`, which is not 0.

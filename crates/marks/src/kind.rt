@@ -23,3 +23,6 @@ pub const OR: u64 = 9;
 pub const SR: u64 = 10;
 
 pub const RS: u64 = 11;
+
+// An open bracket: no kind of a part, but one of what begins a factor.
+pub const BRACKET: u64 = 16;
