@@ -8,6 +8,7 @@ use crate::mark::begin;
 use crate::mark::expect;
 use crate::mark::fail;
 use crate::mark::move_to;
+use crate::mark::pass;
 use crate::mark::pass_length;
 use crate::mark::put;
 use marks::AT;
@@ -68,9 +69,7 @@ fn sums(text: &[u8; 1024], bytes: usize, code: &mut [u64; 1024], m: &mut [usize;
     ensures { λ _. ⌜ Left (SumsRead (lent (now (text .entry)) bytes) deep) (now (m .entry))
         (now (code .entry)) (now (code .exit)) (now (m .exit)) ⌝ }
 {
-    if next(text, bytes, m) == b'+' {
-        let at = m[AT];
-        move_to(m, at + 1);
+    if pass(text, bytes, m, b'+') {
         product(text, bytes, code, m, deep);
         put(code, m, kind::OR, deep, 0);
         sums(text, bytes, code, m, deep);
@@ -99,9 +98,7 @@ fn products(
     ensures { λ _. ⌜ Left (ProductsRead (lent (now (text .entry)) bytes) deep) (now (m .entry))
         (now (code .entry)) (now (code .exit)) (now (m .exit)) ⌝ }
 {
-    if next(text, bytes, m) == b'.' {
-        let at = m[AT];
-        move_to(m, at + 1);
+    if pass(text, bytes, m, b'.') {
         factor(text, bytes, code, m, deep);
         put(code, m, kind::AND, deep, 0);
         products(text, bytes, code, m, deep);

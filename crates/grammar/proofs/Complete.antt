@@ -282,7 +282,8 @@ module _ (text : List ℕ) where
     some : 0 < kind
     long : 3 ≤ length word
     bytes : blockBytes kind ≡ length word
-    begins : (l : List ℕ) → (prefixKind (getD (word ++ l) 0 0) ≡ 0) × (eqb (getD (word ++ l) 0 0) 40 ≡ false) × (blockKind (word ++ l) ≡ kind)
+    begins : (l : List ℕ) → (prefixKind (getD (word ++ l) 0 0) ≡ 0) × (eqb (getD (word ++ l) 0 0) 40 ≡ false) ×
+        (blockKind (word ++ l) ≡ kind)
 
   word-next : {word : List ℕ} {kind : ℕ} → Word word kind → (s : State Part) (l : List ℕ) → At text s (word ++ l) → BlockNext text s kind
   word-next c s l a =

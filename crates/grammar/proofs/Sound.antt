@@ -243,9 +243,11 @@ module _ (text : List ℕ) where
       (λ e1. by-cond (BlockFinds n deep s) (starts (82 ∷ 83 ∷ 40 ∷ []) (drop (s .at) text))
       (λ e pos. latch-word (82 ∷ 83 ∷ 40 ∷ []) kinds.RS rs refl (λ w v t u d e a b. Factor.rs a b) refl n ih deep s fine e)
       (λ e2. by-cond (BlockFinds n deep s) (starts (84 ∷ 79 ∷ 78 ∷ 40 ∷ []) (drop (s .at) text))
-      (λ e pos. timer-word (84 ∷ 79 ∷ 78 ∷ 40 ∷ []) kinds.TON ton (λ n. refl) (λ n. refl) (λ w v t d a b. Factor.ton w a b) refl n ih deep s fine e)
+      (λ e pos. timer-word (84 ∷ 79 ∷ 78 ∷ 40 ∷ []) kinds.TON ton (λ n. refl) (λ n. refl) (λ w v t d a b. Factor.ton w a b) refl n ih
+      deep s fine e)
       (λ e3. by-cond (BlockFinds n deep s) (starts (84 ∷ 79 ∷ 70 ∷ 40 ∷ []) (drop (s .at) text))
-      (λ e pos. timer-word (84 ∷ 79 ∷ 70 ∷ 40 ∷ []) kinds.TOF tof (λ n. refl) (λ n. refl) (λ w v t d a b. Factor.tof w a b) refl n ih deep s fine e)
+      (λ e pos. timer-word (84 ∷ 79 ∷ 70 ∷ 40 ∷ []) kinds.TOF tof (λ n. refl) (λ n. refl) (λ w v t d a b. Factor.tof w a b) refl n ih
+      deep s fine e)
       (λ e4 pos. never pos)))))
       (λ bad pos. never pos)
 

@@ -1,6 +1,6 @@
 // Where the reader of a formula is, and what it finds there: the next byte, what begins a factor, a length, a constant or a name, a
-// length's ticks, and the fault of a text that was read to its end. The text is lent as the first bytes of an array of 1,024 and the mark as an array, so that a reader
-// that calls another holds neither on the stack.
+// length's ticks, and the fault of a text that was read to its end. The text is lent as the first bytes of an array of 1,024 and the mark
+// as an array, so that a reader that calls another holds neither on the stack.
 pub mod kind;
 
 ghost use mathlib.Core.Path.{_≡_};
@@ -164,9 +164,9 @@ fn prefix_kind(b: u8) -> u64
 fn byte_after(text: &[u8; 1024], bytes: usize, at: usize, k: usize) -> u8
     ensures { λ r. ⌜ r ≡ getD (drop at (lent (now (text .entry)) bytes)) k 0 ⌝ }
 {
-    let end = within(bytes);
-    if at < end {
-        if k < end - at {
+    let stop = within(bytes);
+    if at < stop {
+        if k < stop - at {
             return text[at + k];
         }
     }

@@ -9,7 +9,12 @@ returns : tie.Need-returns
 returns c =
     let w = c .before .before .before in
     let a = w .before .args in
-    lent-after (a .text .now) (a .bytes) (a .at) (a .k) (omega (arith, c .before .if2 .taken, c .before .before .if1 .taken, w .within .ensures))
+    lent-after (a .text .now) (a .bytes) (a .at) (a .k) (omega (
+      arith,
+      c .before .if2 .taken,
+      c .before .before .if1 .taken,
+      w .within .ensures,
+    ))
 
 returns-2 : tie.Need-returns-2
 returns-2 c =

@@ -24,10 +24,13 @@ unfolding markOf
 returns c =
     let b = c .before in
     let o = b .before .before .before in
-    let m = markOf (o .before .before .args .m .now) in
-    ((c .move-to .ensures .0, c .move-to .ensures .1 ∙ ap (λ (k : ℕ). movedMark m (m .at + k)) (b .opening-bytes .ensures)), o .opening .ensures)
+    let m = markOf (o .before .before .args .m .now) in (
+      (c .move-to .ensures .0, c .move-to .ensures .1 ∙ ap (λ (k : ℕ). movedMark m (m .at + k)) (b .opening-bytes .ensures)),
+      o .opening .ensures,
+    )
 
 pub begin-spec : {M : Type 1} → statement M
 begin-spec =
     tie.close
-    (tie.spec (λ c κs. search needs) (λ c. search needs) (λ c κs. search needs) add-move-to (λ c κs. c .before .before .before .before .before .pre .0) returns)
+    (tie.spec (λ c κs. search needs) (λ c. search needs) (λ c κs. search needs) add-move-to
+    (λ c κs. c .before .before .before .before .before .pre .0) returns)

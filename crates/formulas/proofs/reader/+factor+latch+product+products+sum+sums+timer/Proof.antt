@@ -2,15 +2,15 @@
 -- 5 × (bytes left) + (open depth) + (the reader's level).
 use Prim.Native.Nat.{ℕ, _+_, _*_, _-_, _<_}
 use native.Mathlib.Omega.{arith}
-use borrow.Author.Tests.{ne-eqb}
-use mathlib.Core.Path.{sym, ap, _∙_}
+use borrow.Author.Tests.{eqb-true}
+use mathlib.Core.Path.{refl, sym, ap, _∙_}
 use lib.ListN.{length}
 use borrow.Author.Needs.{needs}
 use Rattle.texts.specs.Lengths.{capped}
 use Rattle.marks.specs.Marks.{Mark, markOf, lent}
 use Rattle.marks.proofs.Marking.{capped-most}
 use Rattle.formulas.proofs.Lending.{lent-on, text-long, number-lent}
-use Rattle.formulas.proofs.Doing.{passed, starting, inner-needs}
+use Rattle.formulas.proofs.Doing.{pass-moves, pass-stays, passed, starting, turned, inner-needs}
 use Rattle.formulas.proofs.ReaderPaths as paths
 use Rattle.formulas.proofs.ReaderChains as chains
 use Rattle.grammar.proofs.Branches.{plus, times}
@@ -39,8 +39,7 @@ use Rattle.formulas.proofs.reader.timer.Kinds as timer-kinds
 use Rattle.formulas.proofs.reader.+factor+latch+product+products+sum+sums+timer.Lts-timer as timer-lts
 use Rattle.formulas.proofs.mark.begin.Reads as begin-reads
 use Rattle.formulas.proofs.mark.expect.Reads as expect-reads
-use Rattle.formulas.proofs.mark.move_to.Reads as move-to-reads
-use Rattle.marks.proofs.next.Reads as next-reads
+use Rattle.formulas.proofs.mark.pass.Reads as pass-reads
 use Rattle.formulas.proofs.mark.pass_length.Reads as pass-length-reads
 use Rattle.formulas.proofs.mark.put.Reads as put-reads
 use Rattle.marks.proofs.ticks.Reads as ticks-reads
@@ -139,35 +138,15 @@ abbrev product-calls : ℕ → product-lts.Claims
 product-calls t = (factor-below t, factor.Post, products-below t, products.Post)
 
 abbrev products-calls : ℕ → products-lts.Claims
-products-calls t = (
-  next-reads.Asked,
-  next-reads.Learnt,
-  move-to-reads.Asked,
-  move-to-reads.Learnt,
-  factor-below t,
-  factor.Post,
-  put-reads.Asked,
-  put-reads.Learnt,
-  products-below t,
-  products.Post,
-)
+products-calls t =
+    (pass-reads.Asked, pass-reads.Learnt, factor-below t, factor.Post, put-reads.Asked, put-reads.Learnt, products-below t, products.Post)
 
 abbrev sum-calls : ℕ → sum-lts.Claims
 sum-calls t = (product-below t, product.Post, sums-below t, sums.Post)
 
 abbrev sums-calls : ℕ → sums-lts.Claims
-sums-calls t = (
-  next-reads.Asked,
-  next-reads.Learnt,
-  move-to-reads.Asked,
-  move-to-reads.Learnt,
-  product-below t,
-  product.Post,
-  put-reads.Asked,
-  put-reads.Learnt,
-  sums-below t,
-  sums.Post,
-)
+sums-calls t =
+    (pass-reads.Asked, pass-reads.Learnt, product-below t, product.Post, put-reads.Asked, put-reads.Learnt, sums-below t, sums.Post)
 
 abbrev timer-calls : ℕ → timer-lts.Claims
 timer-calls t = (
@@ -215,13 +194,16 @@ factor-factor-requires : (t : ℕ) → factor-lts.Need-factor-requires (factor-c
 factor-factor-requires t c κs =
     let b = c .before .before .before .before in
     let s = b .before .before in
-    let n = paths.deeper-needs (paths.prefix-step (factor-open t (c .before .before .before .before)) (c .before .before .before .if1 .left) (c .before .before .if2 .taken)) {level = 2} (omega arith) in
+    let n = paths.deeper-needs (paths.prefix-step (factor-open t (c .before .before .before .before))
+    (c .before .before .before .if1 .left) (c .before .before .if2 .taken)) {level = 2} (omega arith) in
     (n .0, (lent-on (s .pre .1 .0) (b .begin .ensures .0 .0), n .1))
 
 factor-put-requires : (t : ℕ) → factor-lts.Need-put-requires (factor-calls t) (factor-at t) factor.Post
 factor-put-requires t c κs =
     let factor′ = c .before .before .factor in
-    let n = paths.prefix-needs (paths.prefix-step (factor-open t (c .before .before .before .before .before .before .before)) (c .before .before .before .before .before .before .if1 .left) (c .before .before .before .before .before .if2 .taken)) (factor′ .ensures .1) in
+    let n = paths.prefix-needs (paths.prefix-step (factor-open t (c .before .before .before .before .before .before .before))
+    (c .before .before .before .before .before .before .if1 .left) (c .before .before .before .before .before .if2 .taken))
+    (factor′ .ensures .1) in
     (factor′ .ensures .0, n .0, n .1)
 
 factor-returns-2 : (t : ℕ) → factor-lts.Need-returns-2 (factor-calls t) (factor-at t) factor.Post
@@ -229,7 +211,9 @@ factor-returns-2 t c =
     let factor′ = c .before .before .before .factor in
     let put′ = c .put in (
       put′ .ensures .0 .0,
-      paths.opened-prefix (factor-open t (c .before .before .before .before .before .before .before .before)) (c .before .before .before .before .before .before .before .if1 .left) (c .before .before .before .before .before .before .if2 .taken) (factor′ .ensures .1)
+      paths.opened-prefix (factor-open t (c .before .before .before .before .before .before .before .before))
+          (c .before .before .before .before .before .before .before .if1 .left)
+          (c .before .before .before .before .before .before .if2 .taken) (factor′ .ensures .1)
           (put′ .ensures .0 .1, put′ .ensures .1),
     )
 
@@ -245,11 +229,16 @@ factor-sum-requires t c κs =
     (n .0, (lent-on (s .pre .1 .0) (b .begin .ensures .0 .0), n .1))
 
 factor-expect-requires : (t : ℕ) → factor-lts.Need-expect-requires (factor-calls t) (factor-at t) factor.Post
-factor-expect-requires t c κs = (lent-on (c .before .before .before .before .before .before .before .before .before .pre .1 .0) (c .before .sum .ensures .0), omega arith)
+factor-expect-requires t c κs = (
+  lent-on (c .before .before .before .before .before .before .before .before .before .pre .1 .0) (c .before .sum .ensures .0),
+  omega
+      arith,
+)
 
 factor-returns-3 : (t : ℕ) → factor-lts.Need-returns-3 (factor-calls t) (factor-at t) factor.Post
 factor-returns-3 t c =
-    let k = paths.bracket-step (factor-open t (c .before .before .before .before .before .before .before .before)) (c .before .before .before .before .before .if3 .taken) in
+    let k = paths.bracket-step (factor-open t (c .before .before .before .before .before .before .before .before))
+    (c .before .before .before .before .before .if3 .taken) in
     (c .expect .ensures .0, paths.brackets-path k (c .before .before .sum .ensures .1) (c .expect .ensures .1))
 
 factor-timer-requires : (t : ℕ) → factor-lts.Need-timer-requires (factor-calls t) (factor-at t) factor.Post
@@ -263,7 +252,8 @@ factor-returns-4 : (t : ℕ) → factor-lts.Need-returns-4 (factor-calls t) (fac
 factor-returns-4 t c =
     let b = c .before .before .before .before .before .before .before in (
       c .timer .ensures .0,
-      paths.opened-timer (factor-open t b) (c .before .before .before .before .before .if2 .left) (c .before .before .before .before .if3 .left) (c .before .before .before .if4 .taken) (c .timer .ensures .1),
+      paths.opened-timer (factor-open t b) (c .before .before .before .before .before .if2 .left)
+          (c .before .before .before .before .if3 .left) (c .before .before .before .if4 .taken) (c .timer .ensures .1),
     )
 
 factor-latch-requires : (t : ℕ) → factor-lts.Need-latch-requires (factor-calls t) (factor-at t) factor.Post
@@ -277,7 +267,8 @@ factor-returns-5 : (t : ℕ) → factor-lts.Need-returns-5 (factor-calls t) (fac
 factor-returns-5 t c =
     let b = c .before .before .before .before .before .before .before in (
       c .latch .ensures .0,
-      paths.opened-latch (factor-open t b) (c .before .before .before .before .before .if2 .left) (c .before .before .before .before .if3 .left) (c .before .before .before .if4 .left) (c .latch .ensures .1),
+      paths.opened-latch (factor-open t b) (c .before .before .before .before .before .if2 .left)
+          (c .before .before .before .before .if3 .left) (c .before .before .before .if4 .left) (c .latch .ensures .1),
     )
 
 latch-add-sum : (t : ℕ) → latch-lts.Need-add-sum (latch-calls t) (latch-at t) latch.Post
@@ -307,7 +298,11 @@ latch-sum-requires-2 t c κs =
     (n .0, (lent-on (s .pre .1 .0) (expect′ .ensures .0), n .1))
 
 latch-expect-requires-2 : (t : ℕ) → latch-lts.Need-expect-requires-2 (latch-calls t) (latch-at t) latch.Post
-latch-expect-requires-2 t c κs = (lent-on (c .before .before .before .before .before .before .before .before .before .pre .1 .0) (c .before .sum2 .ensures .0), omega arith)
+latch-expect-requires-2 t c κs = (
+  lent-on (c .before .before .before .before .before .before .before .before .before .pre .1 .0) (c .before .sum2 .ensures .0),
+  omega
+      arith,
+)
 
 latch-put-requires : (t : ℕ) → latch-lts.Need-put-requires (latch-calls t) (latch-at t) latch.Post
 latch-put-requires t c κs =
@@ -352,31 +347,26 @@ product-returns t c =
     let products′ = c .products in
     (products′ .ensures .0, chains.whole-path times (s .pre .1 .1) (factor′ .ensures .1) (products′ .ensures .1))
 
-products-add-move-to : (t : ℕ) → products-lts.Need-add-move-to (products-calls t) (products-at t) products.Post
-unfolding markOf
-products-add-move-to t c =
-    let g = c .before .before .before .before .before .pre .1 .1 in omega (arith, g .within, g .short)
+products-pass-requires : (t : ℕ) → products-lts.Need-pass-requires (products-calls t) (products-at t) products.Post
+products-pass-requires t c κs = (c .before .pre .1 .0 .five, omega arith)
 
 -- past the byte b at the front of the rest of a chain, at x
 abbrev Products-step : (t : ℕ) → products-lts.Start (products-calls t) (products-at t) products.Post → ℕ → Mark → Type 0
 Products-step t s b x =
     paths.Step (lent (s .args .text .now) (s .args .bytes)) (s .args .code .now) (markOf (s .args .m .now)) (s .args .deep) 1 t b x
 
-times-step : (t : ℕ) (c : products-lts.After-move-to (products-calls t) (products-at t) products.Post) →
-    Products-step t (c .before .before .before .before .before .before) 46 (markOf (c .move-to .last .0))
-unfolding markOf
+times-step : (t : ℕ) (c : products-lts.Then1 (products-calls t) (products-at t) products.Post) →
+    Products-step t (c .before .before .before) 46 (markOf (c .before .pass .last .1 .1 .0))
 times-step t c =
-    let s = c .before .before .before .before .before .before in
-    let next′ = c .before .before .before .before .next in
-    let if1′ = c .before .before .before .if1 in
-    let move-to′ = c .move-to in
-    paths.step (s .pre .0, s .pre .1 .1) (sym (next′ .ensures) ∙ if1′ .taken) (omega arith) (move-to′ .ensures .1)
+    let s = c .before .before .before in
+    let pass′ = c .before .pass in
+    let e = sym (pass′ .ensures .1) ∙ c .if1 .taken in
+    paths.step (s .pre .0, s .pre .1 .1) (eqb-true _ 46 e) (omega arith) (pass′ .ensures .0 .1 ∙ pass-moves _ 46 _ e)
 
 products-factor-requires : (t : ℕ) → products-lts.Need-factor-requires (products-calls t) (products-at t) products.Post
 products-factor-requires t c κs =
-    let s = c .before .before .before .before .before .before .before .before in
-    let move-to′ = c .before .before .move-to in
-    let n = chains.operand-needs times (times-step t (c .before .before)) in (n .0, (lent-on (s .pre .1 .0) (move-to′ .ensures .0), n .1))
+    let n = chains.operand-needs times (times-step t (c .before .before)) in
+    (n .0, (lent-on (c .before .before .before .before .before .pre .1 .0) (c .before .before .before .pass .ensures .0 .0), n .1))
 
 products-put-requires : (t : ℕ) → products-lts.Need-put-requires (products-calls t) (products-at t) products.Post
 products-put-requires t c κs =
@@ -386,30 +376,32 @@ products-put-requires t c κs =
 
 products-products-requires : (t : ℕ) → products-lts.Need-products-requires (products-calls t) (products-at t) products.Post
 products-products-requires t c κs =
-    let s = c .before .before .before .before .before .before .before .before .before .before .before .before .before .before in
-    let factor′ = c .before .before .before .before .before .factor in
     let put′ = c .before .before .put in
     let n = chains.rest-needs times (times-step t (c .before .before .before .before .before .before .before .before))
-    (factor′ .ensures .1) (put′ .ensures .0 .1, put′ .ensures .1) in
-    (n .0, (lent-on (s .pre .1 .0) (put′ .ensures .0 .0), n .1))
+    (c .before .before .before .before .before .factor .ensures .1) (put′ .ensures .0 .1, put′ .ensures .1) in (
+      n .0,
+      (
+        lent-on (c .before .before .before .before .before .before .before .before .before .before .before .pre .1 .0)
+            (put′ .ensures .0 .0),
+        n .1,
+      ),
+    )
 
 products-returns : (t : ℕ) → products-lts.Need-returns (products-calls t) (products-at t) products.Post
 products-returns t c =
-    let factor′ = c .before .before .before .before .before .before .factor in
-    let put′ = c .before .before .before .put in
-    let products′ = c .products in (
-      products′ .ensures .0,
-      chains.rest-path times
-          (times-step t (c .before .before .before .before .before .before .before .before .before)) (factor′ .ensures .1)
-          (put′ .ensures .0 .1, put′ .ensures .1) (products′ .ensures .1),
+    let put′ = c .before .before .before .put in (
+      c .products .ensures .0,
+      chains.rest-path times (times-step t (c .before .before .before .before .before .before .before .before .before))
+          (c .before .before .before .before .before .before .factor .ensures .1) (put′ .ensures .0 .1, put′ .ensures .1)
+          (c .products .ensures .1),
     )
 
 products-returns-2 : (t : ℕ) → products-lts.Need-returns-2 (products-calls t) (products-at t) products.Post
 products-returns-2 t c =
     let s = c .before .before .before in
-    let next′ = c .before .next in
-    let if1′ = c .if1 in
-    (s .pre .1 .0 .five, chains.rest-end times (s .pre .1 .1) (ne-eqb _ _ (λ h. if1′ .left (next′ .ensures ∙ h))))
+    let pass′ = c .before .pass in
+    let e = sym (pass′ .ensures .1) ∙ c .if1 .left in
+    (pass′ .ensures .0 .0, turned refl (pass′ .ensures .0 .1 ∙ pass-stays _ 46 _ e) (chains.rest-end times (s .pre .1 .1) e))
 
 sum-product-requires : (t : ℕ) → sum-lts.Need-product-requires (sum-calls t) (sum-at t) sum.Post
 sum-product-requires t c κs =
@@ -430,31 +422,26 @@ sum-returns t c =
     let sums′ = c .sums in
     (sums′ .ensures .0, chains.whole-path plus (s .pre .1 .1) (product′ .ensures .1) (sums′ .ensures .1))
 
-sums-add-move-to : (t : ℕ) → sums-lts.Need-add-move-to (sums-calls t) (sums-at t) sums.Post
-unfolding markOf
-sums-add-move-to t c =
-    let g = c .before .before .before .before .before .pre .1 .1 in omega (arith, g .within, g .short)
+sums-pass-requires : (t : ℕ) → sums-lts.Need-pass-requires (sums-calls t) (sums-at t) sums.Post
+sums-pass-requires t c κs = (c .before .pre .1 .0 .five, omega arith)
 
 -- past the byte b at the front of the rest of a chain, at x
 abbrev Sums-step : (t : ℕ) → sums-lts.Start (sums-calls t) (sums-at t) sums.Post → ℕ → Mark → Type 0
 Sums-step t s b x = paths.Step (lent (s .args .text .now) (s .args .bytes)) (s .args .code .now) (markOf (s .args .m .now))
     (s .args .deep) 1 t b x
 
-plus-step : (t : ℕ) (c : sums-lts.After-move-to (sums-calls t) (sums-at t) sums.Post) →
-    Sums-step t (c .before .before .before .before .before .before) 43 (markOf (c .move-to .last .0))
-unfolding markOf
+plus-step : (t : ℕ) (c : sums-lts.Then1 (sums-calls t) (sums-at t) sums.Post) →
+    Sums-step t (c .before .before .before) 43 (markOf (c .before .pass .last .1 .1 .0))
 plus-step t c =
-    let s = c .before .before .before .before .before .before in
-    let next′ = c .before .before .before .before .next in
-    let if1′ = c .before .before .before .if1 in
-    let move-to′ = c .move-to in
-    paths.step (s .pre .0, s .pre .1 .1) (sym (next′ .ensures) ∙ if1′ .taken) (omega arith) (move-to′ .ensures .1)
+    let s = c .before .before .before in
+    let pass′ = c .before .pass in
+    let e = sym (pass′ .ensures .1) ∙ c .if1 .taken in
+    paths.step (s .pre .0, s .pre .1 .1) (eqb-true _ 43 e) (omega arith) (pass′ .ensures .0 .1 ∙ pass-moves _ 43 _ e)
 
 sums-product-requires : (t : ℕ) → sums-lts.Need-product-requires (sums-calls t) (sums-at t) sums.Post
 sums-product-requires t c κs =
-    let s = c .before .before .before .before .before .before .before .before in
-    let move-to′ = c .before .before .move-to in
-    let n = chains.operand-needs plus (plus-step t (c .before .before)) in (n .0, (lent-on (s .pre .1 .0) (move-to′ .ensures .0), n .1))
+    let n = chains.operand-needs plus (plus-step t (c .before .before)) in
+    (n .0, (lent-on (c .before .before .before .before .before .pre .1 .0) (c .before .before .before .pass .ensures .0 .0), n .1))
 
 sums-put-requires : (t : ℕ) → sums-lts.Need-put-requires (sums-calls t) (sums-at t) sums.Post
 sums-put-requires t c κs =
@@ -464,39 +451,46 @@ sums-put-requires t c κs =
 
 sums-sums-requires : (t : ℕ) → sums-lts.Need-sums-requires (sums-calls t) (sums-at t) sums.Post
 sums-sums-requires t c κs =
-    let s = c .before .before .before .before .before .before .before .before .before .before .before .before .before .before in
-    let product′ = c .before .before .before .before .before .product in
     let put′ = c .before .before .put in
     let n = chains.rest-needs plus (plus-step t (c .before .before .before .before .before .before .before .before))
-    (product′ .ensures .1) (put′ .ensures .0 .1, put′ .ensures .1) in
-    (n .0, (lent-on (s .pre .1 .0) (put′ .ensures .0 .0), n .1))
+    (c .before .before .before .before .before .product .ensures .1) (put′ .ensures .0 .1, put′ .ensures .1) in (
+      n .0,
+      (
+        lent-on (c .before .before .before .before .before .before .before .before .before .before .before .pre .1 .0)
+            (put′ .ensures .0 .0),
+        n .1,
+      ),
+    )
 
 sums-returns : (t : ℕ) → sums-lts.Need-returns (sums-calls t) (sums-at t) sums.Post
 sums-returns t c =
-    let product′ = c .before .before .before .before .before .before .product in
-    let put′ = c .before .before .before .put in
-    let sums′ = c .sums in (
-      sums′ .ensures .0,
+    let put′ = c .before .before .before .put in (
+      c .sums .ensures .0,
       chains.rest-path plus (plus-step t (c .before .before .before .before .before .before .before .before .before))
-          (product′ .ensures .1) (put′ .ensures .0 .1, put′ .ensures .1) (sums′ .ensures .1),
+          (c .before .before .before .before .before .before .product .ensures .1) (put′ .ensures .0 .1, put′ .ensures .1)
+          (c .sums .ensures .1),
     )
 
 sums-returns-2 : (t : ℕ) → sums-lts.Need-returns-2 (sums-calls t) (sums-at t) sums.Post
 sums-returns-2 t c =
     let s = c .before .before .before in
-    let next′ = c .before .next in
-    let if1′ = c .if1 in
-    (s .pre .1 .0 .five, chains.rest-end plus (s .pre .1 .1) (ne-eqb _ _ (λ h. if1′ .left (next′ .ensures ∙ h))))
+    let pass′ = c .before .pass in
+    let e = sym (pass′ .ensures .1) ∙ c .if1 .left in
+    (pass′ .ensures .0 .0, turned refl (pass′ .ensures .0 .1 ∙ pass-stays _ 43 _ e) (chains.rest-end plus (s .pre .1 .1) e))
 
 timer-pass-length-requires : (t : ℕ) → timer-lts.Need-pass-length-requires (timer-calls t) (timer-at t) timer.Post
 timer-pass-length-requires t c κs = c .before .before .pre .1 .0 .0 .five
 
 timer-expect-requires : (t : ℕ) → timer-lts.Need-expect-requires (timer-calls t) (timer-at t) timer.Post
-timer-expect-requires t c κs = (lent-on (c .before .before .before .before .before .before .pre .1 .0 .0) (c .before .before .before .pass-length .ensures .0), omega arith)
+timer-expect-requires t c κs = (
+  lent-on (c .before .before .before .before .before .before .pre .1 .0 .0) (c .before .before .before .pass-length .ensures .0),
+  omega arith,
+)
 
 timer-add-sum : (t : ℕ) → timer-lts.Need-add-sum (timer-calls t) (timer-at t) timer.Post
 timer-add-sum t c =
-    let g = c .before .before .before .before .before .before .before .before .before .pre .1 .0 .1 in omega (arith, g .opened, g .within, g .short)
+    let g = c .before .before .before .before .before .before .before .before .before .pre .1 .0 .1 in omega
+    (arith, g .opened, g .within, g .short)
 
 timer-sum-requires : (t : ℕ) → timer-lts.Need-sum-requires (timer-calls t) (timer-at t) timer.Post
 timer-sum-requires t c κs =
@@ -504,19 +498,30 @@ timer-sum-requires t c κs =
     let expect′ = c .before .before .expect in
     let g = s .pre .1 .0 .1 in
     let n = inner-needs (s .args .deep) g
-    (paths.timer-parted (s .args .deep) g (c .before .before .before .before .before .before .pass-length .ensures .1) (expect′ .ensures .1)) (s .pre .0) in
+    (paths.timer-parted (s .args .deep) g (c .before .before .before .before .before .before .pass-length .ensures .1)
+    (expect′ .ensures .1)) (s .pre .0) in
     (n .0, (lent-on (s .pre .1 .0 .0) (expect′ .ensures .0), n .1))
 
 timer-expect-requires-2 : (t : ℕ) → timer-lts.Need-expect-requires-2 (timer-calls t) (timer-at t) timer.Post
-timer-expect-requires-2 t c κs = (lent-on (c .before .before .before .before .before .before .before .before .before .before .before .pre .1 .0 .0) (c .before .sum .ensures .0), omega arith)
+timer-expect-requires-2 t c κs = (
+  lent-on (c .before .before .before .before .before .before .before .before .before .before .before .pre .1 .0 .0)
+      (c .before .sum .ensures .0),
+  omega arith,
+)
 
 timer-mul-put : (t : ℕ) → timer-lts.Need-mul-put (timer-calls t) (timer-at t) timer.Post
 timer-mul-put t c =
-    let ticks′ = c .before .before .before .before .before .before .before .before .before .ticks in omega (arith, capped-most _ _ (ticks′ .ensures))
+    let ticks′ = c .before .before .before .before .before .before .before .before .before .ticks in omega
+    (arith, capped-most _ _ (ticks′ .ensures))
 
 timer-add-put : (t : ℕ) → timer-lts.Need-add-put (timer-calls t) (timer-at t) timer.Post
 timer-add-put t c =
-    let ticks′ = c .before .before .before .before .before .before .before .before .before .ticks in omega (arith, capped-most _ _ (ticks′ .ensures), c .before .before .before .before .before .before .before .before .before .before .before .before .before .before .pre .1 .1)
+    let ticks′ = c .before .before .before .before .before .before .before .before .before .ticks in omega (
+      arith,
+      capped-most _ _ (ticks′ .ensures),
+      c .before .before .before .before .before .before .before .before .before .before
+          .before .before .before .before .pre .1 .1,
+    )
 
 timer-put-requires : (t : ℕ) → timer-lts.Need-put-requires (timer-calls t) (timer-at t) timer.Post
 timer-put-requires t c κs =
@@ -563,14 +568,12 @@ pub +factor+latch+product+products+sum+sums+timer-spec : {M : Type 1} → statem
     (latch-add-sum-2 t) (latch-sum-requires-2 t) (latch-expect-requires-2 t) (latch-put-requires t) (latch-returns t))
     (λ t. product-lts.spec (product-calls t) (product-at t) product.Post (product-factor-requires t) (product-products-requires t)
     (product-returns t))
-    (λ t. products-lts.spec (products-calls t) (products-at t) products.Post (λ c κs. search needs) (λ c. search needs)
-    (products-add-move-to t)
-    (λ c κs. search needs) (products-factor-requires t) (products-put-requires t) (products-products-requires t) (products-returns t)
-    (products-returns-2 t))
+    (λ t. products-lts.spec (products-calls t) (products-at t) products.Post (products-pass-requires t) (products-factor-requires t)
+    (products-put-requires t)
+    (products-products-requires t) (products-returns t) (products-returns-2 t))
     (λ t. sum-lts.spec (sum-calls t) (sum-at t) sum.Post (sum-product-requires t) (sum-sums-requires t) (sum-returns t))
-    (λ t. sums-lts.spec (sums-calls t) (sums-at t) sums.Post (λ c κs. search needs) (λ c. search needs) (sums-add-move-to t)
-    (λ c κs. search needs)
-    (sums-product-requires t) (sums-put-requires t) (sums-sums-requires t) (sums-returns t) (sums-returns-2 t))
+    (λ t. sums-lts.spec (sums-calls t) (sums-at t) sums.Post (sums-pass-requires t) (sums-product-requires t) (sums-put-requires t)
+    (sums-sums-requires t) (sums-returns t) (sums-returns-2 t))
     (λ t. timer-lts.spec (timer-calls t) (timer-at t) timer.Post (λ c. search needs) (timer-pass-length-requires t) (λ c. search needs)
     (λ c κs. search needs) (timer-expect-requires t) (timer-add-sum t) (timer-sum-requires t) (timer-expect-requires-2 t) (timer-mul-put t)
     (timer-add-put t) (timer-put-requires t) (timer-returns t))
