@@ -18,8 +18,8 @@ use Rattle.names.specs.Names.{digit, allOf, letter, nameByte, wellNamed}
 use Rattle.texts.specs.Lengths.{isLength, value}
 use Rattle.grammar.specs.Grammar.{Writes, Sum, Product, Factor}
 use Rattle.texts.specs.Lengths as lengths
-use Rattle.grammar.specs.Reader.{run, next, bad, stepped, expect, put, passLength, valueBetween, prefixKind, leafAt, timed, sumAt, sumsAt}
-use Rattle.grammar.specs.Reader.{productAt, productsAt, factorAt, latchAt, timerAt, readText}
+use Rattle.grammar.specs.Reader.{run, next, bad, stepped, expect, put, passLength, valueBetween, prefixKind, starts, blockKind, blockBytes}
+use Rattle.grammar.specs.Reader.{blockAt, leafAt, timed, sumAt, sumsAt, productAt, productsAt, factorAt, latchAt, timerAt, readText}
 use Rattle.grammar.specs.Formula.{timedPart, nameAt, accepted, partsOf, depthOf, longestOf, formulaFault}
 use Rattle.grammar.proofs.Reading.{tree-of}
 use Rattle.grammar.specs.Parts.{parts}
@@ -77,12 +77,13 @@ g-writes = Sum.product (Product.factor (Factor.ton (50 ∷ []) length-two f-writ
 
 f-fine : formulaFault printedF ≡ 0
 unfolding formulaFault accepted longestOf partsOf depthOf readText sumAt sumsAt productAt productsAt factorAt leafAt next stepped put bad
-    expect prefixKind letter digit nameByte run
+    expect prefixKind starts blockKind blockBytes blockAt letter digit nameByte run
 f-fine = refl
 
 g-fine : formulaFault printedG ≡ 0
 unfolding formulaFault accepted longestOf partsOf depthOf readText sumAt sumsAt productAt productsAt factorAt latchAt timerAt timed
-    timedPart passLength valueBetween value lengths.valueFrom leafAt next stepped put bad expect prefixKind letter digit nameByte run
+    timedPart passLength valueBetween value lengths.valueFrom leafAt next stepped put bad expect prefixKind starts blockKind
+    blockBytes blockAt letter digit nameByte run
 g-fine = refl
 
 -- their lists

@@ -14,8 +14,8 @@ use Rattle.grammar.specs.Tree as tree
 use Rattle.grammar.specs.Tree.{Tree}
 use Rattle.names.specs.Names.{letter, digit, nameByte}
 use Rattle.grammar.specs.Grammar.{Writes, Sum, Product, Factor}
-use Rattle.grammar.specs.Reader.{run, next, bad, stepped, expect, put, prefixKind, leafAt, sumAt, sumsAt, productAt, productsAt, factorAt}
-use Rattle.grammar.specs.Reader.{readText}
+use Rattle.grammar.specs.Reader.{run, next, bad, stepped, expect, put, prefixKind, starts, blockKind, blockBytes, blockAt, leafAt, sumAt}
+use Rattle.grammar.specs.Reader.{sumsAt, productAt, productsAt, factorAt, readText}
 use Rattle.grammar.specs.Formula.{accepted, partsOf, formulaTree, depthOf, longestOf, formulaFault}
 use Rattle.grammar.proofs.Reading.{tree-of}
 use Rattle.grammar.specs.Parts.{parts}
@@ -64,17 +64,17 @@ empty-fine = refl
 
 one-fine : formulaFault one ≡ 0
 unfolding formulaFault accepted longestOf partsOf depthOf readText sumAt sumsAt productAt productsAt factorAt leafAt next stepped put bad
-    expect prefixKind letter digit nameByte run
+    expect prefixKind starts blockKind blockBytes blockAt letter digit nameByte run
 one-fine = refl
 
 none-fine : formulaFault none ≡ 0
 unfolding formulaFault accepted longestOf partsOf depthOf readText sumAt sumsAt productAt productsAt factorAt leafAt next stepped put bad
-    expect prefixKind letter digit nameByte run
+    expect prefixKind starts blockKind blockBytes blockAt letter digit nameByte run
 none-fine = refl
 
 notOne-fine : formulaFault notOne ≡ 0
 unfolding formulaFault accepted longestOf partsOf depthOf readText sumAt sumsAt productAt productsAt factorAt leafAt next stepped put bad
-    expect prefixKind letter digit nameByte run
+    expect prefixKind starts blockKind blockBytes blockAt letter digit nameByte run
 notOne-fine = refl
 
 -- a formula is clear when its tree is, and its words are its tree's list

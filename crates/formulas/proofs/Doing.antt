@@ -12,7 +12,7 @@ use borrow.Author.Tests.{eqb-true, ltb-true, lt-ltb}
 use Rattle.names.specs.Names.{digit}
 use Rattle.grammar.specs.Reader.{State, run, next, bad, stepped, expect, put, passLength}
 use Rattle.marks.specs.Marks.{Mark, nextMark, lengthEnd}
-use Rattle.formulas.specs.Readers.{viewOf, movedMark, expectMark, lengthMark, putMark, putCode, Ready, Done}
+use Rattle.formulas.specs.Readers.{viewOf, badMark, movedMark, passMark, expectMark, lengthMark, putMark, putCode, Ready, Done}
 use Rattle.grammar.proofs.Bytes.{by-cond, never}
 use Rattle.grammar.proofs.Standing.{state-eq}
 use Rattle.grammar.proofs.Carried.{both-ways}
@@ -25,6 +25,24 @@ view-next text m code = refl
 pub view-expect : (text : List ℕ) (b : ℕ) (m : Mark) (code : List ℕ) → viewOf (expectMark text b m) code ≡ expect text b (viewOf m code)
 unfolding expectMark expect stepped bad next nextMark
 view-expect text b m code = both-ways (λ (x : Mark). viewOf x code) (eqb (nextMark text m) b) (λ e. refl) (λ e. refl)
+
+-- a byte that is passed if it is next
+module _ (text : List ℕ) (b : ℕ) (m : Mark) where
+  pub pass-is : eqb (nextMark text m) b ≡ true → passMark text b m ≡ expectMark text b m
+  unfolding passMark expectMark
+  pass-is e = rw e refl
+
+  pub pass-moves : eqb (nextMark text m) b ≡ true → passMark text b m ≡ movedMark m (m .at + 1)
+  unfolding passMark
+  pass-moves e = rw e refl
+
+  pub pass-not : eqb (nextMark text m) b ≡ false → badMark (passMark text b m) ≡ expectMark text b m
+  unfolding passMark expectMark
+  pass-not e = rw e refl
+
+  pub pass-stays : eqb (nextMark text m) b ≡ false → passMark text b m ≡ m
+  unfolding passMark
+  pass-stays e = rw e refl
 
 -- a length that is next ends after its first byte
 length-some : (text : List ℕ) (m : Mark) → digit (nextMark text m) ≡ true → ltb 0 (m .at + run digit (drop (m .at) text)) ≡ true

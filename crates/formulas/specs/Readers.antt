@@ -30,6 +30,9 @@ badMark m = record { ok = false; at = m .at; parts = m .parts; deepest = m .deep
 abbrev pub movedMark : Mark → ℕ → Mark
 movedMark m to = record { ok = m .ok; at = to; parts = m .parts; deepest = m .deepest; longest = m .longest }
 
+unfoldable pub passMark : List ℕ → ℕ → Mark → Mark
+passMark text b m = cond (eqb (nextMark text m) b) (movedMark m (m .at + 1)) m
+
 unfoldable pub expectMark : List ℕ → ℕ → Mark → Mark
 expectMark text b m = cond (eqb (nextMark text m) b) (movedMark m (m .at + 1)) (badMark m)
 

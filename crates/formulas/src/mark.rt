@@ -1,10 +1,11 @@
 // The steps of the reader of a formula that read no sum. Each leaves a bad mark as it is.
 ghost use mathlib.Core.Bool.{true};
 ghost use mathlib.Core.Path.{_≡_};
-ghost use Prim.Native.Nat.{_≤_, _<_};
+ghost use Prim.Native.Nat.{_+_, _≤_, _<_};
+ghost use lib.Dec.{eqb};
 ghost use lib.ListN.{length};
-ghost use Rattle.marks.specs.Marks.{markOf, lent};
-ghost use Rattle.formulas.specs.Readers.{Lent, Marked, badMark, movedMark, expectMark, lengthMark, putMark, putCode};
+ghost use Rattle.marks.specs.Marks.{markOf, lent, nextMark, openKind, openBytes};
+ghost use Rattle.formulas.specs.Readers.{Lent, Marked, badMark, movedMark, passMark, expectMark, lengthMark, putMark, putCode};
 use marks::AT;
 use marks::DEEPEST;
 use marks::LONGEST;
@@ -13,6 +14,8 @@ use marks::PARTS;
 use marks::larger;
 use marks::length_end;
 use marks::next;
+use marks::opening;
+use marks::opening_bytes;
 
 // Makes a mark bad.
 pub(crate) fn fail(m: &mut [usize; 5])
@@ -29,14 +32,38 @@ pub(crate) fn move_to(m: &mut [usize; 5], to: usize)
     m[AT] = to;
 }
 
+// Passes what is next and begins a factor, and gives its kind; 0 where none is, the mark then staying.
+pub(crate) fn begin(text: &[u8; 1024], bytes: usize, m: &mut [usize; 5]) -> u64
+    requires { ⌜ (length (now m) ≡ 5) × (markOf (now m) .at ≤ 1024) ⌝ }
+    ensures { λ r. ⌜ (Marked (now (m .exit)) (movedMark (markOf (now (m .entry))) (markOf (now (m .entry)) .at + openBytes r)))
+        × (r ≡ openKind (lent (now (text .entry)) bytes) (markOf (now (m .entry)))) ⌝ }
+{
+    let first = opening(text, bytes, m);
+    let at = m[AT];
+    move_to(m, at + opening_bytes(first));
+    first
+}
+
+// Passes the byte `b`, which is not 0, if it is next.
+pub(crate) fn pass(text: &[u8; 1024], bytes: usize, m: &mut [usize; 5], b: u8) -> bool
+    requires { ⌜ (length (now m) ≡ 5) × (0 < b) ⌝ }
+    ensures { λ r. ⌜ (Marked (now (m .exit)) (passMark (lent (now (text .entry)) bytes) b (markOf (now (m .entry)))))
+        × (r ≡ eqb (nextMark (lent (now (text .entry)) bytes) (markOf (now (m .entry)))) b) ⌝ }
+{
+    if next(text, bytes, m) == b {
+        let at = m[AT];
+        move_to(m, at + 1);
+        return true;
+    }
+    false
+}
+
 // Passes the byte `b`, which is not 0.
 pub(crate) fn expect(text: &[u8; 1024], bytes: usize, m: &mut [usize; 5], b: u8)
     requires { ⌜ (Lent (now text) bytes (now m)) × (0 < b) ⌝ }
     ensures { λ _. ⌜ Marked (now (m .exit)) (expectMark (lent (now (text .entry)) bytes) b (markOf (now (m .entry)))) ⌝ }
 {
-    if next(text, bytes, m) == b {
-        let at = m[AT];
-        move_to(m, at + 1);
+    if pass(text, bytes, m, b) {
         return;
     }
     fail(m);

@@ -4,16 +4,17 @@ ghost use Prim.Native.Nat.{_+_, _≤_, _<_};
 ghost use Rattle.marks.specs.Marks.{lent};
 ghost use Rattle.formulas.specs.Readers.{Begun, Left, leafWord, LeafRead, SumRead, SumsRead, ProductRead, ProductsRead};
 ghost use Rattle.formulas.specs.Readers.{FactorRead, LatchRead, TimerRead};
+use crate::mark::begin;
 use crate::mark::expect;
 use crate::mark::fail;
 use crate::mark::move_to;
+use crate::mark::pass;
 use crate::mark::pass_length;
 use crate::mark::put;
 use marks::AT;
 use marks::kind;
 use marks::leaf_end;
 use marks::next;
-use marks::prefix_kind;
 use marks::ticks;
 
 // The code word of a constant or name from `at` up to `end`, of which `b` is the first byte.
@@ -68,9 +69,7 @@ fn sums(text: &[u8; 1024], bytes: usize, code: &mut [u64; 1024], m: &mut [usize;
     ensures { λ _. ⌜ Left (SumsRead (lent (now (text .entry)) bytes) deep) (now (m .entry))
         (now (code .entry)) (now (code .exit)) (now (m .exit)) ⌝ }
 {
-    if next(text, bytes, m) == b'+' {
-        let at = m[AT];
-        move_to(m, at + 1);
+    if pass(text, bytes, m, b'+') {
         product(text, bytes, code, m, deep);
         put(code, m, kind::OR, deep, 0);
         sums(text, bytes, code, m, deep);
@@ -99,9 +98,7 @@ fn products(
     ensures { λ _. ⌜ Left (ProductsRead (lent (now (text .entry)) bytes) deep) (now (m .entry))
         (now (code .entry)) (now (code .exit)) (now (m .exit)) ⌝ }
 {
-    if next(text, bytes, m) == b'.' {
-        let at = m[AT];
-        move_to(m, at + 1);
+    if pass(text, bytes, m, b'.') {
         factor(text, bytes, code, m, deep);
         put(code, m, kind::AND, deep, 0);
         products(text, bytes, code, m, deep);
@@ -114,50 +111,29 @@ fn factor(text: &[u8; 1024], bytes: usize, code: &mut [u64; 1024], m: &mut [usiz
     ensures { λ _. ⌜ Left (FactorRead (lent (now (text .entry)) bytes) deep) (now (m .entry))
         (now (code .entry)) (now (code .exit)) (now (m .exit)) ⌝ }
 {
-    let at = m[AT];
-    let b = next(text, bytes, m);
-    let prefix = prefix_kind(b);
-    if 0 < prefix {
-        move_to(m, at + 1);
-        factor(text, bytes, code, m, deep + 1);
-        put(code, m, prefix, deep, 0);
+    let first = begin(text, bytes, m);
+    if first == 0 {
+        leaf(text, bytes, code, m, deep);
         return;
     }
-    if b == b'(' {
-        move_to(m, at + 1);
+    if first < kind::TON {
+        factor(text, bytes, code, m, deep + 1);
+        put(code, m, first, deep, 0);
+        return;
+    }
+    if first == kind::BRACKET {
         sum(text, bytes, code, m, deep + 1);
         expect(text, bytes, m, b')');
         return;
     }
-    if b == b'S' {
-        move_to(m, at + 1);
-        expect(text, bytes, m, b'R');
-        latch(text, bytes, code, m, kind::SR, deep);
+    if first < kind::AND {
+        timer(text, bytes, code, m, first, deep);
         return;
     }
-    if b == b'R' {
-        move_to(m, at + 1);
-        expect(text, bytes, m, b'S');
-        latch(text, bytes, code, m, kind::RS, deep);
-        return;
-    }
-    if b == b'T' {
-        move_to(m, at + 1);
-        expect(text, bytes, m, b'O');
-        if next(text, bytes, m) == b'N' {
-            let end = m[AT];
-            move_to(m, end + 1);
-            timer(text, bytes, code, m, kind::TON, deep);
-            return;
-        }
-        expect(text, bytes, m, b'F');
-        timer(text, bytes, code, m, kind::TOF, deep);
-        return;
-    }
-    leaf(text, bytes, code, m, deep);
+    latch(text, bytes, code, m, first, deep);
 }
 
-// (sum,sum), after SR or RS
+// sum,sum) after SR( or RS(
 fn latch(
     text: &[u8; 1024],
     bytes: usize,
@@ -170,7 +146,6 @@ fn latch(
     ensures { λ _. ⌜ Left (LatchRead (lent (now (text .entry)) bytes) part deep) (now (m .entry))
         (now (code .entry)) (now (code .exit)) (now (m .exit)) ⌝ }
 {
-    expect(text, bytes, m, b'(');
     sum(text, bytes, code, m, deep + 1);
     expect(text, bytes, m, b',');
     sum(text, bytes, code, m, deep + 1);
@@ -178,7 +153,7 @@ fn latch(
     put(code, m, part, deep, 0);
 }
 
-// (length,sum), after TON or TOF
+// length,sum) after TON( or TOF(
 fn timer(
     text: &[u8; 1024],
     bytes: usize,
@@ -191,7 +166,6 @@ fn timer(
     ensures { λ _. ⌜ Left (TimerRead (lent (now (text .entry)) bytes) part deep) (now (m .entry))
         (now (code .entry)) (now (code .exit)) (now (m .exit)) ⌝ }
 {
-    expect(text, bytes, m, b'(');
     let from = m[AT];
     pass_length(text, bytes, m);
     let to = m[AT];

@@ -8,7 +8,7 @@ use lib.Dec.{leb, eqb}
 use lib.ListN.{length, getD}
 use borrow.Author.Tests.{ne-eqb, leb-true}
 use Rattle.names.specs.Names.{allOf, letter}
-use Rattle.grammar.specs.Reader.{run, prefixKind}
+use Rattle.grammar.specs.Reader.{run, prefixKind, starts, blockKind}
 
 pub never : {A : Type 0} → _≡_ {A = Bool} false true → A
 never {A} e = absurd (let z : _≡_ {A = ℕ} 0 1 = cc in omega arith)
@@ -40,9 +40,7 @@ run-all p (b ∷ w) l e f = rw (and-left (p b) (allOf p w) e, run-all p w l (and
 pub record NotLower (b : ℕ) : Type 0 where
   pub prefix : prefixKind b ≡ 0
   pub bracket : eqb b 40 ≡ false
-  pub S : eqb b 83 ≡ false
-  pub R : eqb b 82 ≡ false
-  pub T : eqb b 84 ≡ false
+  pub block : (l : List ℕ) → blockKind (b ∷ l) ≡ 0
   pub zero : eqb b 48 ≡ false
   pub one : eqb b 49 ≡ false
 
@@ -55,16 +53,14 @@ unfolding letter
 lower-high b e = leb-true b 122 (and-right (leb 97 b) (leb b 122) e)
 
 pub lower-not : (b : ℕ) → letter b ≡ true → NotLower b
-unfolding prefixKind
+unfolding prefixKind starts blockKind
 lower-not b e =
     let low : 97 ≤ b = lower-low b e in
     let high : b ≤ 122 = lower-high b e in
     record {
       prefix = rw (ne-eqb b 33 (omega arith), ne-eqb b 94 (omega arith), ne-eqb b 126 (omega arith)) refl;
       bracket = ne-eqb b 40 (omega arith);
-      S = ne-eqb b 83 (omega arith);
-      R = ne-eqb b 82 (omega arith);
-      T = ne-eqb b 84 (omega arith);
+      block = λ l. rw (ne-eqb b 83 (omega arith), ne-eqb b 82 (omega arith), ne-eqb b 84 (omega arith)) refl;
       zero = ne-eqb b 48 (omega arith);
       one = ne-eqb b 49 (omega arith);
     }

@@ -1,6 +1,6 @@
 -- The reader puts out one thing or another for a part and goes the same way: what one run puts out is carried to what the other does.
 use Prim.Native.Nat.{ℕ, zero, suc, _+_, _*_, _≤_, max}
-use mathlib.Core.Path.{_≡_, refl, ap, _∙_}
+use mathlib.Core.Path.{_≡_, refl, sym, ap, _∙_}
 use mathlib.Core.Bool.{Bool, true, false, cond, _||_}
 use mathlib.Core.List.{List, [], _∷_, map, map-append}
 use lib.Dec.{leb, ltb, eqb}
@@ -9,9 +9,10 @@ use borrow.Author.Tests.{leb-true}
 use Rattle.names.specs.Names.{digit, letter, nameByte}
 use Rattle.grammar.specs.Kinds as kinds
 use Rattle.grammar.specs.Formula.{Kind, plainKinds}
-use Rattle.grammar.specs.Reader.{State, Emission, run, next, bad, stepped, expect, put, passLength, valueBetween, prefixKind, leafAt}
-use Rattle.grammar.specs.Reader.{timed, sumAt, sumsAt, productAt, productsAt, factorAt, latchAt, timerAt, readText, start}
-use Rattle.grammar.proofs.Bytes.{by-cond}
+use Rattle.grammar.specs.Reader.{State, Emission, run, next, bad, stepped, expect, put, passLength, valueBetween, prefixKind, starts}
+use Rattle.grammar.specs.Reader.{blockKind, blockBytes, blockAt, leafAt, timed, sumAt, sumsAt, productAt, productsAt, factorAt}
+use Rattle.grammar.specs.Reader.{latchAt, timerAt, readText, start}
+use Rattle.grammar.proofs.Bytes.{never, by-cond}
 use Rattle.grammar.proofs.Standing.{state-eq}
 
 -- the kinds that are a part by themselves, and those of timers
@@ -116,56 +117,52 @@ module _ {X Y : Type 0} (E : Emission X) (E2 : Emission Y) (f : X → Y) (g : �
       carried (timerAt E text (suc n) kind deep s) ≡ timerAt E2 text (suc n) kind deep (carried s)
   unfolding timerAt timed
   timer-more n ih kind deep e s =
-      let a = expect text 40 s in
-      let e1 : carried a ≡ expect text 40 (carried s) = expect-same 40 s in
-      let p = passLength text a in
-      let e2 : carried p ≡ passLength text (expect text 40 (carried s)) = length-same a ∙ ap (passLength text) e1 in
+      let p = passLength text s in
+      let e2 : carried p ≡ passLength text (carried s) = length-same s in
       let e3 = expect-same 44 p ∙ ap (expect text 44) e2 in
       let b = sumAt E text n (deep + 1) (expect text 44 p) in
       let e4 = ih .sum (deep + 1) (expect text 44 p) ∙ ap (sumAt E2 text n (deep + 1)) e3 in
       let e5 = expect-same 41 b ∙ ap (expect text 41) e4 in
-      let v = valueBetween text (a .at) (p .at) in
-      let q1 : a .at ≡ expect text 40 (carried s) .at = ap (λ (x : State Y). x .at) e1 in
-      let q2 : p .at ≡ passLength text (expect text 40 (carried s)) .at = ap (λ (x : State Y). x .at) e2 in
-      let ev : v ≡ valueBetween text (expect text 40 (carried s) .at) (passLength text (expect text 40 (carried s)) .at) =
-      ap (λ (i : ℕ). valueBetween text i (p .at)) q1 ∙ ap (valueBetween text (expect text 40 (carried s) .at)) q2 in
+      let v = valueBetween text (s .at) (p .at) in
+      let v2 = valueBetween text (s .at) (passLength text (carried s) .at) in
+      let ev : v ≡ v2 = ap (valueBetween text (s .at)) (ap (λ (x : State Y). x .at) e2) in
       put-same (E .timed kind v) deep (E .ticks v) (expect text 41 b)
       ∙ ap (λ (x : Y). put x deep (g (E .ticks v)) (carried (expect text 41 b))) (c .timed kind v e ∙ ap (E2 .timed kind) ev)
-      ∙ ap (λ (k : ℕ). put
-      (E2 .timed kind (valueBetween text (expect text 40 (carried s) .at) (passLength text (expect text 40 (carried s)) .at))) deep k
-      (carried (expect text 41 b))) (c .ticks v ∙ ap (E2 .ticks) ev)
-      ∙ ap (put (E2 .timed kind (valueBetween text (expect text 40 (carried s) .at) (passLength text (expect text 40 (carried s)) .at)))
-      deep (E2 .ticks (valueBetween text (expect text 40 (carried s) .at) (passLength text (expect text 40 (carried s)) .at)))) e5
+      ∙ ap (λ (k : ℕ). put (E2 .timed kind v2) deep k (carried (expect text 41 b))) (c .ticks v ∙ ap (E2 .ticks) ev)
+      ∙ ap (put (E2 .timed kind v2) deep (E2 .ticks v2)) e5
 
-  timers-more : (n : ℕ) → Same n → (deep : ℕ) (o : State X) (o2 : State Y) → carried o ≡ o2 →
-      carried (cond (eqb (next text o) 78) (timerAt E text n kinds.TON deep (stepped 1 o))
-      (timerAt E text n kinds.TOF deep (expect text 70 o)))
-      ≡ cond (eqb (next text o2) 78) (timerAt E2 text n kinds.TON deep (stepped 1 o2))
-      (timerAt E2 text n kinds.TOF deep (expect text 70 o2))
-  unfolding next stepped
-  timers-more n ih deep o o2 q =
-      rw (← q)
-      (both-ways carried (eqb (next text o) 78) (λ e. ih .timer kinds.TON deep refl (stepped 1 o))
-      (λ e. ih .timer kinds.TOF deep refl (expect text 70 o) ∙ ap (timerAt E2 text n kinds.TOF deep) (expect-same 70 o)))
+  -- a block's kind is a timer's or a part by itself
+  record BlockKind (kind : ℕ) : Type 0 where
+    timer : ltb 0 kind ≡ true → ltb kind kinds.AND ≡ true → isTimer kind ≡ true
+    latch : ltb 0 kind ≡ true → ltb kind kinds.AND ≡ false → isPlain kind ≡ true
+
+  block-kind : (s : State X) → BlockKind (blockAt text s)
+  unfolding blockAt blockKind
+  block-kind s =
+      by-cond BlockKind (s .ok)
+      (λ e. by-cond BlockKind (starts (83 ∷ 82 ∷ 40 ∷ []) (drop (s .at) text)) (λ e. record { timer = λ p q. never q; latch = λ p q. refl })
+      (λ e. by-cond BlockKind (starts (82 ∷ 83 ∷ 40 ∷ []) (drop (s .at) text)) (λ e. record { timer = λ p q. never q; latch = λ p q. refl })
+      (λ e. by-cond BlockKind (starts (84 ∷ 79 ∷ 78 ∷ 40 ∷ []) (drop (s .at) text))
+      (λ e. record { timer = λ p q. refl; latch = λ p q. never (sym q) })
+      (λ e. by-cond BlockKind (starts (84 ∷ 79 ∷ 70 ∷ 40 ∷ []) (drop (s .at) text))
+      (λ e. record { timer = λ p q. refl; latch = λ p q. never (sym q) })
+      (λ e. record { timer = λ p q. never p; latch = λ p q. never p })))))
+      (λ e. record { timer = λ p q. never p; latch = λ p q. never p })
 
   factor-more : (n : ℕ) → Same n → (deep : ℕ) (s : State X) →
       carried (factorAt E text (suc n) deep s) ≡ factorAt E2 text (suc n) deep (carried s)
-  unfolding factorAt next stepped
+  unfolding factorAt next stepped blockAt
   factor-more n ih deep s =
       both-ways carried (ltb 0 (prefixKind (next text s)))
       (λ e. plain-same (prefixKind (next text s)) deep (prefix-plain (next text s)) (factorAt E text n (deep + 1) (stepped 1 s))
       (factorAt E2 text n (deep + 1) (stepped 1 (carried s))) (ih .factor (deep + 1) (stepped 1 s)))
       (λ e. both-ways carried (eqb (next text s) 40)
       (λ e. expect-same 41 (sumAt E text n (deep + 1) (stepped 1 s)) ∙ ap (expect text 41) (ih .sum (deep + 1) (stepped 1 s)))
-      (λ e. both-ways carried (eqb (next text s) 83)
-      (λ e. ih .latch kinds.SR deep refl (expect text 82 (stepped 1 s))
-      ∙ ap (latchAt E2 text n kinds.SR deep) (expect-same 82 (stepped 1 s)))
-      (λ e. both-ways carried (eqb (next text s) 82)
-      (λ e. ih .latch kinds.RS deep refl (expect text 83 (stepped 1 s))
-      ∙ ap (latchAt E2 text n kinds.RS deep) (expect-same 83 (stepped 1 s)))
-      (λ e. both-ways carried (eqb (next text s) 84)
-      (λ e. timers-more n ih deep (expect text 79 (stepped 1 s)) (expect text 79 (stepped 1 (carried s))) (expect-same 79 (stepped 1 s)))
-      (λ e. leaf-same deep s)))))
+      (λ e. both-ways carried (ltb 0 (blockAt text s))
+      (λ pos. both-ways carried (ltb (blockAt text s) kinds.AND)
+      (λ low. ih .timer (blockAt text s) deep (block-kind s .timer pos low) (stepped (blockBytes (blockAt text s)) s))
+      (λ high. ih .latch (blockAt text s) deep (block-kind s .latch pos high) (stepped (blockBytes (blockAt text s)) s)))
+      (λ e. leaf-same deep s)))
 
   more : (n : ℕ) → Same n → Same (suc n)
   unfolding sumAt next stepped timed valueBetween
@@ -191,15 +188,14 @@ module _ {X Y : Type 0} (E : Emission X) (E2 : Emission Y) (f : X → Y) (g : �
             (λ e. refl);
         factor = λ deep s. factor-more n ih deep s;
         latch = λ kind deep e s.
-            let e1 = expect-same 40 s in
-            let e2 = ih .sum (deep + 1) (expect text 40 s) ∙ ap (sumAt E2 text n (deep + 1)) e1 in
-            let b1 = sumAt E text n (deep + 1) (expect text 40 s) in
+            let e2 = ih .sum (deep + 1) s in
+            let b1 = sumAt E text n (deep + 1) s in
             let e3 = expect-same 44 b1 ∙ ap (expect text 44) e2 in
             let e4 = ih .sum (deep + 1) (expect text 44 b1) ∙ ap (sumAt E2 text n (deep + 1)) e3 in
             let b2 = sumAt E text n (deep + 1) (expect text 44 b1) in
             let e5 = expect-same 41 b2 ∙ ap (expect text 41) e4 in
             plain-same kind deep e (expect text 41 b2)
-            (expect text 41 (sumAt E2 text n (deep + 1) (expect text 44 (sumAt E2 text n (deep + 1) (expect text 40 (carried s)))))) e5;
+            (expect text 41 (sumAt E2 text n (deep + 1) (expect text 44 (sumAt E2 text n (deep + 1) (carried s))))) e5;
         timer = λ kind deep e s. timer-more n ih kind deep e s;
       }
 

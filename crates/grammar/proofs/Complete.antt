@@ -1,5 +1,5 @@
 -- What the grammar derives, the reader reads: with the tree's parts, its depth and its longest length.
-use Prim.Native.Nat.{ℕ, zero, suc, _+_, _*_, _-_, _≤_, max}
+use Prim.Native.Nat.{ℕ, zero, suc, _+_, _*_, _-_, _≤_, _<_, max}
 use native.Mathlib.Omega.{arith}
 use mathlib.Core.Path.{_≡_, refl, ap, _∙_}
 use mathlib.Core.Bool.{Bool, true, false, not, _&&_, _||_}
@@ -15,13 +15,13 @@ use Rattle.names.specs.Names.{digit, allOf, letter, nameByte, wellNamed}
 use Rattle.texts.specs.Lengths.{isLength, value}
 use Rattle.grammar.specs.Grammar.{Sum, Product, Factor}
 use Rattle.grammar.specs.Kinds as kinds
-use Rattle.grammar.specs.Reader.{State, next, stepped, put, passLength, valueBetween, prefixKind, leafAt, timed, sumAt, sumsAt}
-use Rattle.grammar.specs.Reader.{productAt, productsAt, factorAt, latchAt, timerAt}
+use Rattle.grammar.specs.Reader.{State, stepped, put, passLength, valueBetween, prefixKind, starts, blockKind, blockBytes, leafAt}
+use Rattle.grammar.specs.Reader.{timed, sumAt, sumsAt, productAt, productsAt, factorAt, latchAt, timerAt}
 use Rattle.grammar.specs.Formula.{plainPart, timedPart, nameAt, spelled}
 use Rattle.grammar.proofs.Bytes.{never, and-left, and-right, run-all, lower-not}
-use Rattle.grammar.proofs.Standing.{state-eq, At, next-of, step-at, steps-at, expect-at, after, after-at}
-use Rattle.grammar.proofs.Branches.{Chain, Latch, Timer, plus, times, sr-latch, rs-latch, ton-timer, tof-timer}
-use Rattle.grammar.proofs.Steps.{joined, prefixed, bracketed, latched, clocked, two-letters, three-letters, regroup}
+use Rattle.grammar.proofs.Standing.{state-eq, At, next-of, step-at, steps-at, block-of, expect-at, after, after-at}
+use Rattle.grammar.proofs.Branches.{Chain, plus, times, BlockNext, latch-is, timer-is}
+use Rattle.grammar.proofs.Steps.{joined, prefixed, bracketed, latched, clocked, worded, regroup}
 
 -- a name or a number ends before these bytes
 abbrev pub NameEnds : List ℕ → Type 0
@@ -169,14 +169,14 @@ module _ (text : List ℕ) where
       (bracketed w t d deep s)
 
   pub zero-reads : ReadsFactor (48 ∷ []) (leaf down) 0
-  unfolding factorAt prefixKind leafAt put after stepped code longest
+  unfolding factorAt prefixKind starts blockKind leafAt put after stepped code longest
   zero-reads zero deep s l a f h = absurd (omega arith)
-  zero-reads (suc n) deep s l a f h = rw (next-of a, a .fine) (state-eq refl refl refl (omega arith) refl)
+  zero-reads (suc n) deep s l a f h = rw (next-of a, block-of a, a .fine) (state-eq refl refl refl (omega arith) refl)
 
   pub one-reads : ReadsFactor (49 ∷ []) (leaf up) 0
-  unfolding factorAt prefixKind leafAt put after stepped code longest
+  unfolding factorAt prefixKind starts blockKind leafAt put after stepped code longest
   one-reads zero deep s l a f h = absurd (omega arith)
-  one-reads (suc n) deep s l a f h = rw (next-of a, a .fine) (state-eq refl refl refl (omega arith) refl)
+  one-reads (suc n) deep s l a f h = rw (next-of a, block-of a, a .fine) (state-eq refl refl refl (omega arith) refl)
 
   name-step : (b : ℕ) (bs : List ℕ) → letter b ≡ true → allOf nameByte bs ≡ true → length bs ≤ 7 →
       ReadsFactor (b ∷ bs) (leaf (name (b ∷ bs))) 0
@@ -189,9 +189,8 @@ module _ (text : List ℕ) where
         next-of a,
         k .prefix,
         k .bracket,
-        k .S,
-        k .R,
-        k .T,
+        block-of a,
+        k .block (bs ++ l),
         k .zero,
         k .one,
         low,
@@ -212,25 +211,23 @@ module _ (text : List ℕ) where
       name-step b bs (and-left (letter b) (allOf nameByte bs) rest) (and-right (letter b) (allOf nameByte bs) rest)
       (omega arith) n deep s l a f h
 
-  -- a latch after its letters
+  -- a latch after its word and bracket
   pub latch-reads : (kind : ℕ) (o : Binary) → plainPart kind ≡ two o → (w v : List ℕ) (t u : Tree) (d e : ℕ) → ReadsWhole w t d →
       ReadsWhole v u e →
-      (n deep : ℕ) (s : State Part) (l : List ℕ) → At text s (40 ∷ (w ++ (44 ∷ (v ++ (41 ∷ l))))) →
-      5 * length (40 ∷ (w ++ (44 ∷ (v ++ (41 ∷ l))))) ≤ n →
-      latchAt (spelled text) text n kind deep s ≡ after (40 ∷ (w ++ (44 ∷ (v ++ (41 ∷ []))))) (binary o t u) (max d e + 1) deep s
+      (n deep : ℕ) (s : State Part) (l : List ℕ) → At text s (w ++ (44 ∷ (v ++ (41 ∷ l)))) →
+      5 * length (w ++ (44 ∷ (v ++ (41 ∷ l)))) + 5 ≤ n →
+      latchAt (spelled text) text n kind deep s ≡ after (w ++ (44 ∷ (v ++ (41 ∷ [])))) (binary o t u) (max d e + 1) deep s
   unfolding latchAt
   latch-reads kind o p w v t u d e r q zero deep s l a h = absurd (omega arith)
   latch-reads kind o p w v t u d e r q (suc n) deep s l a h =
       let h2 = length-append w (44 ∷ (v ++ (41 ∷ l))) in
-      let a2 = step-at a in
-      let a3 = after-at w t d (deep + 1) a2 in
+      let a3 = after-at w t d (deep + 1) a in
       let a4 = step-at a3 in
       let a5 = after-at v u e (deep + 1) a4 in
       rw (
-        expect-at a,
-        r n (deep + 1) (stepped 1 s) (44 ∷ (v ++ (41 ∷ l))) a2 (parted (v ++ (41 ∷ l))) (omega arith),
+        r n (deep + 1) s (44 ∷ (v ++ (41 ∷ l))) a (parted (v ++ (41 ∷ l))) (omega arith),
         expect-at a3,
-        q n (deep + 1) (stepped 1 (after w t d (deep + 1) (stepped 1 s))) (41 ∷ l) a4 (closed l) (omega arith),
+        q n (deep + 1) (stepped 1 (after w t d (deep + 1) s)) (41 ∷ l) a4 (closed l) (omega arith),
         expect-at a5,
       )
       (latched kind o p w v t u d e deep s)
@@ -255,65 +252,96 @@ module _ (text : List ℕ) where
       (and-left (allOf digit bs) (eqb (length bs) 0 || not (eqb b 48)) rest) (eqb b 48) refl
       (and-right (allOf digit bs) (eqb (length bs) 0 || not (eqb b 48)) rest) a
 
-  -- a timer after its letters
+  -- a timer after its word and bracket
   pub timer-reads : (kind : ℕ) (w v : List ℕ) (o : Unary) → timedPart kind (value w) ≡ one o → ticksOf o ≡ value w → (t : Tree) (d : ℕ) →
       isLength w ≡ true → ReadsWhole v t d →
-      (n deep : ℕ) (s : State Part) (l : List ℕ) → At text s (40 ∷ (w ++ (44 ∷ (v ++ (41 ∷ l))))) →
-      5 * length (40 ∷ (w ++ (44 ∷ (v ++ (41 ∷ l))))) ≤ n →
-      timerAt (spelled text) text n kind deep s ≡ after (40 ∷ (w ++ (44 ∷ (v ++ (41 ∷ []))))) (unary o t) (d + 1) deep s
+      (n deep : ℕ) (s : State Part) (l : List ℕ) → At text s (w ++ (44 ∷ (v ++ (41 ∷ l)))) →
+      5 * length (w ++ (44 ∷ (v ++ (41 ∷ l)))) + 5 ≤ n →
+      timerAt (spelled text) text n kind deep s ≡ after (w ++ (44 ∷ (v ++ (41 ∷ [])))) (unary o t) (d + 1) deep s
   unfolding timerAt timed stepped valueBetween
   timer-reads kind w v o p tk t d e q zero deep s l a h = absurd (omega arith)
   timer-reads kind w v o p tk t d e q (suc n) deep s l a h =
       let h2 = length-append w (44 ∷ (v ++ (41 ∷ l))) in
-      let a2 = step-at a in
-      let a3 = steps-at w a2 in
+      let a3 = steps-at w a in
       let a4 = step-at a3 in
       let a5 = after-at v t d (deep + 1) a4 in
-      let gap : (s .at + 1 + length w) - (s .at + 1) ≡ length w = omega arith in
+      let gap : (s .at + length w) - s .at ≡ length w = omega arith in
       rw (
-        expect-at a,
-        length-reads w (v ++ (41 ∷ l)) (stepped 1 s) e a2,
+        length-reads w (v ++ (41 ∷ l)) s e a,
         expect-at a3,
-        q n (deep + 1) (stepped 1 (stepped (length w) (stepped 1 s))) (41 ∷ l) a4 (closed l) (omega arith),
+        q n (deep + 1) (stepped 1 (stepped (length w) s)) (41 ∷ l) a4 (closed l) (omega arith),
         expect-at a5,
         gap,
-        a2 .left,
+        a .left,
         take-append-seam w (44 ∷ (v ++ (41 ∷ l))),
       )
       (clocked kind (value w) o p tk w v t d deep s)
 
-  pub latch-letters : (a b kind : ℕ) (o : Binary) → plainPart kind ≡ two o → ((deep : ℕ) → Latch (spelled text) text deep a b kind) →
-      (w v : List ℕ) (t u : Tree) (d e : ℕ) →
-      ReadsWhole w t d → ReadsWhole v u e → ReadsFactor (a ∷ b ∷ 40 ∷ (w ++ (44 ∷ (v ++ (41 ∷ []))))) (binary o t u) (max d e + 1)
-  latch-letters a b kind o p c w v t u d e r q zero deep s l y f h = absurd (omega arith)
-  latch-letters a b kind o p c w v t u d e r q (suc n) deep s l y f h =
-      let g = regroup w v l in
-      let h2 = ap length g in
-      let y2 : At text s (a ∷ b ∷ 40 ∷ (w ++ (44 ∷ (v ++ (41 ∷ l))))) = rw g at y in
-      c deep .is n s (next-of y)
-      ∙ rw (
-        expect-at (step-at y2),
-        latch-reads kind o p w v t u d e r q n deep (stepped 1 (stepped 1 s)) l (step-at (step-at y2)) (omega arith),
-      )
-      (two-letters a b (40 ∷ (w ++ (44 ∷ (v ++ (41 ∷ []))))) (binary o t u) (max d e + 1) deep s)
+  -- a word that begins a block of the kind
+  record Word (word : List ℕ) (kind : ℕ) : Type 0 where
+    some : 0 < kind
+    long : 3 ≤ length word
+    bytes : blockBytes kind ≡ length word
+    begins : (l : List ℕ) → (prefixKind (getD (word ++ l) 0 0) ≡ 0) × (eqb (getD (word ++ l) 0 0) 40 ≡ false) ×
+        (blockKind (word ++ l) ≡ kind)
 
-  pub timer-letters : (b kind : ℕ) (o : ℕ → Unary) → ((k : ℕ) → timedPart kind k ≡ one (o k)) → ((k : ℕ) → ticksOf (o k) ≡ k) →
-      ((deep : ℕ) → Timer (spelled text) text deep b kind) →
+  word-next : {word : List ℕ} {kind : ℕ} → Word word kind → (s : State Part) (l : List ℕ) → At text s (word ++ l) → BlockNext text s kind
+  word-next c s l a =
+      let b = c .begins l in
+      record {
+        no-prefix = ap prefixKind (next-of a) ∙ b .0;
+        no-bracket = ap (λ (x : ℕ). eqb x 40) (next-of a) ∙ b .1;
+        here = block-of a ∙ b .2;
+        some = c .some;
+      }
+
+  -- the bytes of a block and those after it, grouped
+  grouped : (word w v l : List ℕ) → (word ++ (w ++ (44 ∷ (v ++ (41 ∷ []))))) ++ l ≡ word ++ (w ++ (44 ∷ (v ++ (41 ∷ l))))
+  grouped word w v l = append-assoc word (w ++ (44 ∷ (v ++ (41 ∷ [])))) l ∙ ap (λ (x : List ℕ). word ++ x) (regroup w v l)
+
+  latch-word : (word : List ℕ) (kind : ℕ) (o : Binary) → Word word kind → kinds.AND ≤ kind → plainPart kind ≡ two o →
+      (w v : List ℕ) (t u : Tree) (d e : ℕ) →
+      ReadsWhole w t d → ReadsWhole v u e → ReadsFactor (word ++ (w ++ (44 ∷ (v ++ (41 ∷ []))))) (binary o t u) (max d e + 1)
+  latch-word word kind o c high p w v t u d e r q zero deep s l y f h = absurd (omega arith)
+  latch-word word kind o c high p w v t u d e r q (suc n) deep s l y f h =
+      let g = grouped word w v l in
+      let h2 = ap length g ∙ length-append word (w ++ (44 ∷ (v ++ (41 ∷ l)))) in
+      let y2 : At text s (word ++ (w ++ (44 ∷ (v ++ (41 ∷ l))))) = rw g at y in
+      latch-is (spelled text) deep n (word-next c s (w ++ (44 ∷ (v ++ (41 ∷ l)))) y2) high
+      ∙ ap (λ (k : ℕ). latchAt (spelled text) text n kind deep (stepped k s)) (c .bytes)
+      ∙ latch-reads kind o p w v t u d e r q n deep (stepped (length word) s) l (steps-at word y2) (omega (arith, c .long))
+      ∙ worded word (w ++ (44 ∷ (v ++ (41 ∷ [])))) (binary o t u) (max d e + 1) deep s
+
+  timer-word : (word : List ℕ) (kind : ℕ) (o : ℕ → Unary) → Word word kind → kind < kinds.AND →
+      ((k : ℕ) → timedPart kind k ≡ one (o k)) → ((k : ℕ) → ticksOf (o k) ≡ k) →
       (w v : List ℕ) (t : Tree) (d : ℕ) → isLength w ≡ true → ReadsWhole v t d →
-      ReadsFactor (84 ∷ 79 ∷ b ∷ 40 ∷ (w ++ (44 ∷ (v ++ (41 ∷ []))))) (unary (o (value w)) t) (d + 1)
-  timer-letters b kind o p tk c w v t d e q zero deep s l y f h = absurd (omega arith)
-  timer-letters b kind o p tk c w v t d e q (suc n) deep s l y f h =
-      let g = regroup w v l in
-      let h2 = ap length g in
-      let y2 : At text s (84 ∷ 79 ∷ b ∷ 40 ∷ (w ++ (44 ∷ (v ++ (41 ∷ l))))) = rw g at y in
-      let y3 = step-at (step-at y2) in
-      c deep .is n s (next-of y) (ap (next text) (expect-at (step-at y2)) ∙ next-of y3)
-      ∙ rw (
-        expect-at (step-at y2),
-        timer-reads kind w v (o (value w)) (p (value w)) (tk (value w)) t d e q n deep (stepped 1 (stepped 1 (stepped 1 s))) l
-            (step-at y3) (omega arith),
-      )
-      (three-letters 84 79 b (40 ∷ (w ++ (44 ∷ (v ++ (41 ∷ []))))) (unary (o (value w)) t) (d + 1) deep s)
+      ReadsFactor (word ++ (w ++ (44 ∷ (v ++ (41 ∷ []))))) (unary (o (value w)) t) (d + 1)
+  timer-word word kind o c low p tk w v t d e q zero deep s l y f h = absurd (omega arith)
+  timer-word word kind o c low p tk w v t d e q (suc n) deep s l y f h =
+      let g = grouped word w v l in
+      let h2 = ap length g ∙ length-append word (w ++ (44 ∷ (v ++ (41 ∷ l)))) in
+      let y2 : At text s (word ++ (w ++ (44 ∷ (v ++ (41 ∷ l))))) = rw g at y in
+      timer-is (spelled text) deep n (word-next c s (w ++ (44 ∷ (v ++ (41 ∷ l)))) y2) low
+      ∙ ap (λ (k : ℕ). timerAt (spelled text) text n kind deep (stepped k s)) (c .bytes)
+      ∙ timer-reads kind w v (o (value w)) (p (value w)) (tk (value w)) t d e q n deep (stepped (length word) s) l (steps-at word y2)
+      (omega (arith, c .long))
+      ∙ worded word (w ++ (44 ∷ (v ++ (41 ∷ [])))) (unary (o (value w)) t) (d + 1) deep s
+
+  sr-word : Word (83 ∷ 82 ∷ 40 ∷ []) kinds.SR
+  unfolding prefixKind starts blockKind blockBytes
+  sr-word = record { some = omega arith; long = omega arith; bytes = refl; begins = λ l. (refl, refl, refl) }
+
+  rs-word : Word (82 ∷ 83 ∷ 40 ∷ []) kinds.RS
+  unfolding prefixKind starts blockKind blockBytes
+  rs-word = record { some = omega arith; long = omega arith; bytes = refl; begins = λ l. (refl, refl, refl) }
+
+  ton-word : Word (84 ∷ 79 ∷ 78 ∷ 40 ∷ []) kinds.TON
+  unfolding prefixKind starts blockKind blockBytes
+  ton-word = record { some = omega arith; long = omega arith; bytes = refl; begins = λ l. (refl, refl, refl) }
+
+  tof-word : Word (84 ∷ 79 ∷ 70 ∷ 40 ∷ []) kinds.TOF
+  unfolding prefixKind starts blockKind blockBytes
+  tof-word = record { some = omega arith; long = omega arith; bytes = refl; begins = λ l. (refl, refl, refl) }
 
   -- by the rules of the grammar
   pub sum-reads : {w : List ℕ} {t : Tree} {d : ℕ} → Sum w t d → ReadsSum w t d
@@ -332,11 +360,11 @@ module _ (text : List ℕ) where
         | Factor.one ↦ one-reads
         | Factor.named {w} e ↦ named-reads w e
         | Factor.sr {w} {v} {t} {u} {d} {e} (p → h) (q →
-            k) ↦ latch-letters 83 82 kinds.SR sr refl (λ deep. sr-latch) w v t u d e (whole w t d h) (whole v u e k)
+            k) ↦ latch-word (83 ∷ 82 ∷ 40 ∷ []) kinds.SR sr sr-word (omega arith) refl w v t u d e (whole w t d h) (whole v u e k)
         | Factor.rs {w} {v} {t} {u} {d} {e} (p → h) (q →
-            k) ↦ latch-letters 82 83 kinds.RS rs refl (λ deep. rs-latch) w v t u d e (whole w t d h) (whole v u e k)
+            k) ↦ latch-word (82 ∷ 83 ∷ 40 ∷ []) kinds.RS rs rs-word (omega arith) refl w v t u d e (whole w t d h) (whole v u e k)
         | Factor.ton w {v} {t} {d} e (p →
-            h) ↦ timer-letters 78 kinds.TON ton (λ k. refl) (λ k. refl) (λ deep. ton-timer) w v t d e (whole v t d h)
+            h) ↦ timer-word (84 ∷ 79 ∷ 78 ∷ 40 ∷ []) kinds.TON ton ton-word (omega arith) (λ k. refl) (λ k. refl) w v t d e (whole v t d h)
         | Factor.tof w {v} {t} {d} e (p →
-            h) ↦ timer-letters 70 kinds.TOF tof (λ k. refl) (λ k. refl) (λ deep. tof-timer) w v t d e (whole v t d h)
+            h) ↦ timer-word (84 ∷ 79 ∷ 70 ∷ 40 ∷ []) kinds.TOF tof tof-word (omega arith) (λ k. refl) (λ k. refl) w v t d e (whole v t d h)
       ]

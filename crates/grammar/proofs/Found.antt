@@ -40,9 +40,9 @@ put-ok x deep k s h = go (s .ok) refl h
     go true z h = z
     go false z h = h
 
--- a block after its letters: what stands from its bracket on
+-- a block after its word and bracket
 abbrev pub Block : List ℕ → List ℕ → List ℕ
-Block w v = 40 ∷ (w ++ (44 ∷ (v ++ (41 ∷ []))))
+Block w v = w ++ (44 ∷ (v ++ (41 ∷ [])))
 
 module _ (text : List ℕ) where
   byte-here : (s : State Part) (b : ℕ) → s .ok ≡ true → getD text (s .at) 0 ≡ b → 0 < b → Dec (s .at < length text) →

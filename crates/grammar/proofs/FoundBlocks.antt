@@ -1,4 +1,4 @@
--- What the reader finds in a latch and in a timer, after their letters.
+-- What the reader finds in a latch and in a timer, after word and bracket.
 use Prim.Native.Nat.{ℕ, _+_, _-_}
 use native.Mathlib.Omega.{arith}
 use mathlib.Core.Path.{_≡_, refl, ap, _∙_}
@@ -19,20 +19,15 @@ use Rattle.grammar.proofs.FoundLeaves.{LengthFound}
 module _ (text : List ℕ) where
   -- the two operands of a latch, each read to its end
   pub latch-found : (o : Binary) (kind : ℕ) → plainPart kind ≡ two o → (deep : ℕ) (s b1 b2 : State Part) →
-      Found text Sum (deep + 1) (expect text 40 s) b1 → Found text Sum (deep + 1) (expect text 44 b1) b2 →
-      (l1 : List ℕ) → At text s (40 ∷ l1) → (l2 : List ℕ) → At text b1 (44 ∷ l2) → (l3 : List ℕ) → At text b2 (41 ∷ l3) →
+      Found text Sum (deep + 1) s b1 → Found text Sum (deep + 1) (expect text 44 b1) b2 →
+      (l2 : List ℕ) → At text b1 (44 ∷ l2) → (l3 : List ℕ) → At text b2 (41 ∷ l3) →
       LatchFound text o deep s (put (plainPart kind) deep 0 (expect text 41 b2))
-  latch-found o kind p deep s b1 b2 f1 f2 l1 x1 l2 x2 l3 x3 =
-      let e1 = expect-at x1 in
+  latch-found o kind p deep s b1 b2 f1 f2 l2 x2 l3 x3 =
       let e2 = expect-at x2 in
-      let a1 : At text (stepped 1 s) (f1 .bytes ++ f1 .rest) = rw e1 at (f1 .here) in
       let a2 : At text (stepped 1 b1) (f2 .bytes ++ f2 .rest) = rw e2 at (f2 .here) in
-      let q1 : l1 ≡ f1 .bytes ++ f1 .rest = same-left (step-at x1) a1 in
       let q2 : f1 .rest ≡ 44 ∷ l2 = same-left (after-at (f1 .bytes) (f1 .tree) (f1 .depth) (deep + 1) (f1 .here)) (rw (f1 .gives) at x2) in
       let q3 : l2 ≡ f2 .bytes ++ f2 .rest = same-left (step-at x2) a2 in
       let q4 : f2 .rest ≡ 41 ∷ l3 = same-left (after-at (f2 .bytes) (f2 .tree) (f2 .depth) (deep + 1) (f2 .here)) (rw (f2 .gives) at x3) in
-      let g1 : b1 ≡ after (f1 .bytes) (f1 .tree) (f1 .depth) (deep + 1) (stepped 1 s) = f1 .gives
-      ∙ ap (after (f1 .bytes) (f1 .tree) (f1 .depth) (deep + 1)) e1 in
       let g2 : b2 ≡ after (f2 .bytes) (f2 .tree) (f2 .depth) (deep + 1) (stepped 1 b1) = f2 .gives
       ∙ ap (after (f2 .bytes) (f2 .tree) (f2 .depth) (deep + 1)) e2 in
       record {
@@ -43,12 +38,12 @@ module _ (text : List ℕ) where
         d = f1 .depth;
         e = f2 .depth;
         rest = l3;
-        here = rw (regroup (f1 .bytes) (f2 .bytes) l3, ← q4, ← q3, ← q2, ← q1) x1;
+        here = rw (regroup (f1 .bytes) (f2 .bytes) l3, ← q4, ← q3, ← q2) (f1 .here);
         left = f1 .derived;
         right = f2 .derived;
         gives =
             ap (put (plainPart kind) deep 0) (expect-at x3
-            ∙ ap (stepped 1) (g2 ∙ ap (λ (x : State Part). after (f2 .bytes) (f2 .tree) (f2 .depth) (deep + 1) (stepped 1 x)) g1))
+            ∙ ap (stepped 1) (g2 ∙ ap (λ (x : State Part). after (f2 .bytes) (f2 .tree) (f2 .depth) (deep + 1) (stepped 1 x)) (f1 .gives)))
             ∙ latched kind o p (f1 .bytes) (f2 .bytes) (f1 .tree) (f2 .tree) (f1 .depth) (f2 .depth) deep s;
       }
 
@@ -60,21 +55,17 @@ module _ (text : List ℕ) where
       rw (e, gap, a .left, take-append-seam w l) refl
 
   -- the length and the operand of a timer
-  pub timer-found : (kind deep : ℕ) (s p1 b : State Part) → LengthFound text (expect text 40 s) p1 →
+  pub timer-found : (kind deep : ℕ) (s p1 b : State Part) → LengthFound text s p1 →
       Found text Sum (deep + 1) (expect text 44 p1) b →
-      (l1 : List ℕ) → At text s (40 ∷ l1) → (l2 : List ℕ) → At text p1 (44 ∷ l2) → (l3 : List ℕ) → At text b (41 ∷ l3) →
-      TimerFound text kind deep s (timed (spelled text) text kind deep (expect text 40 s .at) (p1 .at) b)
+      (l2 : List ℕ) → At text p1 (44 ∷ l2) → (l3 : List ℕ) → At text b (41 ∷ l3) →
+      TimerFound text kind deep s (timed (spelled text) text kind deep (s .at) (p1 .at) b)
   unfolding timed valueBetween
-  timer-found kind deep s p1 b g f l1 x1 l2 x2 l3 x3 =
-      let e1 = expect-at x1 in
+  timer-found kind deep s p1 b g f l2 x2 l3 x3 =
       let e2 = expect-at x2 in
-      let a1 : At text (stepped 1 s) (g .digits ++ g .rest) = rw e1 at (g .here) in
       let a2 : At text (stepped 1 p1) (f .bytes ++ f .rest) = rw e2 at (f .here) in
-      let q1 : l1 ≡ g .digits ++ g .rest = same-left (step-at x1) a1 in
       let q2 : g .rest ≡ 44 ∷ l2 = same-left (steps-at (g .digits) (g .here)) (rw (g .gives) at x2) in
       let q3 : l2 ≡ f .bytes ++ f .rest = same-left (step-at x2) a2 in
       let q4 : f .rest ≡ 41 ∷ l3 = same-left (after-at (f .bytes) (f .tree) (f .depth) (deep + 1) (f .here)) (rw (f .gives) at x3) in
-      let g1 : p1 ≡ stepped (length (g .digits)) (stepped 1 s) = g .gives ∙ ap (stepped (length (g .digits))) e1 in
       let g2 : b ≡ after (f .bytes) (f .tree) (f .depth) (deep + 1) (stepped 1 p1) = f .gives
       ∙ ap (after (f .bytes) (f .tree) (f .depth) (deep + 1)) e2 in
       record {
@@ -83,11 +74,11 @@ module _ (text : List ℕ) where
         t = f .tree;
         d = f .depth;
         rest = l3;
-        here = rw (regroup (g .digits) (f .bytes) l3, ← q4, ← q3, ← q2, ← q1) x1;
+        here = rw (regroup (g .digits) (f .bytes) l3, ← q4, ← q3, ← q2) (g .here);
         number = g .number;
         operand = f .derived;
         gives = λ o p tk.
-            let v : valueBetween text (expect text 40 s .at) (p1 .at) ≡ value (g .digits) =
-            number-here (expect text 40 s) p1 (g .digits) (g .rest) (g .here) (g .gives) in
-            rw (v, expect-at x3, g2, g1) (clocked kind (value (g .digits)) o p tk (g .digits) (f .bytes) (f .tree) (f .depth) deep s);
+            let v : valueBetween text (s .at) (p1 .at) ≡ value (g .digits) =
+            number-here s p1 (g .digits) (g .rest) (g .here) (g .gives) in
+            rw (v, expect-at x3, g2, g .gives) (clocked kind (value (g .digits)) o p tk (g .digits) (f .bytes) (f .tree) (f .depth) deep s);
       }

@@ -5,18 +5,20 @@ use mathlib.Core.Path.{_≡_, refl, sym, ap, _∙_, subst}
 use mathlib.Core.Bool.{Bool, true, false, cond}
 use mathlib.Core.List.{List, [], _∷_, _++_, append-assoc}
 use lib.Dec.{ltb, eqb}
+use lib.ListN.{length, drop}
 use borrow.Author.Tests.{eqb-true}
 use Rattle.grammar.specs.Tree.{Tree, Unary, Binary, unary, binary, invert, rise, fall, ton, tof, and, or, sr, rs}
 use Rattle.grammar.specs.Code.{Part, operand, one, two, ticksOf}
+use Rattle.names.specs.Names.{allOf}
 use Rattle.texts.specs.Lengths.{isLength, value}
 use Rattle.grammar.specs.Grammar.{Sum, Product, Factor}
 use Rattle.grammar.specs.Kinds as kinds
-use Rattle.grammar.specs.Reader.{State, next, bad, stepped, expect, put, passLength, valueBetween, prefixKind, timed, sumAt, sumsAt}
-use Rattle.grammar.specs.Reader.{productAt, productsAt, factorAt, latchAt, timerAt}
+use Rattle.grammar.specs.Reader.{State, next, bad, stepped, expect, put, passLength, valueBetween, prefixKind, starts, blockKind}
+use Rattle.grammar.specs.Reader.{blockBytes, blockAt, timed, sumAt, sumsAt, productAt, productsAt, factorAt, latchAt, timerAt}
 use Rattle.grammar.specs.Formula.{plainPart, timedPart, spelled}
 use Rattle.grammar.proofs.Bytes.{never, by-cond}
-use Rattle.grammar.proofs.Standing.{At, step-at, expect-at, after, after-at}
-use Rattle.grammar.proofs.Steps.{joined, prefixed, bracketed, two-letters, three-letters}
+use Rattle.grammar.proofs.Standing.{At, step-at, word-at, expect-at, after, after-at}
+use Rattle.grammar.proofs.Steps.{joined, prefixed, bracketed, worded}
 use Rattle.grammar.proofs.Branches.{Chain, plus, times}
 use Rattle.grammar.proofs.Found.{next-inv, same-left, moved, expect-inv, put-ok, Finds, rest-ok, Block, LatchFound, TimerFound}
 use Rattle.grammar.proofs.FoundLeaves.{length-inv, leaf-step}
@@ -97,29 +99,26 @@ module _ (text : List ℕ) where
       LatchFound text o deep s (latchAt (spelled text) text (suc n) kind deep s)
   unfolding latchAt
   latch-step n ih kind o p deep s h =
-      let b1 = sumAt (spelled text) text n (deep + 1) (expect text 40 s) in
+      let b1 = sumAt (spelled text) text n (deep + 1) s in
       let b2 = sumAt (spelled text) text n (deep + 1) (expect text 44 b1) in
       let x3 = expect-inv text b2 41 (omega arith) (put-ok (plainPart kind) deep 0 (expect text 41 b2) h) in
       let f2 = ih .sum (deep + 1) (expect text 44 b1) (x3 .1 .fine) in
       let x2 = expect-inv text b1 44 (omega arith) (f2 .here .fine) in
-      let f1 = ih .sum (deep + 1) (expect text 40 s) (x2 .1 .fine) in
-      let x1 = expect-inv text s 40 (omega arith) (f1 .here .fine) in
-      latch-found text o kind p deep s b1 b2 f1 f2 (x1 .0) (x1 .1) (x2 .0) (x2 .1) (x3 .0) (x3 .1)
+      let f1 = ih .sum (deep + 1) s (x2 .1 .fine) in
+      latch-found text o kind p deep s b1 b2 f1 f2 (x2 .0) (x2 .1) (x3 .0) (x3 .1)
 
   timer-step : (n : ℕ) → Sound n → (kind deep : ℕ) (s : State Part) → (timerAt (spelled text) text (suc n) kind deep s) .ok ≡ true →
       TimerFound text kind deep s (timerAt (spelled text) text (suc n) kind deep s)
   unfolding timerAt timed
   timer-step n ih kind deep s h =
-      let a1 = expect text 40 s in
-      let p1 = passLength text a1 in
+      let p1 = passLength text s in
       let b = sumAt (spelled text) text n (deep + 1) (expect text 44 p1) in
-      let v = valueBetween text (a1 .at) (p1 .at) in
+      let v = valueBetween text (s .at) (p1 .at) in
       let x3 = expect-inv text b 41 (omega arith) (put-ok (timedPart kind v) deep v (expect text 41 b) h) in
       let f = ih .sum (deep + 1) (expect text 44 p1) (x3 .1 .fine) in
       let x2 = expect-inv text p1 44 (omega arith) (f .here .fine) in
-      let g = length-inv text a1 (x2 .1 .fine) in
-      let x1 = expect-inv text s 40 (omega arith) (g .here .fine) in
-      timer-found text kind deep s p1 b g f (x1 .0) (x1 .1) (x2 .0) (x2 .1) (x3 .0) (x3 .1)
+      let g = length-inv text s (x2 .1 .fine) in
+      timer-found text kind deep s p1 b g f (x2 .0) (x2 .1) (x3 .0) (x3 .1)
 
   -- ! ^ ~
   prefix-found : (b kind : ℕ) (o : Unary) → prefixKind b ≡ kind → plainPart kind ≡ one o → ticksOf o ≡ 0 → 0 < b →
@@ -188,89 +187,76 @@ module _ (text : List ℕ) where
         gives = expect-at (x3 .1) ∙ ap (stepped 1) (f .gives) ∙ bracketed (f .bytes) (f .tree) (f .depth) deep s;
       }
 
-  latch-letters : (b c kind : ℕ) (o : Binary) → plainPart kind ≡ two o → 0 < b → 0 < c →
-      ((w v : List ℕ) (t u : Tree) (d e : ℕ) → Sum w t d → Sum v u e → Factor (b ∷ c ∷ Block w v) (binary o t u) (max d e + 1)) →
-      (n : ℕ) → Sound n → (deep : ℕ) (s : State Part) → next text s ≡ b →
-      Finds text Factor deep s (latchAt (spelled text) text n kind deep (expect text c (stepped 1 s)))
-  latch-letters b c kind o p pb pc make n ih deep s e h =
-      let x = next-inv text s b e pb in
-      let f = ih .latch kind o p deep (expect text c (stepped 1 s)) h in
-      let y = expect-inv text (stepped 1 s) c pc (f .here .fine) in
-      let e2 = expect-at (y .1) in
-      let q1 : x .0 ≡ c ∷ y .0 = same-left (step-at (x .1)) (y .1) in
-      let q2 : y .0 ≡ Block (f .first) (f .second) ++ f .rest = same-left (step-at (y .1)) (moved e2 (f .here)) in
+  -- a latch after the word that the bytes begin with
+  latch-word : (word : List ℕ) (kind : ℕ) (o : Binary) → plainPart kind ≡ two o →
+      ((w v : List ℕ) (t u : Tree) (d e : ℕ) → Sum w t d → Sum v u e → Factor (word ++ Block w v) (binary o t u) (max d e + 1)) →
+      allOf (ltb 0) word ≡ true → (n : ℕ) → Sound n → (deep : ℕ) (s : State Part) → s .ok ≡ true →
+      starts word (drop (s .at) text) ≡ true →
+      Finds text Factor deep s (latchAt (spelled text) text n kind deep (stepped (length word) s))
+  latch-word word kind o p make full n ih deep s fine e h =
+      let f = ih .latch kind o p deep (stepped (length word) s) h in
+      let w = Block (f .first) (f .second) in
       record {
-        bytes = b ∷ c ∷ Block (f .first) (f .second);
+        bytes = word ++ w;
         tree = binary o (f .t) (f .u);
         depth = max (f .d) (f .e) + 1;
         rest = f .rest;
-        here = subst (λ (k : List ℕ). At text s (b ∷ k)) (q1 ∙ ap (λ (k : List ℕ). c ∷ k) q2) (x .1);
+        here = rw (append-assoc word w (f .rest)) (word-at word full fine e (f .here));
         derived = make (f .first) (f .second) (f .t) (f .u) (f .d) (f .e) (f .left) (f .right);
-        gives = f .gives ∙ ap (after (Block (f .first) (f .second)) (binary o (f .t) (f .u)) (max (f .d) (f .e) + 1) deep) e2
-            ∙ two-letters b c (Block (f .first) (f .second)) (binary o (f .t) (f .u)) (max (f .d) (f .e) + 1) deep s;
+        gives = f .gives ∙ worded word w (binary o (f .t) (f .u)) (max (f .d) (f .e) + 1) deep s;
       }
 
-  -- a timer whose three letters end in c
-  timer-letters : (c kind : ℕ) (o : ℕ → Unary) → ((n : ℕ) → timedPart kind n ≡ one (o n)) → ((n : ℕ) → ticksOf (o n) ≡ n) →
-      ((w v : List ℕ) (t : Tree) (d : ℕ) → isLength w ≡ true → Sum v t d →
-      Factor (84 ∷ 79 ∷ c ∷ Block w v) (unary (o (value w)) t) (d + 1)) →
-      (n : ℕ) → Sound n → (deep : ℕ) (s r : State Part) → next text s ≡ 84 →
-      (l1 : List ℕ) → At text (stepped 1 s) (79 ∷ l1) → (l2 : List ℕ) → At text (stepped 1 (stepped 1 s)) (c ∷ l2) →
-      r ≡ stepped 1 (stepped 1 (stepped 1 s)) → Finds text Factor deep s (timerAt (spelled text) text n kind deep r)
-  timer-letters c kind o p tk make n ih deep s r e l1 x1 l2 x2 er h =
-      let x = next-inv text s 84 e (omega arith) in
-      let f = ih .timer kind deep r h in
+  timer-word : (word : List ℕ) (kind : ℕ) (o : ℕ → Unary) → ((n : ℕ) → timedPart kind n ≡ one (o n)) → ((n : ℕ) → ticksOf (o n) ≡ n) →
+      ((w v : List ℕ) (t : Tree) (d : ℕ) → isLength w ≡ true → Sum v t d → Factor (word ++ Block w v) (unary (o (value w)) t) (d + 1)) →
+      allOf (ltb 0) word ≡ true → (n : ℕ) → Sound n → (deep : ℕ) (s : State Part) → s .ok ≡ true →
+      starts word (drop (s .at) text) ≡ true →
+      Finds text Factor deep s (timerAt (spelled text) text n kind deep (stepped (length word) s))
+  timer-word word kind o p tk make full n ih deep s fine e h =
+      let f = ih .timer kind deep (stepped (length word) s) h in
       let op = o (value (f .digits)) in
       let w = Block (f .digits) (f .body) in
-      let q1 : x .0 ≡ 79 ∷ l1 = same-left (step-at (x .1)) x1 in
-      let q2 : l1 ≡ c ∷ l2 = same-left (step-at x1) x2 in
-      let q3 : l2 ≡ w ++ f .rest = same-left (step-at x2) (moved er (f .here)) in
       record {
-        bytes = 84 ∷ 79 ∷ c ∷ w;
+        bytes = word ++ w;
         tree = unary op (f .t);
         depth = f .d + 1;
         rest = f .rest;
-        here = subst (λ (k : List ℕ). At text s (84 ∷ k)) (q1 ∙ ap (λ (k : List ℕ). 79 ∷ k) (q2 ∙ ap (λ (k : List ℕ). c ∷ k) q3)) (x .1);
+        here = rw (append-assoc word w (f .rest)) (word-at word full fine e (f .here));
         derived = make (f .digits) (f .body) (f .t) (f .d) (f .number) (f .operand);
-        gives = f .gives op (p (value (f .digits))) (tk (value (f .digits))) ∙ ap (after w (unary op (f .t)) (f .d + 1) deep) er
-            ∙ three-letters 84 79 c w (unary op (f .t)) (f .d + 1) deep s;
+        gives = f .gives op (p (value (f .digits))) (tk (value (f .digits))) ∙ worded word w (unary op (f .t)) (f .d + 1) deep s;
       }
 
-  timers-step : (n : ℕ) → Sound n → (deep : ℕ) (s : State Part) → next text s ≡ 84 →
-      Finds text Factor deep s
-      (cond (eqb (next text (expect text 79 (stepped 1 s))) 78)
-      (timerAt (spelled text) text n kinds.TON deep (stepped 1 (expect text 79 (stepped 1 s))))
-      (timerAt (spelled text) text n kinds.TOF deep (expect text 70 (expect text 79 (stepped 1 s)))))
-  unfolding timedPart
-  timers-step n ih deep s e =
-      by-cond (Finds text Factor deep s) (eqb (next text (expect text 79 (stepped 1 s))) 78)
-      (λ z h.
-      let y = next-inv text (expect text 79 (stepped 1 s)) 78 (eqb-true (next text (expect text 79 (stepped 1 s))) 78 z) (omega arith) in
-      let x = expect-inv text (stepped 1 s) 79 (omega arith) (y .1 .fine) in
-      let e2 = expect-at (x .1) in
-      timer-letters 78 kinds.TON ton (λ n. refl) (λ n. refl) (λ w v t d a b. Factor.ton w a b) n ih deep s
-      (stepped 1 (expect text 79 (stepped 1 s))) e (x .0) (x .1) (y .0) (moved e2 (y .1)) (ap (stepped 1) e2) h)
-      (λ z h.
-      let g = ih .timer kinds.TOF deep (expect text 70 (expect text 79 (stepped 1 s))) h in
-      let y = expect-inv text (expect text 79 (stepped 1 s)) 70 (omega arith) (g .here .fine) in
-      let x = expect-inv text (stepped 1 s) 79 (omega arith) (y .1 .fine) in
-      let e2 = expect-at (x .1) in
-      timer-letters 70 kinds.TOF tof (λ n. refl) (λ n. refl) (λ w v t d a b. Factor.tof w a b) n ih deep s
-      (expect text 70 (expect text 79 (stepped 1 s))) e (x .0) (x .1) (y .0) (moved e2 (y .1)) (expect-at (y .1) ∙ ap (stepped 1) e2) h)
+  -- what is read after the word of a block of the kind
+  abbrev block : ℕ → ℕ → State Part → ℕ → State Part
+  block n deep s kind =
+      cond (ltb kind kinds.AND) (timerAt (spelled text) text n kind deep (stepped (blockBytes kind) s))
+      (latchAt (spelled text) text n kind deep (stepped (blockBytes kind) s))
+
+  abbrev BlockFinds : ℕ → ℕ → State Part → ℕ → Type 0
+  BlockFinds n deep s kind = ltb 0 kind ≡ true → Finds text Factor deep s (block n deep s kind)
+
+  block-step : (n : ℕ) → Sound n → (deep : ℕ) (s : State Part) → BlockFinds n deep s (blockAt text s)
+  unfolding blockAt blockKind blockBytes timedPart allOf
+  block-step n ih deep s =
+      by-cond (BlockFinds n deep s) (s .ok)
+      (λ fine. by-cond (BlockFinds n deep s) (starts (83 ∷ 82 ∷ 40 ∷ []) (drop (s .at) text))
+      (λ e pos. latch-word (83 ∷ 82 ∷ 40 ∷ []) kinds.SR sr refl (λ w v t u d e a b. Factor.sr a b) refl n ih deep s fine e)
+      (λ e1. by-cond (BlockFinds n deep s) (starts (82 ∷ 83 ∷ 40 ∷ []) (drop (s .at) text))
+      (λ e pos. latch-word (82 ∷ 83 ∷ 40 ∷ []) kinds.RS rs refl (λ w v t u d e a b. Factor.rs a b) refl n ih deep s fine e)
+      (λ e2. by-cond (BlockFinds n deep s) (starts (84 ∷ 79 ∷ 78 ∷ 40 ∷ []) (drop (s .at) text))
+      (λ e pos. timer-word (84 ∷ 79 ∷ 78 ∷ 40 ∷ []) kinds.TON ton (λ n. refl) (λ n. refl) (λ w v t d a b. Factor.ton w a b) refl n ih
+      deep s fine e)
+      (λ e3. by-cond (BlockFinds n deep s) (starts (84 ∷ 79 ∷ 70 ∷ 40 ∷ []) (drop (s .at) text))
+      (λ e pos. timer-word (84 ∷ 79 ∷ 70 ∷ 40 ∷ []) kinds.TOF tof (λ n. refl) (λ n. refl) (λ w v t d a b. Factor.tof w a b) refl n ih
+      deep s fine e)
+      (λ e4 pos. never pos)))))
+      (λ bad pos. never pos)
 
   factor-step : (n : ℕ) → Sound n → (deep : ℕ) (s : State Part) → Finds text Factor deep s (factorAt (spelled text) text (suc n) deep s)
   unfolding factorAt
   factor-step n ih deep s =
       by-cond (Finds text Factor deep s) (ltb 0 (prefixKind (next text s))) (prefix-step n ih deep s)
       (λ e1. by-cond (Finds text Factor deep s) (eqb (next text s) 40) (λ e. brackets-step n ih deep s (eqb-true (next text s) 40 e))
-      (λ e2. by-cond (Finds text Factor deep s) (eqb (next text s) 83)
-      (λ e. latch-letters 83 82 kinds.SR sr refl (omega arith) (omega arith) (λ w v t u d e a b. Factor.sr a b) n ih deep s
-      (eqb-true (next text s) 83 e))
-      (λ e3. by-cond (Finds text Factor deep s) (eqb (next text s) 82)
-      (λ e. latch-letters 82 83 kinds.RS rs refl (omega arith) (omega arith) (λ w v t u d e a b. Factor.rs a b) n ih deep s
-      (eqb-true (next text s) 82 e))
-      (λ e4. by-cond (Finds text Factor deep s) (eqb (next text s) 84) (λ e. timers-step n ih deep s (eqb-true (next text s) 84 e))
-      (λ e5. leaf-step text deep s)))))
+      (λ e2. by-cond (Finds text Factor deep s) (ltb 0 (blockAt text s)) (block-step n ih deep s) (λ e3. leaf-step text deep s)))
 
   sound : (n : ℕ) → Sound n
   sound zero = none

@@ -29,8 +29,8 @@ unfolding after stepped
 bracketed w t d deep s = state-eq refl (omega (arith, length-append w (41 ∷ []))) refl (omega arith) refl
 
 pub latched : (kind : ℕ) (o : Binary) → plainPart kind ≡ two o → (w v : List ℕ) (t u : Tree) (d e deep : ℕ) (s : State Part) →
-    put (plainPart kind) deep 0 (stepped 1 (after v u e (deep + 1) (stepped 1 (after w t d (deep + 1) (stepped 1 s)))))
-    ≡ after (40 ∷ (w ++ (44 ∷ (v ++ (41 ∷ []))))) (binary o t u) (max d e + 1) deep s
+    put (plainPart kind) deep 0 (stepped 1 (after v u e (deep + 1) (stepped 1 (after w t d (deep + 1) s))))
+    ≡ after (w ++ (44 ∷ (v ++ (41 ∷ [])))) (binary o t u) (max d e + 1) deep s
 unfolding put after stepped code longest
 latched kind o p w v t u d e deep s =
     state-eq refl (omega (arith, length-append w (44 ∷ (v ++ (41 ∷ []))), length-append v (41 ∷ [])))
@@ -38,23 +38,18 @@ latched kind o p w v t u d e deep s =
 
 pub clocked : (kind n : ℕ) (o : Unary) → timedPart kind n ≡ one o → ticksOf o ≡ n →
     (w v : List ℕ) (t : Tree) (d deep : ℕ) (s : State Part) →
-    put (timedPart kind n) deep n (stepped 1 (after v t d (deep + 1) (stepped 1 (stepped (length w) (stepped 1 s)))))
-    ≡ after (40 ∷ (w ++ (44 ∷ (v ++ (41 ∷ []))))) (unary o t) (d + 1) deep s
+    put (timedPart kind n) deep n (stepped 1 (after v t d (deep + 1) (stepped 1 (stepped (length w) s))))
+    ≡ after (w ++ (44 ∷ (v ++ (41 ∷ [])))) (unary o t) (d + 1) deep s
 unfolding put after stepped code longest
 clocked kind n o p tk w v t d deep s =
     state-eq refl (omega (arith, length-append w (44 ∷ (v ++ (41 ∷ []))), length-append v (41 ∷ [])))
     (rw p (append-assoc (s .out) (code t) (one o ∷ []))) (omega arith) (omega arith)
 
--- letters before a block's bracket
-pub two-letters : (a b : ℕ) (x : List ℕ) (t : Tree) (d deep : ℕ) (s : State Part) →
-    after x t d deep (stepped 1 (stepped 1 s)) ≡ after (a ∷ b ∷ x) t d deep s
+-- a block after its word and bracket
+pub worded : (w x : List ℕ) (t : Tree) (d deep : ℕ) (s : State Part) →
+    after x t d deep (stepped (length w) s) ≡ after (w ++ x) t d deep s
 unfolding after stepped
-two-letters a b x t d deep s = state-eq refl (omega arith) refl refl refl
-
-pub three-letters : (a b c : ℕ) (x : List ℕ) (t : Tree) (d deep : ℕ) (s : State Part) →
-    after x t d deep (stepped 1 (stepped 1 (stepped 1 s))) ≡ after (a ∷ b ∷ c ∷ x) t d deep s
-unfolding after stepped
-three-letters a b c x t d deep s = state-eq refl (omega arith) refl refl refl
+worded w x t d deep s = state-eq refl (omega (arith, length-append w x)) refl refl refl
 
 pub regroup : (w v l : List ℕ) → (w ++ (44 ∷ (v ++ (41 ∷ [])))) ++ l ≡ w ++ (44 ∷ (v ++ (41 ∷ l)))
 regroup w v l = append-assoc w (44 ∷ (v ++ (41 ∷ []))) l ∙ ap (λ (x : List ℕ). w ++ (44 ∷ x)) (append-assoc v (41 ∷ []) l)

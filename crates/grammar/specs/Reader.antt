@@ -1,6 +1,6 @@
 -- Mirrored: A reader that computes: sum, product and factor readers by fuel. Tied to what is believed by `ReaderExact`.
 use Prim.Native.Nat.{ℕ, zero, suc, _+_, _*_, _-_, max}
-use mathlib.Core.Bool.{Bool, true, false, cond}
+use mathlib.Core.Bool.{Bool, true, false, cond, _&&_}
 use mathlib.Core.List.{List, [], _∷_, _++_}
 use lib.Dec.{leb, ltb, eqb}
 use lib.ListN.{length, getD, take, drop}
@@ -64,6 +64,26 @@ valueBetween text a e = value (take (e - a) (drop a text))
 unfoldable pub prefixKind : ℕ → ℕ
 prefixKind b = cond (eqb b 33) kinds.NOT (cond (eqb b 94) kinds.RISING (cond (eqb b 126) kinds.FALLING 0))
 
+-- whether bytes begin with a word, none of whose bytes is 0
+unfoldable pub starts : List ℕ → List ℕ → Bool
+starts [] l = true
+starts (b ∷ w) l = eqb (getD l 0 0) b && starts w (drop 1 l)
+
+-- the kind of the block that bytes begin, by its word and bracket: SR( RS( TON( TOF(; 0 for none
+unfoldable pub blockKind : List ℕ → ℕ
+blockKind l =
+    cond (starts (83 ∷ 82 ∷ 40 ∷ []) l) kinds.SR
+    (cond (starts (82 ∷ 83 ∷ 40 ∷ []) l) kinds.RS
+    (cond (starts (84 ∷ 79 ∷ 78 ∷ 40 ∷ []) l) kinds.TON (cond (starts (84 ∷ 79 ∷ 70 ∷ 40 ∷ []) l) kinds.TOF 0)))
+
+-- how many bytes the word and bracket of a block have, by its kind
+unfoldable pub blockBytes : ℕ → ℕ
+blockBytes kind = cond (ltb kind kinds.AND) 4 3
+
+-- the kind of the block that is next; 0 for none and when all is not well
+unfoldable pub blockAt : {X : Type 0} → List ℕ → State X → ℕ
+blockAt text s = cond (s .ok) (blockKind (drop (s .at) text)) 0
+
 module _ {X : Type 0} (E : Emission X) (text : List ℕ) where
   -- 0, 1 and names
   unfoldable pub leafAt : ℕ → State X → State X
@@ -106,27 +126,24 @@ module _ {X : Type 0} (E : Emission X) (text : List ℕ) where
         (put (E .plain (prefixKind (next text s))) deep 0 (factorAt n (deep + 1) (stepped 1 s)))
         (cond (eqb (next text s) 40)
         (expect text 41 (sumAt n (deep + 1) (stepped 1 s)))
-        (cond (eqb (next text s) 83)
-        (latchAt n kinds.SR deep (expect text 82 (stepped 1 s)))
-        (cond (eqb (next text s) 82)
-        (latchAt n kinds.RS deep (expect text 83 (stepped 1 s)))
-        (cond (eqb (next text s) 84)
-        (cond (eqb (next text (expect text 79 (stepped 1 s))) 78)
-        (timerAt n kinds.TON deep (stepped 1 (expect text 79 (stepped 1 s))))
-        (timerAt n kinds.TOF deep (expect text 70 (expect text 79 (stepped 1 s)))))
-        (leafAt deep s)))))
+        (cond (ltb 0 (blockAt text s))
+        (cond (ltb (blockAt text s) kinds.AND)
+        (timerAt n (blockAt text s) deep (stepped (blockBytes (blockAt text s)) s))
+        (latchAt n (blockAt text s) deep (stepped (blockBytes (blockAt text s)) s)))
+        (leafAt deep s)))
+
+    -- after the word and bracket: sum,sum) of a latch, length,sum) of a timer
 
     pub latchAt : ℕ → ℕ → ℕ → State X → State X
     latchAt zero kind deep s = bad s
     latchAt (suc n) kind deep s =
         put (E .plain kind) deep 0
-        (expect text 41 (sumAt n (deep + 1) (expect text 44 (sumAt n (deep + 1) (expect text 40 s)))))
+        (expect text 41 (sumAt n (deep + 1) (expect text 44 (sumAt n (deep + 1) s))))
 
     pub timerAt : ℕ → ℕ → ℕ → State X → State X
     timerAt zero kind deep s = bad s
     timerAt (suc n) kind deep s =
-        timed kind deep (expect text 40 s .at) (passLength text (expect text 40 s) .at)
-        (sumAt n (deep + 1) (expect text 44 (passLength text (expect text 40 s))))
+        timed kind deep (s .at) (passLength text s .at) (sumAt n (deep + 1) (expect text 44 (passLength text s)))
 
 -- at the first byte, with nothing put out
 abbrev pub start : {X : Type 0} → State X

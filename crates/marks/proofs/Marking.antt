@@ -4,14 +4,17 @@ use native.Mathlib.Omega.{arith}
 use native.Mathlib.Decide.{decLt}
 use native.Mathlib.Numerals.{add-one}
 use mathlib.Core.Path.{_≡_, refl, sym, ap, _∙_}
-use mathlib.Core.Bool.{Bool, true, false, cond}
+use mathlib.Core.Bool.{Bool, true, false, cond, _&&_}
+use lib.Dec.{eqb}
+use borrow.Author.Tests.{eq-eqb, ne-eqb}
 use mathlib.Core.List.{List, [], _∷_}
 use lib.ListN.{length, getD, take, drop, List·getD-eq-default, drop-of-length-le, length-drop, length-take}
-use lib.Seq.{drop-cons, take-suc, getD-drop, getD-take}
+use lib.Seq.{drop-cons, drop-drop, take-suc, getD-drop, getD-take}
+use native.Mathlib.Nat.{add-zero}
 use Rattle.signals.specs.Moment.{M}
 use Rattle.names.specs.Names.{letter, digit, nameByte}
 use Rattle.texts.specs.Lengths.{value, valueFrom}
-use Rattle.grammar.specs.Reader.{run, valueBetween}
+use Rattle.grammar.specs.Reader.{run, valueBetween, starts}
 use Rattle.texts.specs.Lengths.{capped}
 use Rattle.marks.specs.Marks.{Mark, lent, classOf, nextMark, numberAt}
 use Rattle.grammar.proofs.Bytes.{never}
@@ -144,3 +147,26 @@ lent-byte page bytes i h = getD-take (min bytes 1024) page i 0 h
 
 pub lent-end : (page : List ℕ) (bytes i : ℕ) → min bytes 1024 ≤ i → getD (lent page bytes) i 0 ≡ 0
 lent-end page bytes i h = List·getD-eq-default (lent page bytes) 0 (omega (arith, lent-most page bytes))
+
+pub lent-after : (page : List ℕ) (bytes at k : ℕ) → at + k < min bytes 1024 → getD page (at + k) 0 ≡ getD (drop at (lent page bytes)) k 0
+lent-after page bytes at k h = sym (getD-drop at (lent page bytes) k 0 ∙ lent-byte page bytes (at + k) h)
+
+pub lent-past : (page : List ℕ) (bytes at k : ℕ) → min bytes 1024 ≤ at + k → 0 ≡ getD (drop at (lent page bytes)) k 0
+lent-past page bytes at k h = sym (getD-drop at (lent page bytes) k 0 ∙ lent-end page bytes (at + k) h)
+
+-- a word goes on, fails, or ends
+starts-from : (w l : List ℕ) (i : ℕ) → i < length w →
+    starts (drop i w) (drop i l) ≡ eqb (getD l i 0) (getD w i 0) && starts (drop (i + 1) w) (drop (i + 1) l)
+unfolding starts
+starts-from w l i h = rw (drop-cons w i 0 h, getD-drop i l 0 0, add-zero, drop-drop 1 i l, add-one) refl
+
+pub starts-on : (w l : List ℕ) (i : ℕ) → i < length w → getD l i 0 ≡ getD w i 0 →
+    starts (drop i w) (drop i l) ≡ starts (drop (i + 1) w) (drop (i + 1) l)
+starts-on w l i h e = starts-from w l i h ∙ rw (eq-eqb _ _ e) refl
+
+pub starts-off : (w l : List ℕ) (i : ℕ) → i < length w → (getD l i 0 ≡ getD w i 0 → ⊥) → starts (drop i w) (drop i l) ≡ false
+starts-off w l i h e = starts-from w l i h ∙ rw (ne-eqb _ _ e) refl
+
+pub starts-end : (w l : List ℕ) (i : ℕ) → length w ≤ i → starts (drop i w) l ≡ true
+unfolding starts
+starts-end w l i h = rw (drop-of-length-le w {i = i} h) refl

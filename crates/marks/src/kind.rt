@@ -26,3 +26,6 @@ pub const RS: u64 = 11;
 
 // How many kinds there are.
 pub const KINDS: u64 = 12;
+
+// An open bracket: no kind of a part, but one of what begins a factor.
+pub const BRACKET: u64 = 16;

@@ -2,18 +2,18 @@
 -- 5 × (bytes left) + (open depth) + (the reader's level).
 use Prim.Native.Nat.{ℕ, _+_, _*_, _-_, _<_}
 use native.Mathlib.Omega.{arith}
-use borrow.Author.Tests.{ne-eqb}
-use mathlib.Core.Path.{sym, ap, _∙_}
+use borrow.Author.Tests.{eqb-true}
+use mathlib.Core.Path.{refl, sym, ap, _∙_}
 use lib.ListN.{length}
 use borrow.Author.Needs.{needs}
 use Rattle.texts.specs.Lengths.{capped}
 use Rattle.marks.specs.Marks.{Mark, markOf, lent}
 use Rattle.marks.proofs.Marking.{capped-most}
 use Rattle.formulas.proofs.Lending.{lent-on, text-long, number-lent}
-use Rattle.formulas.proofs.Doing.{passed, inner-needs}
+use Rattle.formulas.proofs.Doing.{pass-moves, pass-stays, passed, starting, turned, inner-needs}
 use Rattle.formulas.proofs.ReaderPaths as paths
 use Rattle.formulas.proofs.ReaderChains as chains
-use Rattle.grammar.proofs.Branches.{plus, times, sr-latch, rs-latch}
+use Rattle.grammar.proofs.Branches.{plus, times}
 use borrow.Fn.Kinds.{In}
 use borrow.Fn.PlainCycle.{Measures, is, falls, and}
 use Rattle.formulas.proofs.reader.factor.Reads as factor
@@ -37,11 +37,10 @@ use Rattle.formulas.proofs.reader.+factor+latch+product+products+sum+su
 use Rattle.formulas.proofs.reader.timer.Reads as timer
 use Rattle.formulas.proofs.reader.timer.Kinds as timer-kinds
 use Rattle.formulas.proofs.reader.+factor+latch+product+products+sum+sums+timer.Lts-timer as timer-lts
+use Rattle.formulas.proofs.mark.begin.Reads as begin-reads
 use Rattle.formulas.proofs.mark.expect.Reads as expect-reads
-use Rattle.formulas.proofs.mark.move_to.Reads as move-to-reads
-use Rattle.marks.proofs.next.Reads as next-reads
+use Rattle.formulas.proofs.mark.pass.Reads as pass-reads
 use Rattle.formulas.proofs.mark.pass_length.Reads as pass-length-reads
-use Rattle.marks.proofs.prefix_kind.Reads as prefix-kind-reads
 use Rattle.formulas.proofs.mark.put.Reads as put-reads
 use Rattle.marks.proofs.ticks.Reads as ticks-reads
 use Rattle.formulas.proofs.reader.leaf.Reads as leaf-reads
@@ -114,12 +113,10 @@ timer-below t = and 3 timer-kinds.ps (falls 3 timer-kinds.ps _<_ μ-timer t) tim
 
 abbrev factor-calls : ℕ → factor-lts.Claims
 factor-calls t = (
-  next-reads.Asked,
-  next-reads.Learnt,
-  prefix-kind-reads.Asked,
-  prefix-kind-reads.Learnt,
-  move-to-reads.Asked,
-  move-to-reads.Learnt,
+  begin-reads.Asked,
+  begin-reads.Learnt,
+  leaf-reads.Asked,
+  leaf-reads.Learnt,
   factor-below t,
   factor.Post,
   put-reads.Asked,
@@ -128,412 +125,207 @@ factor-calls t = (
   sum.Post,
   expect-reads.Asked,
   expect-reads.Learnt,
-  latch-below t,
-  latch.Post,
   timer-below t,
   timer.Post,
-  leaf-reads.Asked,
-  leaf-reads.Learnt,
+  latch-below t,
+  latch.Post,
 )
 
 abbrev latch-calls : ℕ → latch-lts.Claims
-latch-calls t = (expect-reads.Asked, expect-reads.Learnt, sum-below t, sum.Post, put-reads.Asked, put-reads.Learnt)
+latch-calls t = (sum-below t, sum.Post, expect-reads.Asked, expect-reads.Learnt, put-reads.Asked, put-reads.Learnt)
 
 abbrev product-calls : ℕ → product-lts.Claims
 product-calls t = (factor-below t, factor.Post, products-below t, products.Post)
 
 abbrev products-calls : ℕ → products-lts.Claims
-products-calls t = (
-  next-reads.Asked,
-  next-reads.Learnt,
-  move-to-reads.Asked,
-  move-to-reads.Learnt,
-  factor-below t,
-  factor.Post,
-  put-reads.Asked,
-  put-reads.Learnt,
-  products-below t,
-  products.Post,
-)
+products-calls t =
+    (pass-reads.Asked, pass-reads.Learnt, factor-below t, factor.Post, put-reads.Asked, put-reads.Learnt, products-below t, products.Post)
 
 abbrev sum-calls : ℕ → sum-lts.Claims
 sum-calls t = (product-below t, product.Post, sums-below t, sums.Post)
 
 abbrev sums-calls : ℕ → sums-lts.Claims
-sums-calls t = (
-  next-reads.Asked,
-  next-reads.Learnt,
-  move-to-reads.Asked,
-  move-to-reads.Learnt,
-  product-below t,
-  product.Post,
-  put-reads.Asked,
-  put-reads.Learnt,
-  sums-below t,
-  sums.Post,
-)
+sums-calls t =
+    (pass-reads.Asked, pass-reads.Learnt, product-below t, product.Post, put-reads.Asked, put-reads.Learnt, sums-below t, sums.Post)
 
 abbrev timer-calls : ℕ → timer-lts.Claims
 timer-calls t = (
-  expect-reads.Asked,
-  expect-reads.Learnt,
   pass-length-reads.Asked,
   pass-length-reads.Learnt,
   ticks-reads.Asked,
   ticks-reads.Learnt,
+  expect-reads.Asked,
+  expect-reads.Learnt,
   sum-below t,
   sum.Post,
   put-reads.Asked,
   put-reads.Learnt,
 )
 
--- past the byte b at the front of a factor, at x
-abbrev Factor-step : (t : ℕ) → factor-lts.Start (factor-calls t) (factor-at t) factor.Post → ℕ → Mark → Type 0
-Factor-step t s b x =
-    paths.Step (lent (s .args .text .now) (s .args .bytes)) (s .args .code .now) (markOf (s .args .m .now)) (s .args .deep) 2 t b x
+-- a factor's opening is passed
+factor-open : (t : ℕ) (c : factor-lts.After-begin (factor-calls t) (factor-at t) factor.Post) →
+    let s = c .before .before in
+    paths.Opening (lent (s .args .text .now) (s .args .bytes)) (s .args .code .now) (markOf (s .args .m .now)) (s .args .deep) t
+    (c .begin .result) (markOf (c .begin .last .1 .1 .0))
+factor-open t c =
+    let s = c .before .before in
+    record { ready = s .pre .1 .1; falls = s .pre .0; kind = c .begin .ensures .1; moved = c .begin .ensures .0 .1 }
 
-factor-add-move-to : (t : ℕ) → factor-lts.Need-add-move-to (factor-calls t) (factor-at t) factor.Post
-unfolding markOf
-factor-add-move-to t c =
-    let g = c .before .before .before .before .before .before .pre .1 .1 in omega (arith, g .within, g .short)
+factor-begin-requires : (t : ℕ) → factor-lts.Need-begin-requires (factor-calls t) (factor-at t) factor.Post
+factor-begin-requires t c κs =
+    let s = c .before in (s .pre .1 .0 .five, omega (arith, s .pre .1 .1 .within, s .pre .1 .1 .short))
+
+factor-leaf-requires : (t : ℕ) → factor-lts.Need-leaf-requires (factor-calls t) (factor-at t) factor.Post
+factor-leaf-requires t c κs =
+    let b = c .before .before .before in
+    let s = b .before .before in
+    (lent-on (s .pre .1 .0) (b .begin .ensures .0 .0), paths.leaf-needs (factor-open t b) (c .before .before .if1 .taken))
+
+factor-returns : (t : ℕ) → factor-lts.Need-returns (factor-calls t) (factor-at t) factor.Post
+factor-returns t c =
+    let b = c .before .before .before .before in
+    (c .leaf .ensures .0, paths.leaf-path (factor-open t b) (c .before .before .before .if1 .taken) (c .leaf .ensures .1))
 
 factor-add-factor : (t : ℕ) → factor-lts.Need-add-factor (factor-calls t) (factor-at t) factor.Post
 factor-add-factor t c =
-    let s = c .before .before .before .before .before .before .before .before .before in
-    let g = s .pre .1 .1 in omega (arith, g .opened, g .within, g .short)
-
-prefix-step : (t : ℕ) (c : factor-lts.After-move-to (factor-calls t) (factor-at t) factor.Post) →
-    Factor-step t (c .before .before .before .before .before .before .before) (c .before .before .before .before .next .result)
-    (markOf (c .move-to .last .0))
-unfolding markOf
-prefix-step t c =
-    let s = c .before .before .before .before .before .before .before in
-    let next′ = c .before .before .before .before .next in
-    let prefix-kind′ = c .before .before .before .prefix-kind in
-    let if1′ = c .before .before .if1 in
-    let move-to′ = c .move-to in
-    paths.step (s .pre .0, s .pre .1 .1) (sym (next′ .ensures)) (paths.prefix-above _ _ (prefix-kind′ .ensures) (if1′ .taken))
-    (move-to′ .ensures .1)
+    let g = c .before .before .before .before .before .before .pre .1 .1 in omega (arith, g .opened, g .within, g .short)
 
 factor-factor-requires : (t : ℕ) → factor-lts.Need-factor-requires (factor-calls t) (factor-at t) factor.Post
 factor-factor-requires t c κs =
-    let s = c .before .before .before .before .before .before .before .before .before in
-    let move-to′ = c .before .before .move-to in
-    let n = paths.deeper-needs (prefix-step t (c .before .before)) {level = 2} (omega arith) in
-    (n .0, (lent-on (s .pre .1 .0) (move-to′ .ensures .0), n .1))
+    let b = c .before .before .before .before in
+    let s = b .before .before in
+    let n = paths.deeper-needs (paths.prefix-step (factor-open t (c .before .before .before .before))
+    (c .before .before .before .if1 .left) (c .before .before .if2 .taken)) {level = 2} (omega arith) in
+    (n .0, (lent-on (s .pre .1 .0) (b .begin .ensures .0 .0), n .1))
 
 factor-put-requires : (t : ℕ) → factor-lts.Need-put-requires (factor-calls t) (factor-at t) factor.Post
 factor-put-requires t c κs =
     let factor′ = c .before .before .factor in
-    let n = paths.prefix-needs (prefix-step t (c .before .before .before .before .before)) (factor′ .ensures .1) in
+    let n = paths.prefix-needs (paths.prefix-step (factor-open t (c .before .before .before .before .before .before .before))
+    (c .before .before .before .before .before .before .if1 .left) (c .before .before .before .before .before .if2 .taken))
+    (factor′ .ensures .1) in
     (factor′ .ensures .0, n .0, n .1)
-
-factor-returns : (t : ℕ) → factor-lts.Need-returns (factor-calls t) (factor-at t) factor.Post
-factor-returns t c =
-    let prefix-kind′ = c .before .before .before .before .before .before .before .before .before .prefix-kind in
-    let if1′ = c .before .before .before .before .before .before .before .before .if1 in
-    let factor′ = c .before .before .before .factor in
-    let put′ = c .put in (
-      put′ .ensures .0 .0,
-      paths.prefix-path (prefix-step t (c .before .before .before .before .before .before)) _ (prefix-kind′ .ensures)
-          (if1′ .taken) (factor′ .ensures .1) (put′ .ensures .0 .1, put′ .ensures .1),
-    )
-
-factor-add-move-to-2 : (t : ℕ) → factor-lts.Need-add-move-to-2 (factor-calls t) (factor-at t) factor.Post
-unfolding markOf
-factor-add-move-to-2 t c =
-    let g = c .before .before .before .before .before .before .before .pre .1 .1 in omega (arith, g .within, g .short)
-
-factor-add-sum : (t : ℕ) → factor-lts.Need-add-sum (factor-calls t) (factor-at t) factor.Post
-factor-add-sum t c =
-    let s = c .before .before .before .before .before .before .before .before .before .before in
-    let g = s .pre .1 .1 in omega (arith, g .opened, g .within, g .short)
-
-bracket-step : (t : ℕ) (c : factor-lts.After-move-to2 (factor-calls t) (factor-at t) factor.Post) →
-    Factor-step t (c .before .before .before .before .before .before .before .before) 40 (markOf (c .move-to2 .last .0))
-unfolding markOf
-bracket-step t c =
-    let s = c .before .before .before .before .before .before .before .before in
-    let next′ = c .before .before .before .before .before .next in
-    let if2′ = c .before .before .if2 in
-    let move-to2′ = c .move-to2 in
-    paths.step (s .pre .0, s .pre .1 .1) (sym (next′ .ensures) ∙ if2′ .taken) (omega arith) (move-to2′ .ensures .1)
-
-factor-sum-requires : (t : ℕ) → factor-lts.Need-sum-requires (factor-calls t) (factor-at t) factor.Post
-factor-sum-requires t c κs =
-    let s = c .before .before .before .before .before .before .before .before .before .before in
-    let move-to2′ = c .before .before .move-to2 in
-    let n = paths.deeper-needs (bracket-step t (c .before .before)) {level = 4} (omega arith) in
-    (n .0, (lent-on (s .pre .1 .0) (move-to2′ .ensures .0), n .1))
-
-factor-expect-requires : (t : ℕ) → factor-lts.Need-expect-requires (factor-calls t) (factor-at t) factor.Post
-factor-expect-requires t c κs =
-    let s = c .before .before .before .before .before .before .before .before .before .before .before .before in
-    let sum′ = c .before .sum in
-    (lent-on (s .pre .1 .0) (sum′ .ensures .0), omega arith)
 
 factor-returns-2 : (t : ℕ) → factor-lts.Need-returns-2 (factor-calls t) (factor-at t) factor.Post
 factor-returns-2 t c =
-    let sum′ = c .before .before .sum in
-    let expect′ = c .expect in (
-      expect′ .ensures .0,
-      paths.brackets-path (bracket-step t (c .before .before .before .before .before)) (sum′ .ensures .1)
-          (expect′ .ensures .1),
+    let factor′ = c .before .before .before .factor in
+    let put′ = c .put in (
+      put′ .ensures .0 .0,
+      paths.opened-prefix (factor-open t (c .before .before .before .before .before .before .before .before))
+          (c .before .before .before .before .before .before .before .if1 .left)
+          (c .before .before .before .before .before .before .if2 .taken) (factor′ .ensures .1)
+          (put′ .ensures .0 .1, put′ .ensures .1),
     )
 
-factor-add-move-to-3 : (t : ℕ) → factor-lts.Need-add-move-to-3 (factor-calls t) (factor-at t) factor.Post
-unfolding markOf
-factor-add-move-to-3 t c =
-    let g = c .before .before .before .before .before .before .before .before .pre .1 .1 in omega (arith, g .within, g .short)
+factor-add-sum : (t : ℕ) → factor-lts.Need-add-sum (factor-calls t) (factor-at t) factor.Post
+factor-add-sum t c =
+    let g = c .before .before .before .before .before .before .before .pre .1 .1 in omega (arith, g .opened, g .within, g .short)
 
-sr-step : (t : ℕ) (c : factor-lts.After-move-to3 (factor-calls t) (factor-at t) factor.Post) →
-    Factor-step t (c .before .before .before .before .before .before .before .before .before) 83 (markOf (c .move-to3 .last .0))
-unfolding markOf
-sr-step t c =
-    let s = c .before .before .before .before .before .before .before .before .before in
-    let next′ = c .before .before .before .before .before .before .next in
-    let if3′ = c .before .before .if3 in
-    let move-to3′ = c .move-to3 in
-    paths.step (s .pre .0, s .pre .1 .1) (sym (next′ .ensures) ∙ if3′ .taken) (omega arith) (move-to3′ .ensures .1)
+factor-sum-requires : (t : ℕ) → factor-lts.Need-sum-requires (factor-calls t) (factor-at t) factor.Post
+factor-sum-requires t c κs =
+    let b = c .before .before .before .before .before in
+    let s = b .before .before in
+    let n = paths.deeper-needs (paths.bracket-step (factor-open t b) (c .before .before .if3 .taken)) {level = 4} (omega arith) in
+    (n .0, (lent-on (s .pre .1 .0) (b .begin .ensures .0 .0), n .1))
 
-factor-expect-requires-2 : (t : ℕ) → factor-lts.Need-expect-requires-2 (factor-calls t) (factor-at t) factor.Post
-factor-expect-requires-2 t c κs =
-    let s = c .before .before .before .before .before .before .before .before .before .before in
-    let move-to3′ = c .before .move-to3 in
-    (lent-on (s .pre .1 .0) (move-to3′ .ensures .0), omega arith)
-
-factor-latch-requires : (t : ℕ) → factor-lts.Need-latch-requires (factor-calls t) (factor-at t) factor.Post
-factor-latch-requires t c κs =
-    let s = c .before .before .before .before .before .before .before .before .before .before .before .before .before in
-    let expect2′ = c .before .before .expect2 in
-    let k = sr-step t (c .before .before .before .before) in
-    let n = paths.block-needs k (paths.letter k 82 (omega arith) (expect2′ .ensures .1)) in
-    (n .0, (lent-on (s .pre .1 .0) (expect2′ .ensures .0), n .1))
+factor-expect-requires : (t : ℕ) → factor-lts.Need-expect-requires (factor-calls t) (factor-at t) factor.Post
+factor-expect-requires t c κs = (
+  lent-on (c .before .before .before .before .before .before .before .before .before .pre .1 .0) (c .before .sum .ensures .0),
+  omega
+      arith,
+)
 
 factor-returns-3 : (t : ℕ) → factor-lts.Need-returns-3 (factor-calls t) (factor-at t) factor.Post
 factor-returns-3 t c =
-    let expect2′ = c .before .before .before .expect2 in
-    let latch′ = c .latch in
-    let k = sr-step t (c .before .before .before .before .before) in (
-      latch′ .ensures .0,
-      paths.block-path k (paths.letter k 82 (omega arith) (expect2′ .ensures .1)) (latch′ .ensures .1)
-          (paths.latch-is k sr-latch),
-    )
+    let k = paths.bracket-step (factor-open t (c .before .before .before .before .before .before .before .before))
+    (c .before .before .before .before .before .if3 .taken) in
+    (c .expect .ensures .0, paths.brackets-path k (c .before .before .sum .ensures .1) (c .expect .ensures .1))
 
-factor-add-move-to-4 : (t : ℕ) → factor-lts.Need-add-move-to-4 (factor-calls t) (factor-at t) factor.Post
-unfolding markOf
-factor-add-move-to-4 t c =
-    let g = c .before .before .before .before .before .before .before .before .before .pre .1 .1 in omega (arith, g .within, g .short)
-
-rs-step : (t : ℕ) (c : factor-lts.After-move-to4 (factor-calls t) (factor-at t) factor.Post) →
-    Factor-step t (c .before .before .before .before .before .before .before .before .before .before) 82 (markOf (c .move-to4 .last .0))
-unfolding markOf
-rs-step t c =
-    let s = c .before .before .before .before .before .before .before .before .before .before in
-    let next′ = c .before .before .before .before .before .before .before .next in
-    let if4′ = c .before .before .if4 in
-    let move-to4′ = c .move-to4 in
-    paths.step (s .pre .0, s .pre .1 .1) (sym (next′ .ensures) ∙ if4′ .taken) (omega arith) (move-to4′ .ensures .1)
-
-factor-expect-requires-3 : (t : ℕ) → factor-lts.Need-expect-requires-3 (factor-calls t) (factor-at t) factor.Post
-factor-expect-requires-3 t c κs =
-    let s = c .before .before .before .before .before .before .before .before .before .before .before in
-    let move-to4′ = c .before .move-to4 in
-    (lent-on (s .pre .1 .0) (move-to4′ .ensures .0), omega arith)
-
-factor-latch-requires-2 : (t : ℕ) → factor-lts.Need-latch-requires-2 (factor-calls t) (factor-at t) factor.Post
-factor-latch-requires-2 t c κs =
-    let s = c .before .before .before .before .before .before .before .before .before .before .before .before .before .before in
-    let expect3′ = c .before .before .expect3 in
-    let k = rs-step t (c .before .before .before .before) in
-    let n = paths.block-needs k (paths.letter k 83 (omega arith) (expect3′ .ensures .1)) in
-    (n .0, (lent-on (s .pre .1 .0) (expect3′ .ensures .0), n .1))
+factor-timer-requires : (t : ℕ) → factor-lts.Need-timer-requires (factor-calls t) (factor-at t) factor.Post
+factor-timer-requires t c κs =
+    let b = c .before .before .before .before .before .before in
+    let s = b .before .before in
+    let n = paths.block-needs (factor-open t b) (c .before .before .before .before .if2 .left) (c .before .before .before .if3 .left) in
+    (n .0, ((lent-on (s .pre .1 .0) (b .begin .ensures .0 .0), n .1), omega (arith, c .before .before .if4 .taken)))
 
 factor-returns-4 : (t : ℕ) → factor-lts.Need-returns-4 (factor-calls t) (factor-at t) factor.Post
 factor-returns-4 t c =
-    let expect3′ = c .before .before .before .expect3 in
-    let latch2′ = c .latch2 in
-    let k = rs-step t (c .before .before .before .before .before) in (
-      latch2′ .ensures .0,
-      paths.block-path k (paths.letter k 83 (omega arith) (expect3′ .ensures .1)) (latch2′ .ensures .1)
-          (paths.latch-is k rs-latch),
+    let b = c .before .before .before .before .before .before .before in (
+      c .timer .ensures .0,
+      paths.opened-timer (factor-open t b) (c .before .before .before .before .before .if2 .left)
+          (c .before .before .before .before .if3 .left) (c .before .before .before .if4 .taken) (c .timer .ensures .1),
     )
 
-factor-add-move-to-5 : (t : ℕ) → factor-lts.Need-add-move-to-5 (factor-calls t) (factor-at t) factor.Post
-unfolding markOf
-factor-add-move-to-5 t c =
-    let s = c .before .before .before .before .before .before .before .before .before .before in
-    let g = s .pre .1 .1 in omega (arith, g .within, g .short)
-
-t-step : (t : ℕ) (c : factor-lts.After-move-to5 (factor-calls t) (factor-at t) factor.Post) →
-    Factor-step t (c .before .before .before .before .before .before .before .before .before .before .before) 84
-    (markOf (c .move-to5 .last .0))
-unfolding markOf
-t-step t c =
-    let s = c .before .before .before .before .before .before .before .before .before .before .before in
-    let next′ = c .before .before .before .before .before .before .before .before .next in
-    let if5′ = c .before .before .if5 in
-    let move-to5′ = c .move-to5 in
-    paths.step (s .pre .0, s .pre .1 .1) (sym (next′ .ensures) ∙ if5′ .taken) (omega arith) (move-to5′ .ensures .1)
-
-factor-expect-requires-4 : (t : ℕ) → factor-lts.Need-expect-requires-4 (factor-calls t) (factor-at t) factor.Post
-factor-expect-requires-4 t c κs =
-    let s = c .before .before .before .before .before .before .before .before .before .before .before .before in
-    let move-to5′ = c .before .move-to5 in
-    (lent-on (s .pre .1 .0) (move-to5′ .ensures .0), omega arith)
-
-factor-add-move-to-6 : (t : ℕ) → factor-lts.Need-add-move-to-6 (factor-calls t) (factor-at t) factor.Post
-unfolding markOf
-factor-add-move-to-6 t c =
-    let expect4′ = c .before .before .before .before .before .expect4 in
-    let k = t-step t (c .before .before .before .before .before .before .before) in
-    omega (arith, paths.letter k 79 (omega arith) (expect4′ .ensures .1) .done .within, k .ready .short)
-
-factor-move-to-requires-6 : (t : ℕ) → factor-lts.Need-move-to-requires-6 (factor-calls t) (factor-at t) factor.Post
-factor-move-to-requires-6 t c κs = c .before .before .before .before .before .expect4 .ensures .0
-
-factor-timer-requires : (t : ℕ) → factor-lts.Need-timer-requires (factor-calls t) (factor-at t) factor.Post
-unfolding markOf
-factor-timer-requires t c κs =
-    let s = c .before .before .before .before .before .before .before .before .before .before .before .before .before .before .before
-    .before .before .before .before .before .before in
-    let expect4′ = c .before .before .before .before .before .before .before .before .expect4 in
-    let next2′ = c .before .before .before .before .before .before .next2 in
-    let if6′ = c .before .before .before .before .before .if6 in
-    let move-to6′ = c .before .before .move-to6 in
-    let k = t-step t (c .before .before .before .before .before .before .before .before .before .before) in
-    let w = sym (next2′ .ensures) ∙ if6′ .taken in
-    let b = paths.block-needs k (paths.ton-letters k (expect4′ .ensures .1) w (move-to6′ .ensures .1)) in
-    (b .0, ((lent-on (s .pre .1 .0) (move-to6′ .ensures .0), b .1), omega arith))
+factor-latch-requires : (t : ℕ) → factor-lts.Need-latch-requires (factor-calls t) (factor-at t) factor.Post
+factor-latch-requires t c κs =
+    let b = c .before .before .before .before .before .before in
+    let s = b .before .before in
+    let n = paths.block-needs (factor-open t b) (c .before .before .before .before .if2 .left) (c .before .before .before .if3 .left) in
+    (n .0, (lent-on (s .pre .1 .0) (b .begin .ensures .0 .0), n .1))
 
 factor-returns-5 : (t : ℕ) → factor-lts.Need-returns-5 (factor-calls t) (factor-at t) factor.Post
-unfolding markOf
 factor-returns-5 t c =
-    let expect4′ = c .before .before .before .before .before .before .before .before .before .expect4 in
-    let next2′ = c .before .before .before .before .before .before .before .next2 in
-    let if6′ = c .before .before .before .before .before .before .if6 in
-    let move-to6′ = c .before .before .before .move-to6 in
-    let timer′ = c .timer in
-    let k = t-step t (c .before .before .before .before .before .before .before .before .before .before .before) in
-    let w = sym (next2′ .ensures) ∙ if6′ .taken in
-    let o = expect4′ .ensures .1 in
-    (timer′ .ensures .0, paths.block-path k (paths.ton-letters k o w (move-to6′ .ensures .1)) (timer′ .ensures .1) (paths.ton-is k o w))
-
-factor-expect-requires-5 : (t : ℕ) → factor-lts.Need-expect-requires-5 (factor-calls t) (factor-at t) factor.Post
-factor-expect-requires-5 t c κs =
-    let s = c .before .before .before .before .before .before .before .before .before .before .before .before .before .before .before
-    .before .before in
-    let expect4′ = c .before .before .before .before .expect4 in
-    (lent-on (s .pre .1 .0) (expect4′ .ensures .0), omega arith)
-
-factor-timer-requires-2 : (t : ℕ) → factor-lts.Need-timer-requires-2 (factor-calls t) (factor-at t) factor.Post
-factor-timer-requires-2 t c κs =
-    let s = c .before .before .before .before .before .before .before .before .before .before .before .before .before .before .before
-    .before .before .before .before .before in
-    let expect4′ = c .before .before .before .before .before .before .before .expect4 in
-    let expect5′ = c .before .before .expect5 in
-    let k = t-step t (c .before .before .before .before .before .before .before .before .before) in
-    let b = paths.block-needs k (paths.tof-letters k (expect4′ .ensures .1) (expect5′ .ensures .1)) in
-    (b .0, ((lent-on (s .pre .1 .0) (expect5′ .ensures .0), b .1), omega arith))
-
-factor-returns-6 : (t : ℕ) → factor-lts.Need-returns-6 (factor-calls t) (factor-at t) factor.Post
-factor-returns-6 t c =
-    let expect4′ = c .before .before .before .before .before .before .before .before .expect4 in
-    let next2′ = c .before .before .before .before .before .before .next2 in
-    let if6′ = c .before .before .before .before .before .if6 in
-    let expect5′ = c .before .before .before .expect5 in
-    let timer2′ = c .timer2 in
-    let k = t-step t (c .before .before .before .before .before .before .before .before .before .before) in
-    let w = ne-eqb _ _ (λ h. if6′ .left (next2′ .ensures ∙ h)) in
-    let o = expect4′ .ensures .1 in
-    (timer2′ .ensures .0, paths.block-path k (paths.tof-letters k o (expect5′ .ensures .1)) (timer2′ .ensures .1) (paths.tof-is k o w))
-
-factor-leaf-requires : (t : ℕ) → factor-lts.Need-leaf-requires (factor-calls t) (factor-at t) factor.Post
-factor-leaf-requires t c κs = c .before .before .before .before .before .before .before .before .before .before .before .pre .1
-
-factor-returns-7 : (t : ℕ) → factor-lts.Need-returns-7 (factor-calls t) (factor-at t) factor.Post
-factor-returns-7 t c =
-    let s = c .before .before .before .before .before .before .before .before .before .before .before .before in
-    let next′ = c .before .before .before .before .before .before .before .before .before .next in
-    let prefix-kind′ = c .before .before .before .before .before .before .before .before .prefix-kind in
-    let if1′ = c .before .before .before .before .before .before .before .if1 in
-    let if2′ = c .before .before .before .before .before .before .if2 in
-    let if3′ = c .before .before .before .before .before .if3 in
-    let if4′ = c .before .before .before .before .if4 in
-    let if5′ = c .before .before .before .if5 in
-    let leaf′ = c .leaf in
-    let b = next′ .result in (
-      leaf′ .ensures .0,
-      paths.leaf-path (s .pre .1 .1) b _ (sym (next′ .ensures)) (prefix-kind′ .ensures) (if1′ .left)
-          (ne-eqb b 40 (if2′ .left)) (ne-eqb b 83 (if3′ .left)) (ne-eqb b 82 (if4′ .left)) (ne-eqb b 84 (if5′ .left)) (leaf′ .ensures .1),
+    let b = c .before .before .before .before .before .before .before in (
+      c .latch .ensures .0,
+      paths.opened-latch (factor-open t b) (c .before .before .before .before .before .if2 .left)
+          (c .before .before .before .before .if3 .left) (c .before .before .before .if4 .left) (c .latch .ensures .1),
     )
-
-latch-expect-requires : (t : ℕ) → latch-lts.Need-expect-requires (latch-calls t) (latch-at t) latch.Post
-latch-expect-requires t c κs = (c .before .pre .1 .0, omega arith)
 
 latch-add-sum : (t : ℕ) → latch-lts.Need-add-sum (latch-calls t) (latch-at t) latch.Post
 latch-add-sum t c =
-    let g = c .before .before .before .before .pre .1 .1 in omega (arith, g .opened, g .within, g .short)
+    let g = c .before .before .pre .1 .1 in omega (arith, g .opened, g .within, g .short)
 
 latch-sum-requires : (t : ℕ) → latch-lts.Need-sum-requires (latch-calls t) (latch-at t) latch.Post
 latch-sum-requires t c κs =
-    let s = c .before .before .before .before in
-    let expect′ = c .before .before .expect in
-    let n = inner-needs (s .args .deep) (s .pre .1 .1) (paths.opened (s .args .deep) (s .pre .1 .1) (expect′ .ensures .1)) (s .pre .0) in
-    (n .0, (lent-on (s .pre .1 .0) (expect′ .ensures .0), n .1))
+    let s = c .before .before in
+    let n = inner-needs (s .args .deep) (s .pre .1 .1) (starting 4 (s .pre .1 .1)) (s .pre .0) in
+    (n .0, (s .pre .1 .0, n .1))
 
-latch-expect-requires-2 : (t : ℕ) → latch-lts.Need-expect-requires-2 (latch-calls t) (latch-at t) latch.Post
-latch-expect-requires-2 t c κs =
-    let s = c .before .before .before .before .before .before in
-    let sum′ = c .before .sum in
-    (lent-on (s .pre .1 .0) (sum′ .ensures .0), omega arith)
+latch-expect-requires : (t : ℕ) → latch-lts.Need-expect-requires (latch-calls t) (latch-at t) latch.Post
+latch-expect-requires t c κs = (lent-on (c .before .before .before .before .pre .1 .0) (c .before .sum .ensures .0), omega arith)
 
 latch-add-sum-2 : (t : ℕ) → latch-lts.Need-add-sum-2 (latch-calls t) (latch-at t) latch.Post
 latch-add-sum-2 t c =
-    let s = c .before .before .before .before .before .before .before .before .before in
-    let g = s .pre .1 .1 in omega (arith, g .opened, g .within, g .short)
+    let g = c .before .before .before .before .before .before .before .pre .1 .1 in omega (arith, g .opened, g .within, g .short)
 
 latch-sum-requires-2 : (t : ℕ) → latch-lts.Need-sum-requires-2 (latch-calls t) (latch-at t) latch.Post
 latch-sum-requires-2 t c κs =
-    let s = c .before .before .before .before .before .before .before .before .before in
-    let expect′ = c .before .before .before .before .before .before .before .expect in
+    let s = c .before .before .before .before .before .before .before in
     let sum′ = c .before .before .before .before .sum in
-    let expect2′ = c .before .before .expect2 in
+    let expect′ = c .before .before .expect in
     let n = inner-needs (s .args .deep) (s .pre .1 .1)
-    (paths.parted (s .args .deep) (s .pre .1 .1) (expect′ .ensures .1) (sum′ .ensures .1) (expect2′ .ensures .1)) (s .pre .0) in
-    (n .0, (lent-on (s .pre .1 .0) (expect2′ .ensures .0), n .1))
+    (paths.parted (s .args .deep) (s .pre .1 .1) (sum′ .ensures .1) (expect′ .ensures .1)) (s .pre .0) in
+    (n .0, (lent-on (s .pre .1 .0) (expect′ .ensures .0), n .1))
 
-latch-expect-requires-3 : (t : ℕ) → latch-lts.Need-expect-requires-3 (latch-calls t) (latch-at t) latch.Post
-latch-expect-requires-3 t c κs =
-    let s = c .before .before .before .before .before .before .before .before .before .before .before in
-    let sum2′ = c .before .sum2 in
-    (lent-on (s .pre .1 .0) (sum2′ .ensures .0), omega arith)
+latch-expect-requires-2 : (t : ℕ) → latch-lts.Need-expect-requires-2 (latch-calls t) (latch-at t) latch.Post
+latch-expect-requires-2 t c κs = (
+  lent-on (c .before .before .before .before .before .before .before .before .before .pre .1 .0) (c .before .sum2 .ensures .0),
+  omega
+      arith,
+)
 
 latch-put-requires : (t : ℕ) → latch-lts.Need-put-requires (latch-calls t) (latch-at t) latch.Post
 latch-put-requires t c κs =
-    let s = c .before .before .before .before .before .before .before .before .before .before .before .before .before .before in
-    let expect′ = c .before .before .before .before .before .before .before .before .before .before .before .before .expect in
+    let s = c .before .before .before .before .before .before .before .before .before .before .before .before in
     let sum′ = c .before .before .before .before .before .before .before .before .before .sum in
-    let expect2′ = c .before .before .before .before .before .before .before .expect2 in
+    let expect′ = c .before .before .before .before .before .before .before .expect in
     let sum2′ = c .before .before .before .before .sum2 in
-    let expect3′ = c .before .before .expect3 in
-    let n = paths.latch-needs (s .args .deep) (s .pre .1 .1) (expect′ .ensures .1) (sum′ .ensures .1) (expect2′ .ensures .1)
-    (sum2′ .ensures .1) (expect3′ .ensures .1) in
-    (expect3′ .ensures .0, n .0, n .1)
+    let expect2′ = c .before .before .expect2 in
+    let n = paths.latch-needs (s .args .deep) (s .pre .1 .1) (sum′ .ensures .1) (expect′ .ensures .1) (sum2′ .ensures .1)
+    (expect2′ .ensures .1) in
+    (expect2′ .ensures .0, n .0, n .1)
 
 latch-returns : (t : ℕ) → latch-lts.Need-returns (latch-calls t) (latch-at t) latch.Post
 latch-returns t c =
-    let s = c .before .before .before .before .before .before .before .before .before .before .before .before .before .before .before in
-    let expect′ = c .before .before .before .before .before .before .before .before .before .before .before .before .before .expect in
+    let s = c .before .before .before .before .before .before .before .before .before .before .before .before .before in
     let sum′ = c .before .before .before .before .before .before .before .before .before .before .sum in
-    let expect2′ = c .before .before .before .before .before .before .before .before .expect2 in
+    let expect′ = c .before .before .before .before .before .before .before .before .expect in
     let sum2′ = c .before .before .before .before .before .sum2 in
-    let expect3′ = c .before .before .before .expect3 in
+    let expect2′ = c .before .before .before .expect2 in
     let put′ = c .put in (
       put′ .ensures .0 .0,
-      paths.latch-path (s .args .deep) (s .pre .1 .1) (expect′ .ensures .1) (sum′ .ensures .1) (expect2′ .ensures .1)
-          (sum2′ .ensures .1)
-          (expect3′ .ensures .1) (s .args .part) (put′ .ensures .1) (put′ .ensures .0 .1),
+      paths.latch-path (s .args .deep) (s .pre .1 .1) (sum′ .ensures .1) (expect′ .ensures .1) (sum2′ .ensures .1)
+          (expect2′ .ensures .1) (s .args .part) (put′ .ensures .1) (put′ .ensures .0 .1),
     )
 
 product-factor-requires : (t : ℕ) → product-lts.Need-factor-requires (product-calls t) (product-at t) product.Post
@@ -555,31 +347,26 @@ product-returns t c =
     let products′ = c .products in
     (products′ .ensures .0, chains.whole-path times (s .pre .1 .1) (factor′ .ensures .1) (products′ .ensures .1))
 
-products-add-move-to : (t : ℕ) → products-lts.Need-add-move-to (products-calls t) (products-at t) products.Post
-unfolding markOf
-products-add-move-to t c =
-    let g = c .before .before .before .before .before .pre .1 .1 in omega (arith, g .within, g .short)
+products-pass-requires : (t : ℕ) → products-lts.Need-pass-requires (products-calls t) (products-at t) products.Post
+products-pass-requires t c κs = (c .before .pre .1 .0 .five, omega arith)
 
 -- past the byte b at the front of the rest of a chain, at x
 abbrev Products-step : (t : ℕ) → products-lts.Start (products-calls t) (products-at t) products.Post → ℕ → Mark → Type 0
 Products-step t s b x =
     paths.Step (lent (s .args .text .now) (s .args .bytes)) (s .args .code .now) (markOf (s .args .m .now)) (s .args .deep) 1 t b x
 
-times-step : (t : ℕ) (c : products-lts.After-move-to (products-calls t) (products-at t) products.Post) →
-    Products-step t (c .before .before .before .before .before .before) 46 (markOf (c .move-to .last .0))
-unfolding markOf
+times-step : (t : ℕ) (c : products-lts.Then1 (products-calls t) (products-at t) products.Post) →
+    Products-step t (c .before .before .before) 46 (markOf (c .before .pass .last .1 .1 .0))
 times-step t c =
-    let s = c .before .before .before .before .before .before in
-    let next′ = c .before .before .before .before .next in
-    let if1′ = c .before .before .before .if1 in
-    let move-to′ = c .move-to in
-    paths.step (s .pre .0, s .pre .1 .1) (sym (next′ .ensures) ∙ if1′ .taken) (omega arith) (move-to′ .ensures .1)
+    let s = c .before .before .before in
+    let pass′ = c .before .pass in
+    let e = sym (pass′ .ensures .1) ∙ c .if1 .taken in
+    paths.step (s .pre .0, s .pre .1 .1) (eqb-true _ 46 e) (omega arith) (pass′ .ensures .0 .1 ∙ pass-moves _ 46 _ e)
 
 products-factor-requires : (t : ℕ) → products-lts.Need-factor-requires (products-calls t) (products-at t) products.Post
 products-factor-requires t c κs =
-    let s = c .before .before .before .before .before .before .before .before in
-    let move-to′ = c .before .before .move-to in
-    let n = chains.operand-needs times (times-step t (c .before .before)) in (n .0, (lent-on (s .pre .1 .0) (move-to′ .ensures .0), n .1))
+    let n = chains.operand-needs times (times-step t (c .before .before)) in
+    (n .0, (lent-on (c .before .before .before .before .before .pre .1 .0) (c .before .before .before .pass .ensures .0 .0), n .1))
 
 products-put-requires : (t : ℕ) → products-lts.Need-put-requires (products-calls t) (products-at t) products.Post
 products-put-requires t c κs =
@@ -589,30 +376,32 @@ products-put-requires t c κs =
 
 products-products-requires : (t : ℕ) → products-lts.Need-products-requires (products-calls t) (products-at t) products.Post
 products-products-requires t c κs =
-    let s = c .before .before .before .before .before .before .before .before .before .before .before .before .before .before in
-    let factor′ = c .before .before .before .before .before .factor in
     let put′ = c .before .before .put in
     let n = chains.rest-needs times (times-step t (c .before .before .before .before .before .before .before .before))
-    (factor′ .ensures .1) (put′ .ensures .0 .1, put′ .ensures .1) in
-    (n .0, (lent-on (s .pre .1 .0) (put′ .ensures .0 .0), n .1))
+    (c .before .before .before .before .before .factor .ensures .1) (put′ .ensures .0 .1, put′ .ensures .1) in (
+      n .0,
+      (
+        lent-on (c .before .before .before .before .before .before .before .before .before .before .before .pre .1 .0)
+            (put′ .ensures .0 .0),
+        n .1,
+      ),
+    )
 
 products-returns : (t : ℕ) → products-lts.Need-returns (products-calls t) (products-at t) products.Post
 products-returns t c =
-    let factor′ = c .before .before .before .before .before .before .factor in
-    let put′ = c .before .before .before .put in
-    let products′ = c .products in (
-      products′ .ensures .0,
-      chains.rest-path times
-          (times-step t (c .before .before .before .before .before .before .before .before .before)) (factor′ .ensures .1)
-          (put′ .ensures .0 .1, put′ .ensures .1) (products′ .ensures .1),
+    let put′ = c .before .before .before .put in (
+      c .products .ensures .0,
+      chains.rest-path times (times-step t (c .before .before .before .before .before .before .before .before .before))
+          (c .before .before .before .before .before .before .factor .ensures .1) (put′ .ensures .0 .1, put′ .ensures .1)
+          (c .products .ensures .1),
     )
 
 products-returns-2 : (t : ℕ) → products-lts.Need-returns-2 (products-calls t) (products-at t) products.Post
 products-returns-2 t c =
     let s = c .before .before .before in
-    let next′ = c .before .next in
-    let if1′ = c .if1 in
-    (s .pre .1 .0 .five, chains.rest-end times (s .pre .1 .1) (ne-eqb _ _ (λ h. if1′ .left (next′ .ensures ∙ h))))
+    let pass′ = c .before .pass in
+    let e = sym (pass′ .ensures .1) ∙ c .if1 .left in
+    (pass′ .ensures .0 .0, turned refl (pass′ .ensures .0 .1 ∙ pass-stays _ 46 _ e) (chains.rest-end times (s .pre .1 .1) e))
 
 sum-product-requires : (t : ℕ) → sum-lts.Need-product-requires (sum-calls t) (sum-at t) sum.Post
 sum-product-requires t c κs =
@@ -633,31 +422,26 @@ sum-returns t c =
     let sums′ = c .sums in
     (sums′ .ensures .0, chains.whole-path plus (s .pre .1 .1) (product′ .ensures .1) (sums′ .ensures .1))
 
-sums-add-move-to : (t : ℕ) → sums-lts.Need-add-move-to (sums-calls t) (sums-at t) sums.Post
-unfolding markOf
-sums-add-move-to t c =
-    let g = c .before .before .before .before .before .pre .1 .1 in omega (arith, g .within, g .short)
+sums-pass-requires : (t : ℕ) → sums-lts.Need-pass-requires (sums-calls t) (sums-at t) sums.Post
+sums-pass-requires t c κs = (c .before .pre .1 .0 .five, omega arith)
 
 -- past the byte b at the front of the rest of a chain, at x
 abbrev Sums-step : (t : ℕ) → sums-lts.Start (sums-calls t) (sums-at t) sums.Post → ℕ → Mark → Type 0
 Sums-step t s b x = paths.Step (lent (s .args .text .now) (s .args .bytes)) (s .args .code .now) (markOf (s .args .m .now))
     (s .args .deep) 1 t b x
 
-plus-step : (t : ℕ) (c : sums-lts.After-move-to (sums-calls t) (sums-at t) sums.Post) →
-    Sums-step t (c .before .before .before .before .before .before) 43 (markOf (c .move-to .last .0))
-unfolding markOf
+plus-step : (t : ℕ) (c : sums-lts.Then1 (sums-calls t) (sums-at t) sums.Post) →
+    Sums-step t (c .before .before .before) 43 (markOf (c .before .pass .last .1 .1 .0))
 plus-step t c =
-    let s = c .before .before .before .before .before .before in
-    let next′ = c .before .before .before .before .next in
-    let if1′ = c .before .before .before .if1 in
-    let move-to′ = c .move-to in
-    paths.step (s .pre .0, s .pre .1 .1) (sym (next′ .ensures) ∙ if1′ .taken) (omega arith) (move-to′ .ensures .1)
+    let s = c .before .before .before in
+    let pass′ = c .before .pass in
+    let e = sym (pass′ .ensures .1) ∙ c .if1 .taken in
+    paths.step (s .pre .0, s .pre .1 .1) (eqb-true _ 43 e) (omega arith) (pass′ .ensures .0 .1 ∙ pass-moves _ 43 _ e)
 
 sums-product-requires : (t : ℕ) → sums-lts.Need-product-requires (sums-calls t) (sums-at t) sums.Post
 sums-product-requires t c κs =
-    let s = c .before .before .before .before .before .before .before .before in
-    let move-to′ = c .before .before .move-to in
-    let n = chains.operand-needs plus (plus-step t (c .before .before)) in (n .0, (lent-on (s .pre .1 .0) (move-to′ .ensures .0), n .1))
+    let n = chains.operand-needs plus (plus-step t (c .before .before)) in
+    (n .0, (lent-on (c .before .before .before .before .before .pre .1 .0) (c .before .before .before .pass .ensures .0 .0), n .1))
 
 sums-put-requires : (t : ℕ) → sums-lts.Need-put-requires (sums-calls t) (sums-at t) sums.Post
 sums-put-requires t c κs =
@@ -667,144 +451,129 @@ sums-put-requires t c κs =
 
 sums-sums-requires : (t : ℕ) → sums-lts.Need-sums-requires (sums-calls t) (sums-at t) sums.Post
 sums-sums-requires t c κs =
-    let s = c .before .before .before .before .before .before .before .before .before .before .before .before .before .before in
-    let product′ = c .before .before .before .before .before .product in
     let put′ = c .before .before .put in
     let n = chains.rest-needs plus (plus-step t (c .before .before .before .before .before .before .before .before))
-    (product′ .ensures .1) (put′ .ensures .0 .1, put′ .ensures .1) in
-    (n .0, (lent-on (s .pre .1 .0) (put′ .ensures .0 .0), n .1))
+    (c .before .before .before .before .before .product .ensures .1) (put′ .ensures .0 .1, put′ .ensures .1) in (
+      n .0,
+      (
+        lent-on (c .before .before .before .before .before .before .before .before .before .before .before .pre .1 .0)
+            (put′ .ensures .0 .0),
+        n .1,
+      ),
+    )
 
 sums-returns : (t : ℕ) → sums-lts.Need-returns (sums-calls t) (sums-at t) sums.Post
 sums-returns t c =
-    let product′ = c .before .before .before .before .before .before .product in
-    let put′ = c .before .before .before .put in
-    let sums′ = c .sums in (
-      sums′ .ensures .0,
+    let put′ = c .before .before .before .put in (
+      c .sums .ensures .0,
       chains.rest-path plus (plus-step t (c .before .before .before .before .before .before .before .before .before))
-          (product′ .ensures .1) (put′ .ensures .0 .1, put′ .ensures .1) (sums′ .ensures .1),
+          (c .before .before .before .before .before .before .product .ensures .1) (put′ .ensures .0 .1, put′ .ensures .1)
+          (c .sums .ensures .1),
     )
 
 sums-returns-2 : (t : ℕ) → sums-lts.Need-returns-2 (sums-calls t) (sums-at t) sums.Post
 sums-returns-2 t c =
     let s = c .before .before .before in
-    let next′ = c .before .next in
-    let if1′ = c .if1 in
-    (s .pre .1 .0 .five, chains.rest-end plus (s .pre .1 .1) (ne-eqb _ _ (λ h. if1′ .left (next′ .ensures ∙ h))))
-
-timer-expect-requires : (t : ℕ) → timer-lts.Need-expect-requires (timer-calls t) (timer-at t) timer.Post
-timer-expect-requires t c κs = (c .before .pre .1 .0 .0, omega arith)
+    let pass′ = c .before .pass in
+    let e = sym (pass′ .ensures .1) ∙ c .if1 .left in
+    (pass′ .ensures .0 .0, turned refl (pass′ .ensures .0 .1 ∙ pass-stays _ 43 _ e) (chains.rest-end plus (s .pre .1 .1) e))
 
 timer-pass-length-requires : (t : ℕ) → timer-lts.Need-pass-length-requires (timer-calls t) (timer-at t) timer.Post
-timer-pass-length-requires t c κs = c .before .before .expect .ensures .0
+timer-pass-length-requires t c κs = c .before .before .pre .1 .0 .0 .five
 
-timer-expect-requires-2 : (t : ℕ) → timer-lts.Need-expect-requires-2 (timer-calls t) (timer-at t) timer.Post
-timer-expect-requires-2 t c κs =
-    let s = c .before .before .before .before .before .before .before .before in
-    let pass-length′ = c .before .before .before .pass-length in
-    (lent-on (s .pre .1 .0 .0) (pass-length′ .ensures .0), omega arith)
+timer-expect-requires : (t : ℕ) → timer-lts.Need-expect-requires (timer-calls t) (timer-at t) timer.Post
+timer-expect-requires t c κs = (
+  lent-on (c .before .before .before .before .before .before .pre .1 .0 .0) (c .before .before .before .pass-length .ensures .0),
+  omega arith,
+)
 
 timer-add-sum : (t : ℕ) → timer-lts.Need-add-sum (timer-calls t) (timer-at t) timer.Post
 timer-add-sum t c =
-    let s = c .before .before .before .before .before .before .before .before .before .before .before in
-    let g = s .pre .1 .0 .1 in omega (arith, g .opened, g .within, g .short)
+    let g = c .before .before .before .before .before .before .before .before .before .pre .1 .0 .1 in omega
+    (arith, g .opened, g .within, g .short)
 
 timer-sum-requires : (t : ℕ) → timer-lts.Need-sum-requires (timer-calls t) (timer-at t) timer.Post
 timer-sum-requires t c κs =
-    let s = c .before .before .before .before .before .before .before .before .before .before .before in
-    let expect′ = c .before .before .before .before .before .before .before .before .before .expect in
-    let pass-length′ = c .before .before .before .before .before .before .pass-length in
-    let expect2′ = c .before .before .expect2 in
+    let s = c .before .before .before .before .before .before .before .before .before in
+    let expect′ = c .before .before .expect in
     let g = s .pre .1 .0 .1 in
     let n = inner-needs (s .args .deep) g
-    (paths.timer-parted (s .args .deep) g (expect′ .ensures .1) (pass-length′ .ensures .1) (expect2′ .ensures .1)) (s .pre .0) in
-    (n .0, (lent-on (s .pre .1 .0 .0) (expect2′ .ensures .0), n .1))
+    (paths.timer-parted (s .args .deep) g (c .before .before .before .before .before .before .pass-length .ensures .1)
+    (expect′ .ensures .1)) (s .pre .0) in
+    (n .0, (lent-on (s .pre .1 .0 .0) (expect′ .ensures .0), n .1))
 
-timer-expect-requires-3 : (t : ℕ) → timer-lts.Need-expect-requires-3 (timer-calls t) (timer-at t) timer.Post
-timer-expect-requires-3 t c κs =
-    let s = c .before .before .before .before .before .before .before .before .before .before .before .before .before in
-    let sum′ = c .before .sum in
-    (lent-on (s .pre .1 .0 .0) (sum′ .ensures .0), omega arith)
+timer-expect-requires-2 : (t : ℕ) → timer-lts.Need-expect-requires-2 (timer-calls t) (timer-at t) timer.Post
+timer-expect-requires-2 t c κs = (
+  lent-on (c .before .before .before .before .before .before .before .before .before .before .before .pre .1 .0 .0)
+      (c .before .sum .ensures .0),
+  omega arith,
+)
 
 timer-mul-put : (t : ℕ) → timer-lts.Need-mul-put (timer-calls t) (timer-at t) timer.Post
 timer-mul-put t c =
-    let ticks′ = c .before .before .before .before .before .before .before .before .before .ticks in
-    omega (arith, capped-most _ _ (ticks′ .ensures))
+    let ticks′ = c .before .before .before .before .before .before .before .before .before .ticks in omega
+    (arith, capped-most _ _ (ticks′ .ensures))
 
 timer-add-put : (t : ℕ) → timer-lts.Need-add-put (timer-calls t) (timer-at t) timer.Post
 timer-add-put t c =
-    let s = c .before .before .before .before .before .before .before .before .before .before .before .before .before .before .before
-    .before in
-    let ticks′ = c .before .before .before .before .before .before .before .before .before .ticks in
-    omega (arith, capped-most _ _ (ticks′ .ensures), s .pre .1 .1)
+    let ticks′ = c .before .before .before .before .before .before .before .before .before .ticks in omega (
+      arith,
+      capped-most _ _ (ticks′ .ensures),
+      c .before .before .before .before .before .before .before .before .before .before
+          .before .before .before .before .pre .1 .1,
+    )
 
 timer-put-requires : (t : ℕ) → timer-lts.Need-put-requires (timer-calls t) (timer-at t) timer.Post
 timer-put-requires t c κs =
-    let s = c .before .before .before .before .before .before .before .before .before .before .before .before .before .before .before
-    .before in
-    let expect′ = c .before .before .before .before .before .before .before .before .before .before .before .before .before .before .expect
-    in
+    let s = c .before .before .before .before .before .before .before .before .before .before .before .before .before .before in
     let pass-length′ = c .before .before .before .before .before .before .before .before .before .before .before .pass-length in
-    let expect2′ = c .before .before .before .before .before .before .before .expect2 in
+    let expect′ = c .before .before .before .before .before .before .before .expect in
     let sum′ = c .before .before .before .before .sum in
-    let expect3′ = c .before .before .expect3 in
-    let n = paths.timer-needs (s .args .deep) (s .pre .1 .0 .1) (expect′ .ensures .1) (pass-length′ .ensures .1) (expect2′ .ensures .1)
-    (sum′ .ensures .1) (expect3′ .ensures .1) in
-    (expect3′ .ensures .0, n .0, n .1)
+    let expect2′ = c .before .before .expect2 in
+    let n = paths.timer-needs (s .args .deep) (s .pre .1 .0 .1) (pass-length′ .ensures .1) (expect′ .ensures .1) (sum′ .ensures .1)
+    (expect2′ .ensures .1) in
+    (expect2′ .ensures .0, n .0, n .1)
 
 timer-returns : (t : ℕ) → timer-lts.Need-returns (timer-calls t) (timer-at t) timer.Post
 unfolding markOf
 timer-returns t c =
-    let s = c .before .before .before .before .before .before .before .before .before .before .before .before .before .before .before
-    .before .before in
-    let expect′ = c .before .before .before .before .before .before .before .before .before .before .before .before .before .before .before
-    .expect in
+    let s = c .before .before .before .before .before .before .before .before .before .before .before .before .before .before .before in
     let pass-length′ = c .before .before .before .before .before .before .before .before .before .before .before .before .pass-length in
-    let ticks′ = c .before .before .before .before .before .before .before .before .before .before .ticks in
-    let expect2′ = c .before .before .before .before .before .before .before .before .expect2 in
+    let expect′ = c .before .before .before .before .before .before .before .before .expect in
     let sum′ = c .before .before .before .before .before .sum in
-    let expect3′ = c .before .before .before .expect3 in
+    let expect2′ = c .before .before .before .expect2 in
+    let ticks′ = c .before .before .before .before .before .before .before .before .before .before .ticks in
     let put′ = c .put in
     let a = s .args in
     let g = s .pre .1 .0 .1 in
-    let o = paths.opened (a .deep) g (expect′ .ensures .1) in
-    let p = passed (lent (a .text .now) (a .bytes)) (markOf (expect′ .last .1 .1 .0)) (o .within) in
+    let p = passed (lent (a .text .now) (a .bytes)) (markOf (a .m .now)) (g .within) in
     let q = ap (λ (j : Mark). j .at) (pass-length′ .ensures .1) in
-    let v = number-lent (s .pre .1 .0 .0) (markOf (expect′ .last .1 .1 .0) .at) (markOf (pass-length′ .last .1 .1 .0) .at)
-    (omega (arith, p .on, q)) (omega (arith, p .within, q, text-long (s .pre .1 .0 .0))) in (
+    let v = number-lent (s .pre .1 .0 .0) (markOf (a .m .now) .at) (markOf (pass-length′ .last .1 .1 .0) .at) (omega (arith, p .on, q))
+    (omega (arith, p .within, q, text-long (s .pre .1 .0 .0))) in (
       put′ .ensures .0 .0,
-      paths.timer-path (a .deep) g (expect′ .ensures .1) (pass-length′ .ensures .1) (expect2′ .ensures .1)
-          (sum′ .ensures .1)
-          (expect3′ .ensures .1) (a .part) _ (ticks′ .ensures ∙ ap capped v) (put′ .ensures .1) (put′ .ensures .0 .1),
+      paths.timer-path (a .deep) g (pass-length′ .ensures .1) (expect′ .ensures .1) (sum′ .ensures .1) (expect2′ .ensures .1)
+          (a .part) _
+          (ticks′ .ensures ∙ ap capped v) (put′ .ensures .1) (put′ .ensures .0 .1),
     )
 
 pub +factor+latch+product+products+sum+sums+timer-spec : {M : Type 1} → statement M
 +factor+latch+product+products+sum+sums+timer-spec =
     close μ-factor μ-latch μ-product μ-products μ-sum μ-sums μ-timer
-    (λ t. factor-lts.spec (factor-calls t) (factor-at t) factor.Post (λ c. search needs) (λ c κs. search needs) (λ c κs. search needs)
-    (factor-add-move-to t) (λ c κs. search needs) (factor-add-factor t) (factor-factor-requires t) (factor-put-requires t)
-    (factor-returns t)
-    (factor-add-move-to-2 t) (λ c κs. search needs) (factor-add-sum t) (factor-sum-requires t) (factor-expect-requires t)
-    (factor-returns-2 t)
-    (factor-add-move-to-3 t) (λ c κs. search needs) (factor-expect-requires-2 t) (factor-latch-requires t) (factor-returns-3 t)
-    (factor-add-move-to-4 t) (λ c κs. search needs) (factor-expect-requires-3 t) (factor-latch-requires-2 t) (factor-returns-4 t)
-    (factor-add-move-to-5 t) (λ c κs. search needs) (factor-expect-requires-4 t) (λ c κs. search needs) (λ c. search needs)
-    (factor-add-move-to-6 t) (factor-move-to-requires-6 t) (factor-timer-requires t) (factor-returns-5 t) (factor-expect-requires-5 t)
-    (factor-timer-requires-2 t) (factor-returns-6 t) (factor-leaf-requires t) (factor-returns-7 t))
-    (λ t. latch-lts.spec (latch-calls t) (latch-at t) latch.Post (latch-expect-requires t) (latch-add-sum t) (latch-sum-requires t)
-    (latch-expect-requires-2 t) (latch-add-sum-2 t) (latch-sum-requires-2 t) (latch-expect-requires-3 t) (latch-put-requires t)
-    (latch-returns t))
+    (λ t. factor-lts.spec (factor-calls t) (factor-at t) factor.Post (factor-begin-requires t) (factor-leaf-requires t) (factor-returns t)
+    (factor-add-factor t) (factor-factor-requires t) (factor-put-requires t) (factor-returns-2 t) (factor-add-sum t)
+    (factor-sum-requires t)
+    (factor-expect-requires t) (factor-returns-3 t) (factor-timer-requires t) (factor-returns-4 t) (factor-latch-requires t)
+    (factor-returns-5 t))
+    (λ t. latch-lts.spec (latch-calls t) (latch-at t) latch.Post (latch-add-sum t) (latch-sum-requires t) (latch-expect-requires t)
+    (latch-add-sum-2 t) (latch-sum-requires-2 t) (latch-expect-requires-2 t) (latch-put-requires t) (latch-returns t))
     (λ t. product-lts.spec (product-calls t) (product-at t) product.Post (product-factor-requires t) (product-products-requires t)
     (product-returns t))
-    (λ t. products-lts.spec (products-calls t) (products-at t) products.Post (λ c κs. search needs) (λ c. search needs)
-    (products-add-move-to t)
-    (λ c κs. search needs) (products-factor-requires t) (products-put-requires t) (products-products-requires t) (products-returns t)
-    (products-returns-2 t))
+    (λ t. products-lts.spec (products-calls t) (products-at t) products.Post (products-pass-requires t) (products-factor-requires t)
+    (products-put-requires t)
+    (products-products-requires t) (products-returns t) (products-returns-2 t))
     (λ t. sum-lts.spec (sum-calls t) (sum-at t) sum.Post (sum-product-requires t) (sum-sums-requires t) (sum-returns t))
-    (λ t. sums-lts.spec (sums-calls t) (sums-at t) sums.Post (λ c κs. search needs) (λ c. search needs) (sums-add-move-to t)
-    (λ c κs. search needs)
-    (sums-product-requires t) (sums-put-requires t) (sums-sums-requires t) (sums-returns t) (sums-returns-2 t))
-    (λ t. timer-lts.spec (timer-calls t) (timer-at t) timer.Post (timer-expect-requires t) (λ c. search needs)
-    (timer-pass-length-requires t)
-    (λ c. search needs) (λ c κs. search needs) (timer-expect-requires-2 t) (timer-add-sum t) (timer-sum-requires t)
-    (timer-expect-requires-3 t)
-    (timer-mul-put t) (timer-add-put t) (timer-put-requires t) (timer-returns t))
+    (λ t. sums-lts.spec (sums-calls t) (sums-at t) sums.Post (sums-pass-requires t) (sums-product-requires t) (sums-put-requires t)
+    (sums-sums-requires t) (sums-returns t) (sums-returns-2 t))
+    (λ t. timer-lts.spec (timer-calls t) (timer-at t) timer.Post (λ c. search needs) (timer-pass-length-requires t) (λ c. search needs)
+    (λ c κs. search needs) (timer-expect-requires t) (timer-add-sum t) (timer-sum-requires t) (timer-expect-requires-2 t) (timer-mul-put t)
+    (timer-add-put t) (timer-put-requires t) (timer-returns t))

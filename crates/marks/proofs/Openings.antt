@@ -1,0 +1,164 @@
+-- What begins a factor, by its kind: which bytes are next, and how many.
+use Prim.Native.Nat.{ℕ, zero, suc, _+_, _≤_, _<_, max}
+use native.Mathlib.Omega.{arith}
+use native.Mathlib.Decide.{decLt}
+use mathlib.Core.Path.{_≡_, refl, sym, ap, _∙_, subst}
+use mathlib.Core.Bool.{Bool, true, false, cond}
+use mathlib.Core.List.{List, [], _∷_}
+use lib.Dec.{ltb, eqb}
+use lib.ListN.{length, drop, length-append, length-drop}
+use borrow.Author.Tests.{eqb-true, ltb-true, ltb-false, eq-eqb, ne-eqb, lt-ltb, le-ltb}
+use Rattle.names.specs.Names.{allOf}
+use Rattle.grammar.specs.Reader.{prefixKind, starts, blockKind, blockBytes}
+use Rattle.marks.specs.Marks.{Mark, nextMark, openKind, openBytes}
+use Rattle.grammar.proofs.Bytes.{by-cond}
+use Rattle.grammar.proofs.Standing.{front}
+use Rattle.marks.proofs.Marking.{inside}
+
+-- the kind of the block that is next
+abbrev pub blockMark : List ℕ → Mark → ℕ
+blockMark text m = cond (m .ok) (blockKind (drop (m .at) text)) 0
+
+-- no prefix and no bracket is next; the block that is, if any, has the kind
+abbrev pub Unopened : List ℕ → Mark → ℕ → Type 0
+Unopened text m kind = (prefixKind (nextMark text m) ≡ 0) × (eqb (nextMark text m) 40 ≡ false) × (blockMark text m ≡ kind)
+
+-- what a kind says of the bytes at a mark
+pub record Opens (text : List ℕ) (m : Mark) (kind : ℕ) : Type 0 where
+  pub some : 0 < kind → 0 < openBytes kind
+  pub within : 0 < kind → m .at + openBytes kind ≤ length text
+  pub prefix : 0 < kind → kind < 6 → prefixKind (nextMark text m) ≡ kind
+  pub one : 0 < kind → kind < 6 → openBytes kind ≡ 1
+  pub bracket : kind ≡ 16 → nextMark text m ≡ 40
+  pub leaf : kind ≡ 0 → Unopened text m kind
+  pub block : 5 < kind → (kind ≡ 16 → ⊥) → Unopened text m kind
+  pub bytes : 5 < kind → (kind ≡ 16 → ⊥) → openBytes kind ≡ blockBytes kind
+
+-- a byte with a prefix's kind is not 0
+pub prefix-above : (b kind : ℕ) → prefixKind b ≡ kind → 0 < kind → 0 < b
+unfolding prefixKind
+prefix-above zero kind e h = absurd (omega arith)
+prefix-above (suc b) kind e h = omega arith
+
+prefix-most : (b : ℕ) → prefixKind b < 6
+unfolding prefixKind
+prefix-most b =
+    by-cond (λ (k : ℕ). k < 6) (eqb b 33) (λ e. omega arith)
+    (λ e. by-cond (λ (k : ℕ). k < 6) (eqb b 94) (λ e. omega arith)
+    (λ e. by-cond (λ (k : ℕ). k < 6) (eqb b 126) (λ e. omega arith) (λ e. omega arith)))
+
+-- a block's kind, and room for its word
+record Blocks (text : List ℕ) (m : Mark) (kind : ℕ) : Type 0 where
+  low : 0 < kind → 5 < kind
+  high : kind < 16
+  fits : 0 < kind → m .at + blockBytes kind ≤ length text
+
+word-fits : (text : List ℕ) (m : Mark) (w : List ℕ) → allOf (ltb 0) w ≡ true → 0 < length w → starts w (drop (m .at) text) ≡ true →
+    m .at + length w ≤ length text
+word-fits text m w full some e =
+    let q = ap length (front w (drop (m .at) text) full e) ∙ length-append w (drop (length w) (drop (m .at) text)) in
+    omega (arith, q, length-drop (m .at) text)
+
+blocks : (text : List ℕ) (m : Mark) → Blocks text m (blockMark text m)
+unfolding blockKind blockBytes allOf
+blocks text m =
+    by-cond (Blocks text m) (m .ok)
+    (λ o. by-cond (Blocks text m) (starts (83 ∷ 82 ∷ 40 ∷ []) (drop (m .at) text))
+    (λ e. of (83 ∷ 82 ∷ 40 ∷ []) 10 refl (omega arith, omega arith, omega arith, refl) e)
+    (λ o. by-cond (Blocks text m) (starts (82 ∷ 83 ∷ 40 ∷ []) (drop (m .at) text))
+    (λ e. of (82 ∷ 83 ∷ 40 ∷ []) 11 refl (omega arith, omega arith, omega arith, refl) e)
+    (λ o. by-cond (Blocks text m) (starts (84 ∷ 79 ∷ 78 ∷ 40 ∷ []) (drop (m .at) text))
+    (λ e. of (84 ∷ 79 ∷ 78 ∷ 40 ∷ []) 6 refl (omega arith, omega arith, omega arith, refl) e)
+    (λ o. by-cond (Blocks text m) (starts (84 ∷ 79 ∷ 70 ∷ 40 ∷ []) (drop (m .at) text))
+    (λ e. of (84 ∷ 79 ∷ 70 ∷ 40 ∷ []) 7 refl (omega arith, omega arith, omega arith, refl) e) (λ e. nothing)))))
+    (λ o. nothing)
+  where
+    nothing : Blocks text m 0
+    nothing = record { low = λ h. absurd (omega arith); high = omega arith; fits = λ h. absurd (omega arith) }
+
+    of : (w : List ℕ) (kind : ℕ) → blockBytes kind ≡ length w → (5 < kind) × (kind < 16) × (0 < length w) × (allOf (ltb 0) w ≡ true) →
+        starts w (drop (m .at) text) ≡ true → Blocks text m kind
+    of w kind q b e =
+        record {
+          low = λ h. b .0;
+          high = b .1;
+          fits = λ h. subst (λ (k : ℕ). m .at + k ≤ length text) (sym q) (word-fits text m w (b .3) (b .2) e);
+        }
+
+block-some : (kind : ℕ) → 0 < blockBytes kind
+unfolding blockBytes
+block-some kind = by-cond (λ (k : ℕ). 0 < k) (ltb kind 8) (λ e. omega arith) (λ e. omega arith)
+
+pub none-bytes : (kind : ℕ) → kind ≤ 0 → openBytes kind ≡ 0
+unfolding openBytes
+none-bytes kind h = rw (eq-eqb kind 0 (omega arith)) refl
+
+module _ (text : List ℕ) (m : Mark) where
+  of-prefix : (kind : ℕ) → prefixKind (nextMark text m) ≡ kind → 0 < kind → kind < 6 → Opens text m kind
+  unfolding openBytes
+  of-prefix kind e pos low =
+      let single : openBytes kind ≡ 1 = rw (ne-eqb kind 0 (omega arith), lt-ltb kind 6 low) refl in
+      let i = inside text m (nextMark text m) refl (prefix-above (nextMark text m) kind e pos) in
+      record {
+        some = λ h. omega (arith, single);
+        within = λ h. omega (arith, single, i .before);
+        prefix = λ h l. e;
+        one = λ h l. single;
+        bracket = λ h. absurd (omega arith);
+        leaf = λ h. absurd (omega arith);
+        block = λ h o. absurd (omega arith);
+        bytes = λ h o. absurd (omega arith);
+      }
+
+  of-bracket : nextMark text m ≡ 40 → Opens text m 16
+  unfolding openBytes
+  of-bracket e =
+      let single : openBytes 16 ≡ 1 = refl in
+      let i = inside text m 40 e (omega arith) in
+      record {
+        some = λ h. omega (arith, single);
+        within = λ h. omega (arith, single, i .before);
+        prefix = λ h l. absurd (omega arith);
+        one = λ h l. absurd (omega arith);
+        bracket = λ h. e;
+        leaf = λ h. absurd (omega arith);
+        block = λ h o. absurd (o refl);
+        bytes = λ h o. absurd (o refl);
+      }
+
+  of-block : (kind : ℕ) → Unopened text m kind → Blocks text m kind → Opens text m kind
+  unfolding openBytes
+  of-block kind e b =
+      record {
+        some = λ h. omega (arith, same h, block-some kind);
+        within = λ h. omega (arith, same h, b .fits h);
+        prefix = λ h l. absurd (omega (arith, b .low h));
+        one = λ h l. absurd (omega (arith, b .low h));
+        bracket = λ h. absurd (omega (arith, b .high));
+        leaf = λ h. e;
+        block = λ h o. e;
+        bytes = λ h o. same (omega arith);
+      }
+    where
+      same : 0 < kind → openBytes kind ≡ blockBytes kind
+      same h =
+          let low = b .low h in
+          let high = b .high in rw (ne-eqb kind 0 (omega arith), le-ltb kind 6 (omega arith), ne-eqb kind 16 (omega arith)) refl
+
+  pub opens : Opens text m (openKind text m)
+  unfolding openKind
+  opens =
+      by-cond (Opens text m) (ltb 0 (prefixKind (nextMark text m)))
+      (λ e. of-prefix (prefixKind (nextMark text m)) refl (ltb-true 0 (prefixKind (nextMark text m)) e) (prefix-most (nextMark text m)))
+      (λ e. by-cond (Opens text m) (eqb (nextMark text m) 40) (λ f. of-bracket (eqb-true (nextMark text m) 40 f))
+      (λ f.
+      let p = ltb-false 0 (prefixKind (nextMark text m)) e in
+      of-block (blockMark text m) (omega arith, f, refl) (blocks text m)))
+
+  -- the opening ends in the text, or has no byte
+  pub open-most : m .at + openBytes (openKind text m) ≤ max (m .at) (length text)
+  open-most = go (openKind text m) opens (decLt 0 (openKind text m))
+    where
+      go : (kind : ℕ) → Opens text m kind → Dec (0 < kind) → m .at + openBytes kind ≤ max (m .at) (length text)
+      go kind o (yes h) = omega (arith, o .within h)
+      go kind o (no h) = omega (arith, none-bytes kind (omega (arith, h)))

@@ -1,0 +1,57 @@
+-- `marks::opening` meets its contract.
+use borrow.Author.Needs.{needs}
+use borrow.Author.Tests.{eq-eqb, ne-eqb, lt-ltb, le-ltb}
+use mathlib.Core.Path.{refl, ap, _∙_}
+use Rattle.grammar.specs.Reader.{prefixKind}
+use Rattle.marks.specs.Marks.{markOf, openKind}
+use Rattle.marks.proofs.opening.Statement.{statement}
+use Rattle.marks.proofs.opening.Tie as tie
+
+returns : tie.Need-returns
+unfolding openKind
+returns c =
+    let p = c .before in
+    let e = p .prefix-kind .ensures ∙ ap prefixKind (p .before .next .ensures) in
+    rw (← e, lt-ltb _ _ (c .if1 .taken)) refl
+
+returns-2 : tie.Need-returns-2
+unfolding openKind
+returns-2 c =
+    let p = c .before .before in
+    let n = p .before .next .ensures in
+    rw (← n, ← p .prefix-kind .ensures, le-ltb _ _ (c .before .if1 .left), eq-eqb _ _ (c .if2 .taken)) refl
+
+returns-3 : tie.Need-returns-3
+unfolding openKind markOf
+returns-3 c =
+    let t = c .before .before in
+    let e2 = t .before .before in
+    let p = e2 .before .before in
+    let n = p .before .next .ensures in
+    rw (
+      ← n,
+      ← p .prefix-kind .ensures,
+      le-ltb _ _ (e2 .before .if1 .left),
+      ne-eqb _ _ (e2 .if2 .left),
+      eq-eqb _ _ (t .if3 .taken),
+    ) (c .block-kind .ensures)
+
+returns-4 : tie.Need-returns-4
+unfolding openKind markOf
+returns-4 c =
+    let e2 = c .before .before in
+    let p = e2 .before .before in
+    let n = p .before .next .ensures in
+    rw (
+      ← n,
+      ← p .prefix-kind .ensures,
+      le-ltb _ _ (e2 .before .if1 .left),
+      ne-eqb _ _ (e2 .if2 .left),
+      ne-eqb _ _ (c .if3 .left),
+    ) refl
+
+pub opening-spec : {M : Type 1} → statement M
+opening-spec =
+    tie.close
+    (tie.spec (λ c κs. search needs) (λ c κs. search needs) returns returns-2 (λ c. search needs) (λ c. search needs)
+    (λ c κs. search needs) returns-3 returns-4)
