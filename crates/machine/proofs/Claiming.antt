@@ -91,7 +91,8 @@ module _ (sheet g before after : List ℕ) (answer : Written) (w : WorkedOut she
         let k : mostWords + n - mostWords ≡ n = omega arith in
         let second : take n (drop mostWords after) ≡ exactOn sheet (formulaTree g) = rw (given .1) (w .stands (given .0) .stands) in
         let cut : take m (take mostWords after) ≡ take m (take mostWords before) = ap (take m) (w .kept) in
-        let first : take m after ≡ exactOn sheet t = sym (take-take m mostWords after h) ∙ cut ∙ take-take m mostWords before h ∙ s .stands in
+        let first : take m after ≡ exactOn sheet t =
+        sym (take-take m mostWords after h) ∙ cut ∙ take-take m mostWords before h ∙ s .stands in
         let y : r ≡ impliesOf (exactOn sheet t) (exactOn sheet (formulaTree g)) = rw (k, second, first) at x in
         y ∙ compared sheet ok t (formulaTree g) (s .accepted) (w .stands (given .0) .accepted) ∙ by-none
         (partsFault sheet (parts (formulaTree g))) _ (given .0)
