@@ -11,10 +11,11 @@ use Rattle.operations.specs.Calls.{changesAfterM, partFault}
 use Rattle.building.specs.Slots.{builtAnswer}
 use Rattle.building.specs.declared.SlotAnswer.the-variants.{Stands, TooLong, TooLate}
 use Rattle.applying.specs.CodeWords.{partAnswer}
+use Rattle.signals.specs.Words.{mostWords}
 
 pub numbered : (exact : List ℕ) → partAnswer (builtAnswer exact) ≡ writtenOf (partFault exact) exact
 unfolding builtAnswer partFault writtenOf
-numbered exact = go (ltb 256 (length exact)) (changesAfterM exact)
+numbered exact = go (ltb mostWords (length exact)) (changesAfterM exact)
   where
     go : (b c : Bool)
         → partAnswer (cond b TooLong (cond c TooLate (Stands (length exact))))

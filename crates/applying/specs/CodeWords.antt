@@ -79,7 +79,7 @@ judgedFor w a b = cond (ltb (w % 16) kinds.AND) (unaryFault (unaryIn w) a) (pair
 unfoldable pub exactFor : ℕ → List ℕ → List ℕ → List ℕ
 exactFor w a b = cond (ltb (w % 16) kinds.AND) (unaryExact (unaryIn w) a) (binaryExact (binaryIn w) a b)
 
--- document 01's number for each case: 5 or 6, or the word count; one that did not begin, which the evaluator does not meet, passes for no answer
+-- document 01's number for each case: 5 or 6, or the word count; one that did not begin, which is not met, passes for no answer
 abbrev pub partAnswer : SlotAnswer → Written
 partAnswer (Stands n) = written.Count n
 partAnswer TooLong = written.Refused 5

@@ -30,7 +30,7 @@ use Rattle.format.specs.Reading as reading
 use Rattle.format.specs.Reading.{wordCount, signalSize, laterWordsFault, sheetWordsFault, signalFault, signalsFault, frontFault, countOn}
 use Rattle.format.specs.Reading.{sheetFault, signalsFrom, signalsOn, names, listNamed, environmentOn}
 use Rattle.calls.specs.OnSheet.{settlingDate, exactOn, namesFound}
-use Rattle.calls.specs.Calls.{neededWork, partsFault, wordsOn, claimFails, claimVerdict}
+use Rattle.calls.specs.Calls.{neededWork, partsFault, wordsOn, claimFails, claimVerdict, workWords}
 use Rattle.calls.specs.Engine.{defined}
 use Rattle.calls.specs.Demand2.{Delivered}
 use Rattle.calls.specs.Printed.{printedSheet, printedF, printedG, Printed}
@@ -119,7 +119,7 @@ f-words = tree-words printedSheet printedF f 0 f-writes ∙ exact-f
 g-words : wordsOn printedSheet printedG ≡ 0 ∷ 31 ∷ 36 ∷ []
 g-words = tree-words printedSheet printedG g 1 g-writes ∙ exact-g
 
-enough-work : neededWork printedSheet ≤ 8192
+enough-work : neededWork printedSheet ≤ workWords
 unfolding neededWork
 enough-work = omega arith
 
@@ -127,9 +127,9 @@ abbrev old : List ℕ
 old = 7 ∷ 7 ∷ 7 ∷ 7 ∷ []
 
 given : (formula words : List ℕ) → Clear printedSheet formula → wordsOn printedSheet formula ≡ words → length words ≤ 4
-    → Delivered defined printedSheet formula 8192 old words
+    → Delivered defined printedSheet formula workWords old words
 given formula words c e l =
-    rw (← e) (delivered printedSheet formula 8192 old (clear-call printedSheet formula c 8192 4 enough-work (rw e l)))
+    rw (← e) (delivered printedSheet formula workWords old (clear-call printedSheet formula c workWords 4 enough-work (rw e l)))
 
 claimed : claimVerdict printedSheet f g ≡ FailsAt 5
 unfolding claimFails settlingDate environmentOn firstFailing earliest refuted failsIn isGap tick TON started every fromTo signalOf valueFrom
@@ -141,7 +141,7 @@ printed =
     record {
       fails =
           given-claim printedSheet printedF printedG (clear-answered printedSheet printedF f-clear)
-          (clear-answered printedSheet printedG g-clear) 8192 enough-work
+          (clear-answered printedSheet printedG g-clear) workWords enough-work
           ∙ rw (tree-of printedF f 0 f-writes, tree-of printedG g 1 g-writes) claimed;
       countF = given printedF (0 ∷ 23 ∷ 36 ∷ []) f-clear f-words (omega arith) .count;
       wordsF = given printedF (0 ∷ 23 ∷ 36 ∷ []) f-clear f-words (omega arith) .output;

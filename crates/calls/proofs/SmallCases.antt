@@ -23,7 +23,7 @@ use Rattle.slices.specs.Bytes.{low16}
 use Rattle.format.specs.Names.{same}
 use Rattle.format.specs.Reading.{signalsFault, frontFault, countOn, sheetFault}
 use Rattle.calls.specs.OnSheet.{settlingDate, exactOn, namesFound}
-use Rattle.calls.specs.Calls.{neededWork, readingFault, partsFault, workingFault, wordsOn, claimFails, claimVerdict}
+use Rattle.calls.specs.Calls.{neededWork, readingFault, partsFault, workingFault, wordsOn, claimFails, claimVerdict, workWords}
 use Rattle.calls.specs.Answered.{Answered, Enough}
 use Rattle.calls.proofs.NotRefused.{Clear, clear-answered}
 use Rattle.signals.specs.Answers.{firstOf}
@@ -128,7 +128,7 @@ unfolding exactOn settlingDate listOf wordsOf constant
 up-words = refl
 
 -- enough for one word
-pub enough-of : (formula : List ℕ) (w v : ℕ) → wordsOn emptySheet formula ≡ w ∷ [] → Enough emptySheet formula 8192 (v ∷ [])
+pub enough-of : (formula : List ℕ) (w v : ℕ) → wordsOn emptySheet formula ≡ w ∷ [] → Enough emptySheet formula workWords (v ∷ [])
 unfolding neededWork
 enough-of formula w v e = record { area = omega arith; room = rw e (omega arith) }
 

@@ -3,13 +3,13 @@ use Prim.Native.Nat.{ℕ}
 use mathlib.Core.Path.{_≡_, ap, _∙_}
 use mathlib.Core.List.{List}
 use Rattle.signals.specs.declared.Verdict.{Verdict}
-use Rattle.calls.specs.Calls.{claimAnswer, neededWork}
+use Rattle.calls.specs.Calls.{claimAnswer, neededWork, workWords}
 use Rattle.texts.specs.LineFeeds.{toLineFeed, pastLineFeed}
 use Rattle.verdict_line.specs.Written.{Lined, LineOfVerdict}
 use Rattle.claim_line.specs.Input.{counted, formulaF, formulaG, sheetIn}
 use Rattle.claim_line.specs.Printing.{claimOf, printed}
 
-pub work-words : (sheet : List ℕ) (work : ℕ) → work ≡ 8192 → work ≡ neededWork sheet
+pub work-words : (sheet : List ℕ) (work : ℕ) → work ≡ workWords → work ≡ neededWork sheet
 unfolding neededWork
 work-words sheet work e = e
 

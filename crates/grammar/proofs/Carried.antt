@@ -44,10 +44,6 @@ module _ {X Y : Type 0} (E : Emission X) (E2 : Emission Y) (f : X → Y) (g : �
   abbrev pub carried : State X → State Y
   carried s = record { ok = s .ok; at = s .at; out = map f (s .out); deepest = s .deepest; longest = g (s .longest) }
 
-  next-same : (s : State X) → next text (carried s) ≡ next text s
-  unfolding next
-  next-same s = refl
-
   expect-same : (b : ℕ) (s : State X) → carried (expect text b s) ≡ expect text b (carried s)
   unfolding expect next stepped bad
   expect-same b s = both-ways carried (eqb (next text s) b) (λ e. refl) (λ e. refl)

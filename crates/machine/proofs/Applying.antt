@@ -21,7 +21,7 @@ use Rattle.building.proofs.BuildingLaws.{slot-short}
 use Rattle.grammar.specs.Kinds as kinds
 use Rattle.grammar.specs.Tree.{Unary, invert, rise, fall, ton, tof}
 use Rattle.grammar.specs.Code.{ticksOf}
-use Rattle.applying.specs.CodeWords.{operandsOf, unaryOf, unaryIn, binaryIn, unaryFault, unaryExact, binaryExact, judgedFor, exactFor}
+use Rattle.applying.specs.CodeWords.{operandsOf, unaryOf, binaryIn, unaryFault, unaryExact, binaryExact, judgedFor, exactFor}
 use Rattle.applying.specs.CodeWords.{PartInSlot}
 use Rattle.applying.proofs.Numbering.{numbered}
 use Rattle.machine.proofs.PartCodes.{arity-one, arity-two}

@@ -1,5 +1,5 @@
 -- The formula call and the claim from their pieces: the faults in document 01's order, the words, the verdict.
-use Prim.Native.Nat.{ℕ, _+_, _≤_, _<_}
+use Prim.Native.Nat.{ℕ, _≤_, _<_}
 use native.Mathlib.Omega.{arith}
 use mathlib.Core.Path.{_≡_, refl, sym, _∙_}
 use mathlib.Core.List.{List}
@@ -7,21 +7,16 @@ use lib.ListN.{length, take}
 use Rattle.signals.specs.Answers.{writtenOf, outputOf}
 use Rattle.signals.specs.declared.Written.{Written}
 use Rattle.signals.specs.declared.Written.the-variants as written
-use Rattle.signals.specs.declared.Verdict.the-variants as verdict
 use Rattle.building.specs.Building.{HandsOver}
 use Rattle.operations.proofs.JudgedCalls.{refused, passes-on}
-use Rattle.grammar.specs.Tree.{Tree}
-use Rattle.grammar.specs.Code.{code}
 use Rattle.grammar.specs.Formula.{codeOf, formulaTree}
-use Rattle.grammar.specs.Parts.{parts}
-use Rattle.signals.proofs.AnyDate.{one-verdict}
 use Rattle.format.specs.Reading.{sheetFault}
 use Rattle.calls.specs.OnSheet.{exactOn}
 use Rattle.calls.specs.Calls.{workWords, readingFault, workFault, neededWork, workingFault, wordsOn, callFault, callAnswer, callOutput}
 use Rattle.signals.specs.Words.{mostWords}
 use Rattle.operations.specs.Calls.{roomFault}
 use Rattle.calls.proofs.NotRefused.{work-ok, work-short}
-use Rattle.machine.specs.Machine.{Plan, WorkedOut, Prepared, Coded, runFault}
+use Rattle.machine.specs.Machine.{WorkedOut, Prepared, Coded, runFault}
 use Rattle.calls.specs.Work.{firstFault}
 use Rattle.machine.proofs.Stepping.{counted, refused-by}
 use Rattle.machine.proofs.SlotFacts.{short}

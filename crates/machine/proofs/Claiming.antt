@@ -66,10 +66,6 @@ compared sheet ok t u a b =
     (settled-later _ _ m (settles sheet ok u) (omega arith)))
 
 module _ (sheet g before after : List ℕ) (answer : Written) (w : WorkedOut sheet before after 1 (formulaTree g) answer) where
-  did : answer ≡ written.Count (length (exactOn sheet (formulaTree g))) → workingFault sheet g ≡ 0
-  unfolding workingFault
-  did e = counted (partsFault sheet (parts (formulaTree g))) (exactOn sheet (formulaTree g)) _ (sym (w .answer-is) ∙ e) .0
-
   pub compare-refused : (f : ℕ) (v : Option ℕ) → answer ≡ written.Refused f → Refused f ≡ verdictFor (workingFault sheet g) v
   unfolding workingFault
   compare-refused f v e =
@@ -91,7 +87,8 @@ module _ (sheet g before after : List ℕ) (answer : Written) (w : WorkedOut she
         let k : mostWords + n - mostWords ≡ n = omega arith in
         let second : take n (drop mostWords after) ≡ exactOn sheet (formulaTree g) = rw (given .1) (w .stands (given .0) .stands) in
         let cut : take m (take mostWords after) ≡ take m (take mostWords before) = ap (take m) (w .kept) in
-        let first : take m after ≡ exactOn sheet t = sym (take-take m mostWords after h) ∙ cut ∙ take-take m mostWords before h ∙ s .stands in
+        let first : take m after ≡ exactOn sheet t =
+        sym (take-take m mostWords after h) ∙ cut ∙ take-take m mostWords before h ∙ s .stands in
         let y : r ≡ impliesOf (exactOn sheet t) (exactOn sheet (formulaTree g)) = rw (k, second, first) at x in
         y ∙ compared sheet ok t (formulaTree g) (s .accepted) (w .stands (given .0) .accepted) ∙ by-none
         (partsFault sheet (parts (formulaTree g))) _ (given .0)

@@ -92,9 +92,11 @@ module _ (sheet : List ℕ) (ok : sheetFault sheet ≡ 0) where
   -- a part without fault 5 has an accepted list
   pub accepted-part : (t : Tree) → partFault (exactOn sheet t) ≡ 0 → listFault (exactOn sheet t) ≡ 0
   unfolding partFault
-  accepted-part t h = accepted-normal (exactOn sheet t) .1 (exact-for sheet ok t .normal, size (ltb mostWords (length (exactOn sheet t))) refl h)
+  accepted-part t h =
+      accepted-normal (exactOn sheet t) .1 (exact-for sheet ok t .normal, size (ltb mostWords (length (exactOn sheet t))) refl h)
     where
-      size : (b : Bool) → ltb mostWords (length (exactOn sheet t)) ≡ b → _≡_ {A = ℕ} (cond b 5 (cond (changesAfterM (exactOn sheet t)) 6 0)) 0
+      size : (b : Bool) → ltb mostWords (length (exactOn sheet t)) ≡ b
+          → _≡_ {A = ℕ} (cond b 5 (cond (changesAfterM (exactOn sheet t)) 6 0)) 0
           → length (exactOn sheet t) ≤ mostWords
       size true e z = absurd (omega arith)
       size false e z = ltb-false mostWords (length (exactOn sheet t)) e

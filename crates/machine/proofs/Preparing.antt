@@ -150,7 +150,8 @@ module _ (text : List ℕ) (fine : formulaFault text ≡ 0) where
       ) code-is
 
 -- one code word's name
-pub found-name : (sheet text : List ℕ) (w : ℕ) (n : List ℕ) (fault : ℕ) → sheetFault sheet ≡ 0 → w % 16 ≡ kinds.NAME → n ≡ nameAt text (w / 256)
+pub found-name : (sheet text : List ℕ) (w : ℕ) (n : List ℕ) (fault : ℕ) → sheetFault sheet ≡ 0 → w % 16 ≡ kinds.NAME
+    → n ≡ nameAt text (w / 256)
     (w / 16 % 16) → fault ≡ lookupFault sheet n
     → eqb fault 0 ≡ partFound sheet (partOf text w)
 found-name sheet text w n fault ok e en ef =

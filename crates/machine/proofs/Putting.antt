@@ -1,13 +1,11 @@
 -- Putting words into the work area one by one, and the words that bytes hold.
-use Prim.Native.Nat.{ℕ, zero, suc, _+_, _*_, _-_, _/_, _≤_, _<_}
+use Prim.Native.Nat.{ℕ, zero, suc, _+_, _*_, _/_, _<_}
 use native.Mathlib.Omega.{arith}
 use native.Mathlib.Numerals.{add-one}
-use native.Mathlib.Nat.{add-zero}
 use mathlib.Core.Path.{_≡_, refl, sym, _∙_, ap}
-use mathlib.Core.List.{List, []}
-use lib.ListN.{length, take, drop, getD, set, length-drop, drop-of-length-le}
-use lib.Seq.{paste, paste-suc, take-all, take-nil, drop-drop, getD-drop}
-use Rattle.grammar.specs.Formula.{nameAt}
+use mathlib.Core.List.{List}
+use lib.ListN.{length, drop, getD, set}
+use lib.Seq.{paste, paste-suc, drop-drop}
 use Rattle.slices.specs.Bytes.{low32, wordsIn}
 
 pub put-next : (d s w : List ℕ) (at i v : ℕ) → w ≡ paste d at s i → v ≡ getD s i 0 → at + i < length d → i < length s → set w

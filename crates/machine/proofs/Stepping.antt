@@ -8,12 +8,12 @@ use lib.Dec.{eqb}
 use lib.ListN.{length, take, drop, getD, set}
 use lib.Seq.{paste, take-length}
 use borrow.Author.Tests.{eqb-true, eqb-false}
-use Rattle.signals.specs.Words.{mostWords, listFault}
+use Rattle.signals.specs.Words.{mostWords}
 use Rattle.signals.specs.Answers.{writtenOf}
 use Rattle.signals.specs.declared.Written.{Written}
 use Rattle.signals.specs.declared.Written.the-variants.{Count, Refused}
 use Rattle.grammar.specs.Tree.{Tree, Leaf, leaf, unary, binary}
-use Rattle.grammar.specs.Code.{operand, one, two, top}
+use Rattle.grammar.specs.Code.{operand}
 use Rattle.grammar.specs.Formula.{partOf}
 use Rattle.format.specs.Reading.{sheetFault}
 use Rattle.calls.specs.OnSheet.{exactOn}

@@ -44,7 +44,8 @@ same-length-4 c = search needs
 returns-4 : tie.Need-returns-4
 returns-4 c =
     as-binary _ rs _ _ _ _ _ (binary-rs _ (c .before .before .before .before .before .before .if1 .left)
-    (c .before .before .before .before .before .if2 .left) (c .before .before .before .before .if3 .left)) (c .before .before .rs-in .ensures)
+    (c .before .before .before .before .before .if2 .left) (c .before .before .before .before .if3 .left))
+    (c .before .before .rs-in .ensures)
 
 pub apply-binary-spec : {M : Type 1} → statement M
 apply-binary-spec =

@@ -93,7 +93,8 @@ put-list-requires c κs =
     let ready = start .pre .1 .1 .3 in
     let top = operands-there (start .pre .1 .1 .0) (start .pre .1 .1 .1) _ _ _ _ _ (start .pre .1 .1 .2) _ (start .pre .1 .0 .0)
     (start .pre .1 .0 .1) (ready .stack) (ready .tall) (ready .stacked) (ready .enough) (ready .known) in
-    let short = operated-short _ _ _ _ _ _ _ _ _ (start .pre .0) (start .pre .1 .0 .1) (ready .stack) top (start .pre .1 .1 .2) _ _ refl refl _ _
+    let short = operated-short _ _ _ _ _ _ _ _ _ (start .pre .0) (start .pre .1 .0 .1) (ready .stack) top
+    (start .pre .1 .1 .2) _ _ refl refl _ _
     (call .apply .kept .1 .1 .1 .0) (call .apply .ensures) _ (c .before .before .before .answer .given .1) in (
       omega (arith, start .pre .0 .low, start .pre .0 .few, start .pre .0 .slots, fits start .0),
       omega (arith, start .pre .0 .wide, call .apply .kept .1 .1 .1 .0),
@@ -121,7 +122,8 @@ returns c =
     let start = call .before .before .before .before .before .before .before .before .before .before in
     λ sheet text ok stack tall stacked enough known.
     operated sheet text _ (start .args .work .now) _ (start .args .counts .now) _ _ _ (start .pre .0) (start .pre .1 .0 .1) stack
-    (operands-there sheet text _ _ _ _ _ ok _ (start .pre .1 .0 .0) (start .pre .1 .0 .1) stack tall stacked enough known) ok _ _ refl refl _ _
+    (operands-there sheet text _ _ _ _ _ ok _ (start .pre .1 .0 .0) (start .pre .1 .0 .1) stack tall stacked enough known) ok _ _ refl refl
+    _ _
     (call .apply .kept .1 .1 .1 .0) (call .apply .ensures) _ (told .answer .given .1) _ (c .before .before .put-list .ensures)
 
 same-length-3 : tie.Need-same-length-3
@@ -136,7 +138,8 @@ returns-2 c =
     let start = call .before .before .before .before .before .before .before .before .before .before in
     λ sheet text ok stack tall stacked enough known.
     operated-refused sheet text _ (start .args .work .now) _ (start .args .counts .now) _ _ _ (start .pre .0) (start .pre .1 .0 .1) stack
-    (operands-there sheet text _ _ _ _ _ ok _ (start .pre .1 .0 .0) (start .pre .1 .0 .1) stack tall stacked enough known) ok _ _ refl refl _ _
+    (operands-there sheet text _ _ _ _ _ ok _ (start .pre .1 .0 .0) (start .pre .1 .0 .1) stack tall stacked enough known) ok _ _ refl refl
+    _ _
     (call .apply .kept .1 .1 .1 .0) (call .apply .ensures) _ (c .before .answer2 .given .1) _ refl
 
 pub operate-spec : {M : Type 1} → statement M

@@ -17,7 +17,8 @@ slice-reshare-prefix-hand-over : tie.Need-slice-reshare-prefix-hand-over
 slice-reshare-prefix-hand-over c =
     let out = c .before .before .before .before .before in
     let start = out .before .before .before .before .before .before .before in
-    run-fits (start .args .sheet .now) (start .args .text .now) (start .args .work .now) _ _ (out .work-out .ensures _ (start .pre .2 .parts-are))
+    run-fits (start .args .sheet .now) (start .args .text .now) (start .args .work .now) _ _
+    (out .work-out .ensures _ (start .pre .2 .parts-are))
     _ (c .before .answer .given .1) (omega (arith, start .pre .0, out .work-out .kept .1 .1 .1 .1 .0))
 
 slice-aggregate-hand-over : tie.Need-slice-aggregate-hand-over

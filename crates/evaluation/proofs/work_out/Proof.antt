@@ -4,6 +4,7 @@ use Prim.Native.Nat.{_-_}
 use native.Mathlib.Omega.{arith}
 use mathlib.Core.Path.{_≡_, refl, sym, _∙_}
 use lib.ListN.{length, length-set}
+use Rattle.signals.specs.Words.{mostWords}
 use Rattle.grammar.specs.Tree.{Tree}
 use Rattle.grammar.specs.Code.{code}
 use Rattle.machine.specs.Machine.{partsIn}
@@ -13,7 +14,7 @@ use Rattle.evaluation.proofs.work_out.Tie as tie
 
 abbrev Inv-loop : tie.InvT-loop
 Inv-loop sheet text codes n work₀ base counts₀ buffer₀ height₀ i₀ work counts buffer height i = (length work ≡ length work₀) ×
-    (length buffer ≡ 256) × (length counts ≡ 32) × ((t : Tree) × (partsIn text codes n ≡ code t)
+    (length buffer ≡ mostWords) × (length counts ≡ 32) × ((t : Tree) × (partsIn text codes n ≡ code t)
     × Going sheet text codes n t work₀ work counts base height i)
 
 abbrev μ-loop : tie.MeasureT-loop
