@@ -1,11 +1,12 @@
 // Runs the cases of standard input, a line each: a call and its arguments (the crate notation). Empty lines and those that begin with # are
 // skipped. Prints each case, an equals sign and what came out. `keep BYTES` keeps a sheet for the lines after it, `grow` appends and keeps
 // what came out; @ stands for what is kept. tests/models/cases.py makes the lines a second time, by document 01.
-ghost use mathlib.Core.Path.{_≡_};
-ghost use lib.ListN.{length};
 use fields::byte_at;
 use fields::part;
 use libc::STDIN_FILENO;
+use notation::Ends;
+use notation::Space;
+use notation::Words;
 use notation::argument;
 use notation::arguments;
 use notation::list;
@@ -29,7 +30,7 @@ fn on_words(call: usize, digits: &[u8], a: &[u32], b: &[u32], c: &[u32], room: u
     }
 }
 
-fn on_lists(call: usize, space: &[u8], all: &[u32], ends: &[usize]) {
+fn on_lists(call: usize, space: &Space, all: &Words, ends: &Ends) {
     on_words(
         call,
         argument(space, ends, 0),
@@ -40,8 +41,8 @@ fn on_lists(call: usize, space: &[u8], all: &[u32], ends: &[usize]) {
     );
 }
 
-// A call on a sheet, with as many bytes of output; how many bytes are kept after it.
-fn on_sheets(call: usize, space: &[u8], all: &[u32], ends: &[usize], kept: &mut [u8]) -> usize {
+// A call on a sheet, with as many bytes of output; how many bytes are kept after `keep` and `grow`.
+fn on_sheets(call: usize, space: &Space, all: &Words, ends: &Ends, kept: &mut Space) -> usize {
     let sheet = argument(space, ends, 0);
     let name = argument(space, ends, 1);
     let room = number(space, ends, sheet_calls::room_at(call)) as usize;
@@ -51,10 +52,10 @@ fn on_sheets(call: usize, space: &[u8], all: &[u32], ends: &[usize], kept: &mut 
 // The first calls are on lists, the next on formulas, the last on sheets.
 fn called(
     call: usize,
-    space: &[u8],
-    all: &[u32],
-    ends: &[usize],
-    kept: &mut [u8],
+    space: &Space,
+    all: &Words,
+    ends: &Ends,
+    kept: &mut Space,
     n: usize,
 ) -> usize {
     if call < 23 {
@@ -65,11 +66,8 @@ fn called(
         formula_calls::shown(call, space, ends);
         return n;
     }
-    if call < 34 {
-        on_sheets(call, space, all, ends, kept);
-        return n;
-    }
-    on_sheets(call, space, all, ends, kept)
+    let grown = on_sheets(call, space, all, ends, kept);
+    if call < 34 { n } else { grown }
 }
 
 fn call_of(name: &[u8]) -> usize {
@@ -81,23 +79,16 @@ fn call_of(name: &[u8]) -> usize {
     )
 }
 
-fn all_words() -> [u32; 16384]
-    ensures { λ r. ⌜ 16384 ≡ length r ⌝ }
-{
-    [0; 16384]
-}
-
 // The case with its arguments; how many bytes are kept after it.
-fn read(name: &[u8], text: &[u8], kept: &mut [u8], n: usize) -> usize {
-    let mut space = io::large_buffer();
+fn read(name: &[u8], text: &[u8], kept: &mut Space, n: usize) -> usize {
+    let mut space = [0u8; 65536];
     let mut ends = [0usize; 16];
     arguments(text, part(kept, 0, n), &mut space, &mut ends);
-    let mut all = all_words();
-    words(&space, &mut all);
+    let all = words(&space);
     called(call_of(name), &space, &all, &ends, kept, n)
 }
 
-fn case(line: &[u8], kept: &mut [u8], n: usize) -> usize {
+fn case(line: &[u8], kept: &mut Space, n: usize) -> usize {
     io::write_all(1, line);
     io::write_all(1, b" =");
     let then = read(part_before(line, b' '), part_after(line, b' '), kept, n);
@@ -105,29 +96,30 @@ fn case(line: &[u8], kept: &mut [u8], n: usize) -> usize {
     then
 }
 
-fn skipped(line: &[u8]) -> bool {
-    if line.len() == 0 {
-        true
+// Whether a case begins at i: after a line feed, and neither with one nor with #.
+fn begins(before: u8, b: u8) -> bool {
+    if before != b'\n' {
+        false
+    } else if b == b'\n' {
+        false
     } else {
-        byte_at(line, 0) == b'#'
+        b != b'#'
     }
+}
+
+fn byte_before(text: &[u8], i: usize) -> u8 {
+    if i == 0 { b'\n' } else { byte_at(text, i - 1) }
 }
 
 // The line that begins at i, where one does.
-fn line(text: &[u8], i: usize, kept: &mut [u8], n: usize) -> usize {
-    if 0 < i {
-        if byte_at(text, i - 1) != b'\n' {
-            return n;
-        }
+fn line(text: &[u8], i: usize, kept: &mut Space, n: usize) -> usize {
+    if begins(byte_before(text, i), byte_at(text, i)) {
+        return case(part_before(part(text, i, text.len()), b'\n'), kept, n);
     }
-    let line = part_before(part(text, i, text.len()), b'\n');
-    if skipped(line) {
-        return n;
-    }
-    case(line, kept, n)
+    n
 }
 
-fn lines(text: &[u8], kept: &mut [u8]) {
+fn lines(text: &[u8], kept: &mut Space) {
     let mut n: usize = 0;
     let mut i: usize = 0;
     while i < text.len() {
@@ -138,7 +130,7 @@ fn lines(text: &[u8], kept: &mut [u8]) {
 
 fn main() {
     let mut input = io::large_buffer();
-    let mut kept = io::large_buffer();
+    let mut kept = [0u8; 65536];
     let n = io::read_full(STDIN_FILENO, &mut input);
     lines(&input[..n], &mut kept);
 }

@@ -1,6 +1,4 @@
 // The calls on sheets.
-ghost use mathlib.Core.Path.{_≡_};
-ghost use lib.ListN.{length};
 use crate::answers::PLAIN;
 use crate::answers::counted;
 use crate::answers::number;
@@ -11,15 +9,9 @@ use crate::shown::answer;
 use crate::shown::with_bytes;
 use fields::part;
 use format::Place;
+use notation::Space;
 use notation::copied;
 use signals::Written;
-
-// An output of sevens, so that what a call leaves is seen.
-fn output() -> [u8; 65536]
-    ensures { λ r. ⌜ 65536 ≡ length r ⌝ }
-{
-    [7; 65536]
-}
 
 // Where the words begin, and how many bytes they have.
 fn place(found: Place) {
@@ -50,69 +42,56 @@ fn question(call: usize, sheet: &[u8], name: &[u8]) {
     }
 }
 
-fn begun(out: &mut [u8]) -> usize {
-    with_bytes(written(appending::begin(out)), out);
-    0
+fn appended(call: usize, sheet: &[u8], name: &[u8], list: &[u32], out: &mut [u8]) -> Written {
+    if call == 32 {
+        appending::begin(out)
+    } else {
+        appending::append(sheet, name, list, out)
+    }
 }
 
-fn count_of(answer: Written) -> usize {
+// How many bytes `grow` wrote.
+fn grown(call: usize, answer: Written) -> usize {
     match answer {
-        Written::Count(count) => count,
+        Written::Count(count) => { if call == 34 { count } else { 0 } }
         Written::Refused(fault) => 0,
     }
 }
 
-// How many bytes were written.
-fn appended(sheet: &[u8], name: &[u8], list: &[u32], out: &mut [u8]) -> usize {
-    let answer = appending::append(sheet, name, list, out);
-    with_bytes(written(answer), out);
-    count_of(answer)
-}
-
-fn write(call: usize, sheet: &[u8], name: &[u8], list: &[u32], out: &mut [u8]) -> usize {
-    if call == 32 {
-        return begun(out);
-    }
-    appended(sheet, name, list, out)
-}
-
-fn keep_grown(call: usize, bytes: &[u8], kept: &mut [u8]) {
-    if call == 34 {
-        copied(bytes, kept);
-    }
-}
-
-// As many bytes of the output as there is room for; what `grow` writes is kept.
+// What `grow` writes is kept.
 fn write_in(
     call: usize,
     sheet: &[u8],
     name: &[u8],
     list: &[u32],
     out: &mut [u8],
-    room: usize,
-    kept: &mut [u8],
+    kept: &mut Space,
 ) -> usize {
-    if out.len() < room {
-        return 0;
-    }
-    let n = write(call, sheet, name, list, &mut out[0..room]);
-    keep_grown(call, part(out, 0, n), kept);
+    let answer = appended(call, sheet, name, list, out);
+    with_bytes(written(answer), out);
+    let n = grown(call, answer);
+    copied(part(out, 0, n), kept);
     n
 }
 
+// As many bytes of the output as there is room for.
 fn write_to(
     call: usize,
     sheet: &[u8],
     name: &[u8],
     list: &[u32],
     room: usize,
-    kept: &mut [u8],
+    kept: &mut Space,
 ) -> usize {
-    let mut out = output();
-    write_in(call, sheet, name, list, &mut out, room, kept)
+    // An output of sevens, so that what a call leaves is seen.
+    let mut out = [7u8; 65536];
+    if room <= 65536 {
+        return write_in(call, sheet, name, list, &mut out[0..room], kept);
+    }
+    0
 }
 
-fn keep(sheet: &[u8], kept: &mut [u8]) -> usize {
+fn keep(sheet: &[u8], kept: &mut Space) -> usize {
     copied(sheet, kept);
     shown::number(sheet.len() as u64);
     sheet.len()
@@ -125,7 +104,7 @@ pub fn kept(
     name: &[u8],
     list: &[u32],
     room: usize,
-    kept: &mut [u8],
+    kept: &mut Space,
 ) -> usize {
     if call < 32 {
         question(call, sheet, name);

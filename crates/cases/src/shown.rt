@@ -1,8 +1,8 @@
 // What came out, in the notation of the arguments; bytes in hexadecimal.
 use crate::answers::Answer;
-use crate::answers::PLAIN;
 use crate::answers::YES;
 use fields::byte_at;
+use fields::part;
 use notation::name;
 
 pub fn number(n: u64) {
@@ -11,14 +11,10 @@ pub fn number(n: u64) {
 }
 
 fn text(k: usize) {
-    if k == PLAIN {
-        return;
-    }
-    io::write_all(1, b" ");
     io::write_all(
         1,
         name(
-            b",past M,refused,fails at,fails after,yes,no,holds,too long,too late,not begun,",
+            b", past M, refused, fails at, fails after, yes, no, holds, too long, too late, not begun,",
             k,
         ),
     );
@@ -62,18 +58,30 @@ fn run(list: &[u32], i: usize) -> usize {
     j
 }
 
+fn shown_rise(by: u32) {
+    if by == 0 {
+        return;
+    }
+    io::write_all(1, b"+");
+    io::print_decimal(1, by as u64);
+}
+
+fn shown_run(by: u32, n: u64) {
+    if n < 2 {
+        return;
+    }
+    shown_rise(by);
+    io::write_all(1, b"*");
+    io::print_decimal(1, n);
+}
+
 // The words from i on to j.
 fn piece(list: &[u32], i: usize, j: usize) {
     io::print_decimal(1, word_at(list, i) as u64);
-    let by = rise(list, i);
-    if i % 65536 + 1 < j {
-        if 0 < by {
-            io::write_all(1, b"+");
-            io::print_decimal(1, by as u64);
-        }
-        io::write_all(1, b"*");
-        io::print_decimal(1, (j - i % 65536) as u64);
-    }
+    shown_run(
+        rise(list, i),
+        (j % 131072 + 65536 - i % 65536) as u64 % 65536,
+    );
 }
 
 // Where the piece from i on ends: a run has four words or more.
@@ -96,13 +104,14 @@ fn shown_at(list: &[u32], i: usize, done: usize) -> usize {
     end
 }
 
+// What stands before so many words or bytes.
+fn opened(n: usize) {
+    io::write_all(1, part(b" -", 0, if n == 0 { 2 } else { 1 }));
+}
+
 // All words, - for none.
 fn words(list: &[u32]) {
-    if list.len() == 0 {
-        io::write_all(1, b" -");
-        return;
-    }
-    io::write_all(1, b" ");
+    opened(list.len());
     let mut done: usize = 0;
     let mut i: usize = 0;
     while i < list.len() {
@@ -129,21 +138,20 @@ fn folded(sum: u64, b: u8, few: bool) -> u64 {
     sum % 4294967291 * 65599 + b as u64
 }
 
-// All bytes, - for none; those of more than 128 as how many they are and their fold.
-fn bytes(out: &[u8]) {
-    if out.len() == 0 {
-        io::write_all(1, b" -");
+fn shown_fold(n: usize, sum: u64) {
+    if n <= 128 {
         return;
     }
-    io::write_all(1, b" ");
-    let few = out.len() <= 128;
-    let sum = fold(out, few);
-    if few {
-        return;
-    }
-    io::print_decimal(1, out.len() as u64);
+    io::print_decimal(1, n as u64);
     io::write_all(1, b" bytes:");
     number(sum);
+}
+
+// All bytes, - for none; those of more than 128 as how many they are and their fold.
+fn bytes(out: &[u8]) {
+    opened(out.len());
+    let sum = fold(out, out.len() <= 128);
+    shown_fold(out.len(), sum);
 }
 
 pub fn with_bytes(shown: Answer, out: &[u8]) {

@@ -63,10 +63,13 @@ fn opened(p: Piece, i: usize) -> Piece {
     q
 }
 
-fn closed(p: Piece, i: usize) -> Piece {
+// A text at a byte: it ends at the next quote.
+fn closed(p: Piece, b: u8, i: usize) -> Piece {
     let mut q = p;
-    q.kind = TEXT;
-    q.to = i;
+    if b == b'"' {
+        q.kind = TEXT;
+        q.to = i;
+    }
     q
 }
 
@@ -116,8 +119,11 @@ fn is_digit(b: u8) -> bool {
 
 // The piece after a byte that does not end it.
 fn moved(p: Piece, b: u8, i: usize) -> Piece {
+    let kind = p.kind;
+    if kind == OPEN {
+        return closed(p, b, i);
+    }
     if is_digit(b) {
-        let kind = p.kind;
         return digit(of_kind(p, numbered(kind)), b);
     }
     match b {
@@ -131,30 +137,33 @@ fn moved(p: Piece, b: u8, i: usize) -> Piece {
     }
 }
 
-fn set_byte(space: &mut [u8], i: usize, b: u8) {
-    if i < space.len() {
-        space[i] = b;
-    }
-}
+// The bytes of all arguments, and where these begin and end.
+pub type Space = [u8; 65536];
+
+pub type Ends = [usize; 16];
+
+pub type Words = [u32; 16384];
 
 // Puts a byte at a place, where that is in the space; the next place.
-fn put(space: &mut [u8], at: usize, b: u8) -> usize {
+fn put(space: &mut Space, at: usize, b: u8) -> usize {
     let to = at % 131072;
-    set_byte(space, to, b);
+    if to < 65536 {
+        space[to] = b;
+    }
     to + 1
 }
 
-fn put_all(space: &mut [u8], at: usize, bytes: &[u8]) -> usize {
+fn put_all(space: &mut Space, at: usize, bytes: &[u8]) -> usize {
     let mut to = at;
     let mut i: usize = 0;
     while i < bytes.len() {
-        to = put(space, to, byte_at(bytes, i));
+        to = put(space, to, bytes[i]);
         i += 1;
     }
     to
 }
 
-fn put_times(space: &mut [u8], at: usize, bytes: &[u8], count: u64) -> usize {
+fn put_times(space: &mut Space, at: usize, bytes: &[u8], count: u64) -> usize {
     let mut to = at;
     let mut i: u64 = 0;
     while i < count {
@@ -165,7 +174,7 @@ fn put_times(space: &mut [u8], at: usize, bytes: &[u8], count: u64) -> usize {
 }
 
 // A number of as many bytes as its kind.
-fn put_number(space: &mut [u8], at: usize, kind: u8, value: u64) -> usize {
+fn put_number(space: &mut Space, at: usize, kind: u8, value: u64) -> usize {
     let bytes = [
         (value % 256) as u8,
         (value / 256 % 256) as u8,
@@ -175,98 +184,127 @@ fn put_number(space: &mut [u8], at: usize, kind: u8, value: u64) -> usize {
     put_all(space, at, part(&bytes, 0, kind as usize))
 }
 
-fn put_run(space: &mut [u8], at: usize, kind: u8, first: u64, rise: u64, count: u64) -> usize {
+fn put_run(space: &mut Space, at: usize, p: Piece, count: u64) -> usize {
     let mut to = at;
-    let mut value = first;
+    let mut value = p.value;
     let mut i: u64 = 0;
     while i < count {
-        to = put_number(space, to, kind, value);
-        value = value % 4294967296 + rise % 4294967296;
+        to = put_number(space, to, p.kind, value);
+        value = value % 4294967296 + p.rise % 4294967296;
         i += 1;
     }
     to
 }
 
-// Puts the piece into the space; how many bytes stand there then.
-fn put_piece(p: Piece, text: &[u8], kept: &[u8], space: &mut [u8]) -> usize {
-    let kind = p.kind;
-    let at = p.bytes;
+// How often a piece has the bytes of its text, how many of those that are kept it has, and how many numbers.
+fn texts(kind: u8, count: u64) -> u64 {
+    if kind == TEXT { count } else { 0 }
+}
+
+fn kept_bytes(kind: u8, value: u64, all: usize) -> usize {
     match kind {
-        NONE => at,
-        TEXT => put_times(space, at, part(text, p.from, p.to), p.count),
-        KEPT => put_all(space, at, kept),
-        FIRST => put_all(space, at, part(kept, 0, p.value as usize)),
-        _ => put_run(space, at, kind, p.value, p.rise, p.count),
+        KEPT => all,
+        FIRST => value as usize,
+        _ => 0,
     }
 }
 
-fn set(ends: &mut [usize], i: usize, v: usize) {
-    if i < ends.len() {
+fn numbers(kind: u8, count: u64) -> u64 {
+    match kind {
+        BYTE | HALF | WORD => count,
+        _ => 0,
+    }
+}
+
+// Puts the piece into the space; how many bytes stand there then.
+fn put_piece(p: Piece, text: &[u8], kept: &[u8], space: &mut Space) -> usize {
+    let kind = p.kind;
+    let first = kept_bytes(kind, p.value, kept.len());
+    let at = put_times(
+        space,
+        p.bytes,
+        part(text, p.from, p.to),
+        texts(kind, p.count),
+    );
+    let then = put_all(space, at, part(kept, 0, first));
+    put_run(space, then, p, numbers(kind, p.count))
+}
+
+fn set(ends: &mut Ends, i: usize, v: usize) {
+    if i < 16 {
         ends[i] = v;
     }
 }
 
-// After a comma, or a space, which ends the argument too; the next begins at a multiple of 4.
-fn ended(p: Piece, b: u8, text: &[u8], kept: &[u8], space: &mut [u8], ends: &mut [usize]) -> Piece {
-    let k = p.ended % 64;
-    let bytes = put_piece(p, text, kept, space);
+// The next argument begins at a multiple of 4.
+fn next_argument(bytes: usize) -> usize {
+    (bytes % 131072 + 3) / 4 * 4
+}
+
+// The piece after a comma, or after a space, which ends the argument too.
+fn after(b: u8, bytes: usize, k: usize) -> Piece {
     if b == b',' {
         return fresh(bytes, k);
     }
-    let next = (bytes % 131072 + 3) / 4 * 4;
+    fresh(next_argument(bytes), k % 64 + 1)
+}
+
+// The end of the argument is set anew where it has more pieces.
+fn ended(p: Piece, b: u8, text: &[u8], kept: &[u8], space: &mut Space, ends: &mut Ends) -> Piece {
+    let k = p.ended % 64;
+    let bytes = put_piece(p, text, kept, space);
     set(ends, 2 * k + 1, bytes);
-    set(ends, 2 * k + 2, next);
-    fresh(next, k + 1)
+    set(ends, 2 * k + 2, next_argument(bytes));
+    after(b, bytes, k)
 }
 
-fn ends_piece(b: u8) -> bool {
-    if b == b' ' { true } else { b == b',' }
-}
-
-fn step(
-    p: Piece,
-    b: u8,
-    i: usize,
-    text: &[u8],
-    kept: &[u8],
-    space: &mut [u8],
-    ends: &mut [usize],
-) -> Piece {
-    if p.kind == OPEN {
-        if b == b'"' {
-            return closed(p, i);
-        }
-        return p;
+// A space or a comma ends a piece, unless it stands in a text.
+fn ends_piece(kind: u8, b: u8) -> bool {
+    if kind == OPEN {
+        false
+    } else if b == b' ' {
+        true
+    } else {
+        b == b','
     }
-    if ends_piece(b) {
+}
+
+// The byte at a place, a space after the end.
+fn byte_or_space(text: &[u8], i: usize) -> u8 {
+    if i < text.len() { text[i] } else { b' ' }
+}
+
+fn step(p: Piece, i: usize, text: &[u8], kept: &[u8], space: &mut Space, ends: &mut Ends) -> Piece {
+    let b = byte_or_space(text, i);
+    if ends_piece(p.kind, b) {
         return ended(p, b, text, kept, space, ends);
     }
     moved(p, b, i)
 }
 
 // The arguments of a text, in the space: where the i-th begins, at 2i, and where it ends, at 2i + 1, counted from 0.
-pub fn arguments(text: &[u8], kept: &[u8], space: &mut [u8], ends: &mut [usize]) {
+pub fn arguments(text: &[u8], kept: &[u8], space: &mut Space, ends: &mut Ends) {
     let mut p = fresh(0, 0);
+    let end = text.len() % 65536 + 1;
     let mut i: usize = 0;
-    while i < text.len() {
-        p = step(p, byte_at(text, i), i, text, kept, space, ends);
+    while i < end {
+        p = step(p, i, text, kept, space, ends);
         i += 1;
     }
-    step(p, b' ', i, text, kept, space, ends);
 }
 
-fn end_at(ends: &[usize], i: usize) -> usize {
-    if i < ends.len() { ends[i] } else { 0 }
+fn end_at(ends: &Ends, i: usize) -> usize {
+    if i < 16 { ends[i] } else { 0 }
 }
 
 // The i-th argument, counted from 0.
-pub fn argument<'a>(space: &'a [u8], ends: &[usize], i: usize) -> &'a [u8] {
+pub fn argument<'a>(space: &'a [u8], ends: &Ends, i: usize) -> &'a [u8] {
     let k = i % 64 * 2;
     part(space, end_at(ends, k), end_at(ends, k + 1))
 }
 
 // The i-th argument as words, of all the words of the space.
-pub fn list<'a>(words: &'a [u32], ends: &[usize], i: usize) -> &'a [u32] {
+pub fn list<'a>(words: &'a [u32], ends: &Ends, i: usize) -> &'a [u32] {
     let k = i % 64 * 2;
     let from = end_at(ends, k) / 4;
     let to = end_at(ends, k + 1) / 4;
@@ -280,7 +318,7 @@ pub fn list<'a>(words: &'a [u32], ends: &[usize], i: usize) -> &'a [u32] {
 }
 
 // How many bytes the first argument has, those that the space lacks counted.
-pub fn length(ends: &[usize]) -> usize {
+pub fn length(ends: &Ends) -> usize {
     end_at(ends, 1)
 }
 
@@ -296,34 +334,25 @@ fn word_at(bytes: &[u8], i: usize) -> u32 {
     low + 65536 * byte_at(bytes, at + 2) as u32 + 16777216 * byte_at(bytes, at + 3) as u32
 }
 
-fn set_word(words: &mut [u32], i: usize, w: u32) {
-    if i < words.len() {
-        words[i] = w;
-    }
-}
-
 // The i-th argument as one number.
-pub fn number(space: &[u8], ends: &[usize], i: usize) -> u32 {
+pub fn number(space: &[u8], ends: &Ends, i: usize) -> u32 {
     word_at(argument(space, ends, i), 0)
 }
 
-// Fills the list with the first words of the space.
-pub fn words(space: &[u8], list: &mut [u32]) {
-    let n = list.len();
+// The words of the space.
+pub fn words(space: &Space) -> Words {
+    let mut list = [0u32; 16384];
     let mut i: usize = 0;
-    while i < n {
-        set_word(list, i, word_at(space, i));
+    while i < 16384 {
+        list[i] = word_at(space, i);
         i += 1;
     }
+    list
 }
 
-// Copies bytes to the start of others, as many as these are.
-pub fn copied(bytes: &[u8], to: &mut [u8]) {
-    let mut i: usize = 0;
-    while i < bytes.len() {
-        set_byte(to, i, byte_at(bytes, i));
-        i += 1;
-    }
+// Copies bytes to the start of others.
+pub fn copied(bytes: &[u8], to: &mut Space) {
+    put_all(to, 0, bytes);
 }
 
 // The place of a name among names, each with a comma after it; their number where it is none of them.

@@ -1,61 +1,45 @@
-// Test support: the engine's calls on the sheet and formulas of a buffer of four slots of 4,096 bytes: slot 0 the sheet, 1 to 3 the
-// formulas.
+// Test support: the engine's calls on the sheet and formulas of four slots of 4,096 bytes: slot 0 the sheet, 1 to 3 the formulas.
 ghost use mathlib.Core.Path.{_≡_};
 ghost use lib.ListN.{length};
-ghost use Prim.Native.Nat.{_+_, _%_};
+use fields::part;
 use random_formulas::cells::BYTES;
+use random_formulas::cells::Cells;
 use random_formulas::cells::LENGTHS;
+use random_formulas::cells::SLOTS;
 use random_formulas::cells::TEXT;
 use random_formulas::cells::at;
 use random_formulas::cells::set;
 use signals::Verdict;
+use signals::WORDS;
 use signals::Written;
 
-pub fn slots() -> [u8; 16384]
-    ensures { λ r. ⌜ 16384 ≡ length r ⌝ }
-{
-    [0; 16384]
-}
-
-pub fn work_area() -> [u32; 8192]
-    ensures { λ r. ⌜ 8192 ≡ length r ⌝ }
-{
-    [0; 8192]
-}
-
-pub fn longest() -> [u32; 256]
-    ensures { λ r. ⌜ 256 ≡ length r ⌝ }
-{
-    [0; 256]
-}
-
-fn set_byte(a: &mut [u8], i: usize, v: u8) {
-    if i < a.len() {
-        a[i] = v;
-    }
-}
-
 // Puts the bytes written into a slot.
-pub fn kept(cells: &mut [u64], slots: &mut [u8], slot: usize) {
-    let n = at(cells, BYTES) % 4097;
-    let start = slot % 4 * 4096;
-    set(cells, LENGTHS + slot % 4, n);
+pub fn kept(cells: &mut Cells, slot: usize) {
+    let n = (cells[BYTES] % 4097) as usize;
+    set(cells, LENGTHS + slot % 4, n as u64);
+    let start = SLOTS + slot % 4 * 4096;
     let mut i: usize = 0;
-    while i < 4096 {
-        set_byte(slots, start + i, (at(cells, TEXT + i) % 256) as u8);
+    while i < n {
+        set(cells, start + i, at(cells, TEXT + i));
         i += 1;
     }
 }
 
+fn length(cells: &Cells, slot: usize) -> usize {
+    (at(cells, LENGTHS + slot % 4) % 4097) as usize
+}
+
 // The bytes of a slot.
-fn held<'a>(cells: &[u64], slots: &'a [u8], slot: usize) -> &'a [u8] {
-    let start = slot % 4 * 4096;
-    let end = start + (at(cells, LENGTHS + slot % 4) % 4097) as usize;
-    let none: usize = 0;
-    if end <= slots.len() {
-        return &slots[start..end];
+fn held(cells: &Cells, slot: usize) -> [u8; 4096] {
+    let n = length(cells, slot) % 4097;
+    let start = SLOTS + slot % 4 * 4096;
+    let mut bytes = [0u8; 4096];
+    let mut i: usize = 0;
+    while i < n {
+        bytes[i] = (at(cells, start + i) % 256) as u8;
+        i += 1;
     }
-    &slots[none..none]
+    bytes
 }
 
 // A word count, or 1,000 + the fault.
@@ -77,38 +61,44 @@ fn verdict_number(answer: Verdict) -> u64 {
 }
 
 // The formula call.
-pub fn call(cells: &[u64], slots: &[u8], f: usize, work: &mut [u32], out: &mut [u32]) -> u64 {
-    let sheet = held(cells, slots, 0);
-    let text = held(cells, slots, f);
-    written_number(evaluation::evaluate(sheet, text, work, out))
+pub fn call(cells: &Cells, f: usize, work: &mut [u32], out: &mut [u32]) -> u64 {
+    let sheet = held(cells, 0);
+    let text = held(cells, f);
+    written_number(evaluation::evaluate(
+        part(&sheet, 0, length(cells, 0)),
+        part(&text, 0, length(cells, f)),
+        work,
+        out,
+    ))
 }
 
 // The claim of two formulas.
-pub fn claim(cells: &[u64], slots: &[u8], f: usize, g: usize, work: &mut [u32]) -> u64 {
-    let sheet = held(cells, slots, 0);
-    let first = held(cells, slots, f);
-    let second = held(cells, slots, g);
-    verdict_number(evaluation::claim(sheet, first, second, work))
+pub fn claim(cells: &Cells, f: usize, g: usize, work: &mut [u32]) -> u64 {
+    let sheet = held(cells, 0);
+    let first = held(cells, f);
+    let second = held(cells, g);
+    verdict_number(evaluation::claim(
+        part(&sheet, 0, length(cells, 0)),
+        part(&first, 0, length(cells, f)),
+        part(&second, 0, length(cells, g)),
+        work,
+    ))
 }
 
 // The old word at a place of the output.
-pub fn old(i: usize) -> u32
-    ensures { λ r. ⌜ r ≡ i % 256 + 7000 ⌝ }
-{
+pub fn old(i: usize) -> u32 {
     (i % 256) as u32 + 7000
 }
 
-fn set_word(a: &mut [u32], i: usize, v: u32) {
-    if i < a.len() {
-        a[i] = v;
-    }
-}
-
-// Old words for the output.
-pub fn fill(out: &mut [u32]) {
+// An output of old words.
+pub fn old_words() -> [u32; WORDS]
+    ensures { λ r. ⌜ 256 ≡ length r ⌝ }
+{
+    let mut words = [0u32; WORDS];
     let mut i: usize = 0;
-    while i < out.len() {
-        set_word(out, i, old(i));
+    while i < WORDS {
+        words[i] = old(i);
         i += 1;
     }
+    words
 }

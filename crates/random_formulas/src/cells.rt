@@ -1,9 +1,4 @@
-// The cells, one slice of numbers: their places by name, elements that are 0 past the end, and random numbers.
-ghost use mathlib.Core.Path.{_≡_};
-ghost use lib.ListN.{length, getD, set};
-ghost use Prim.Native.Nat.{_+_, _%_};
-ghost use Rattle.random_formulas.specs.Draws.{nextSeed, drawnBelow, Rolled};
-
+// The cells, one array of numbers: their places by name, elements that are 0 past the end, and random numbers.
 pub const SEED: usize = 0;
 // The number of tasks left, of bytes written, the depth of the part being written and the greatest so far.
 pub const TASKS: usize = 1;
@@ -45,54 +40,49 @@ pub const TASK: usize = 1280;
 pub const TEXT: usize = 2048;
 // 64 rows of 832 moments.
 pub const ROWS: usize = 8192;
+// The bytes of the sheet and of three formulas, 4,096 each.
+pub const SLOTS: usize = 61440;
 
-pub fn whole() -> [u64; 61440]
-    ensures { λ r. ⌜ 61440 ≡ length r ⌝ }
-{
-    [0; 61440]
+pub type Cells = [u64; 77824];
+
+pub fn whole() -> Cells {
+    [0; 77824]
 }
 
-pub fn at(cells: &[u64], i: usize) -> u64
-    ensures { λ r. ⌜ r ≡ getD (now (cells .entry)) i 0 ⌝ }
-{
-    if i < cells.len() { cells[i] } else { 0 }
+pub fn at(cells: &Cells, i: usize) -> u64 {
+    if i < 77824 { cells[i] } else { 0 }
 }
 
-pub fn set(cells: &mut [u64], i: usize, v: u64)
-    ensures { λ _. ⌜ now (cells .exit) ≡ set (now (cells .entry)) i v ⌝ }
-{
-    if i < cells.len() {
+pub fn set(cells: &mut Cells, i: usize, v: u64) {
+    if i < 77824 {
         cells[i] = v;
     }
 }
 
-// One more of a kind.
-pub fn count(cells: &mut [u64], i: usize)
-    ensures { λ _. ⌜ now (cells .exit) ≡ set (now (cells .entry)) i (getD (now (cells .entry)) i 0 % 1000000000 + 1) ⌝ }
-{
+// So many more of a kind.
+pub fn count(cells: &mut Cells, i: usize, more: u64) {
     let n = at(cells, i) % 1000000000;
-    set(cells, i, n + 1);
+    set(cells, i, n + more % 16);
 }
 
-// The seed after s.
-fn next_seed(s: u64) -> u64
-    ensures { λ r. ⌜ r ≡ nextSeed s ⌝ }
-{
-    s % 2147483647 * 48271 % 2147483647
+// A seed, and what was drawn when it came.
+pub struct Draw {
+    pub seed: u64,
+    pub value: u64,
 }
 
-// The number below n that a seed gives.
-fn drawn(seed: u64, n: u64) -> u64
-    ensures { λ r. ⌜ r ≡ drawnBelow seed n ⌝ }
-{
-    if n == 0 { 0 } else { seed / 16 % n }
+// A random number below n, 0 for 0, of the seed after the one given.
+pub fn drawn(seed: u64, n: u64) -> Draw {
+    let next = seed % 2147483647 * 48271 % 2147483647;
+    Draw {
+        seed: next,
+        value: if n == 0 { 0 } else { next / 16 % n },
+    }
 }
 
 // A random number below n, 0 for 0; the seed moves on.
-pub fn roll(cells: &mut [u64], n: u64) -> u64
-    ensures { λ r. ⌜ Rolled (now (cells .entry)) n (now (cells .exit)) r ⌝ }
-{
-    let seed = next_seed(at(cells, SEED));
-    set(cells, SEED, seed);
-    drawn(seed, n)
+pub fn roll(cells: &mut Cells, n: u64) -> u64 {
+    let d = drawn(cells[SEED], n);
+    cells[SEED] = d.seed;
+    d.value
 }

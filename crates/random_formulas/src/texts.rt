@@ -1,9 +1,7 @@
 // A tree's text, in brackets where the grouping needs them and here and there without need. A task is a byte to write, the end of an
 // operand of ! ^ ~ (256), or a part (1,024 + 4 * place + 0, 1, 2 for an operand that may be a sum, a product, a factor).
-ghost use mathlib.Core.Path.{_≡_};
-ghost use lib.ListN.{set};
-ghost use Rattle.random_formulas.specs.Texts.{withByte};
 use crate::cells::BYTES;
+use crate::cells::Cells;
 use crate::cells::DEEPEST;
 use crate::cells::DEPTH;
 use crate::cells::START;
@@ -16,37 +14,42 @@ use crate::cells::set;
 use crate::trees::left_of;
 use crate::trees::measure;
 use fields::byte_at;
+use fields::part;
 
-fn push(cells: &mut [u64], task: u64) {
-    let n = at(cells, TASKS) % 512;
+fn smaller(a: u64, b: u64) -> u64 {
+    if a < b { a } else { b }
+}
+
+fn larger(a: u64, b: u64) -> u64 {
+    if a < b { b } else { a }
+}
+
+// One task more, none for 0.
+fn push(cells: &mut Cells, task: u64) {
+    let n = cells[TASKS] % 512;
     set(cells, TASK + n as usize, task);
-    set(cells, TASKS, n + 1);
+    cells[TASKS] = n + smaller(task, 1) % 2;
 }
 
-fn push_part(cells: &mut [u64], place: usize, level: u64) {
-    let i = (place % 256) as u64;
-    push(cells, 1024 + 4 * i + level % 4);
+fn pop(cells: &mut Cells) -> u64 {
+    let n = (cells[TASKS] % 1024 + 511) % 512;
+    cells[TASKS] = n;
+    at(cells, TASK + n as usize)
 }
 
-fn pop(cells: &mut [u64]) -> u64 {
-    let n = at(cells, TASKS) % 1024;
-    if n == 0 {
-        return 0;
-    }
-    set(cells, TASKS, n - 1);
-    at(cells, TASK + n as usize - 1)
+// So many bytes more, one or none.
+pub fn write_some(cells: &mut Cells, b: u64, some: u64) {
+    let n = cells[BYTES] % 4096;
+    set(cells, TEXT + n as usize, b);
+    cells[BYTES] = n + some % 2;
 }
 
 // One byte more.
-pub fn write(cells: &mut [u64], b: u8)
-    ensures { λ _. ⌜ now (cells .exit) ≡ withByte (now (cells .entry)) b ⌝ }
-{
-    let n = at(cells, BYTES) % 4096;
-    set(cells, TEXT + n as usize, b as u64);
-    set(cells, BYTES, n + 1);
+pub fn write(cells: &mut Cells, b: u8) {
+    write_some(cells, b as u64, 1);
 }
 
-pub fn write_bytes(cells: &mut [u64], s: &[u8]) {
+pub fn write_bytes(cells: &mut Cells, s: &[u8]) {
     let mut i: usize = 0;
     while i < s.len() {
         write(cells, s[i]);
@@ -54,120 +57,106 @@ pub fn write_bytes(cells: &mut [u64], s: &[u8]) {
     }
 }
 
-fn deeper(cells: &mut [u64]) {
-    let n = at(cells, DEPTH) % 4096;
-    set(cells, DEPTH, n + 1);
+// The part here, so much deeper, counts for the greatest depth; its operands are so much deeper again.
+fn deepen(cells: &mut Cells, outer: u64, inner: u64) {
+    let here = cells[DEPTH] % 4096 + outer % 2;
+    cells[DEEPEST] = larger(cells[DEEPEST], here);
+    cells[DEPTH] = here + inner % 2;
 }
 
-fn less_deep(cells: &mut [u64]) {
-    let n = at(cells, DEPTH) % 4096;
-    if 0 < n {
-        set(cells, DEPTH, n - 1);
-    }
+// The bytes that begin a part of a kind: of a timer and a latch all up to the bracket.
+fn write_sign(cells: &mut Cells, kind: u64) {
+    let k = (kind % 12) as usize;
+    let width = byte_at(b"\x01\x01\x00\x01\x01\x01\x04\x04\x00\x00\x03\x03", k);
+    write_bytes(
+        cells,
+        part(
+            b"0   1       !   ^   ~   TON(TOF(        SR( RS( ",
+            k * 4,
+            k * 4 + width as usize,
+        ),
+    );
 }
 
-// The part here counts for the greatest depth.
-fn note(cells: &mut [u64]) {
-    let here = at(cells, DEPTH);
-    if at(cells, DEEPEST) < here {
-        set(cells, DEEPEST, here);
-    }
-}
-
-// The sign of a kind.
-fn sign(kind: u64) -> u8 {
-    byte_at(b"01a!^~NF.+SR", (kind % 16) as usize)
-}
-
-fn digits(cells: &mut [u64], d: u64) {
-    if d < 10 {
-        write(cells, d as u8 + 48);
-        return;
-    }
-    write_bytes(cells, b"1073741824");
-}
-
-fn leaf(cells: &mut [u64], kind: u64, value: u64) {
+// Where the bytes of a name, or of a length and its comma, stand among them all, and how many they are.
+fn value_from(kind: u64, value: u64) -> usize {
     if kind == 2 {
-        write(cells, (value % 16) as u8 + 97);
-        return;
+        (value % 16) as usize
+    } else if value < 10 {
+        16 + 2 * value as usize
+    } else {
+        36
     }
-    write(cells, sign(kind));
 }
 
-// An operand, one deeper up to the closing task.
-fn inside(cells: &mut [u64], closing: u64, operand: usize, level: u64) {
-    deeper(cells);
-    push(cells, closing);
-    push_part(cells, operand, level);
-}
-
-fn timer(cells: &mut [u64], kind: u64, value: u64) {
-    write_bytes(cells, b"TO");
-    write(cells, sign(kind));
-    write(cells, 40);
-    digits(cells, value);
-    write(cells, 44);
-}
-
-fn unary(cells: &mut [u64], kind: u64, value: u64, operand: usize) {
-    if kind < 6 {
-        write(cells, sign(kind));
-        inside(cells, 256, operand, 2);
-        return;
+fn value_width(kind: u64, value: u64) -> usize {
+    if kind == 2 {
+        1
+    } else if kind / 2 != 3 {
+        0
+    } else if value < 10 {
+        2
+    } else {
+        11
     }
-    timer(cells, kind, value);
-    inside(cells, 41, operand, 0);
 }
 
-fn latch(cells: &mut [u64], kind: u64, left: usize, right: usize) {
-    write(cells, sign(kind));
-    write(cells, sign(11 - kind % 2));
-    write(cells, 40);
-    inside(cells, 41, right, 0);
-    push(cells, 44);
-    push_part(cells, left, 0);
+fn write_value(cells: &mut Cells, kind: u64, value: u64) {
+    let from = value_from(kind, value) % 64;
+    let to = from + value_width(kind, value) % 64;
+    write_bytes(
+        cells,
+        part(b"abcdefghijklmnop0,1,2,3,4,5,6,7,8,9,1073741824,", from, to),
+    );
 }
 
-// A chain's operands, the right one a level up, and the operator between them.
-fn chain(cells: &mut [u64], kind: u64, left: usize, right: usize) {
-    let level = 1 - kind % 2;
-    push_part(cells, right, level + 1);
-    push(cells, sign(kind) as u64);
-    push_part(cells, left, level);
+// The task of a part.
+fn part_task(place: usize, level: u64) -> u64 {
+    1024 + 4 * (place % 256) as u64 + level % 4
 }
 
-fn binary(cells: &mut [u64], kind: u64, left: usize, right: usize) {
-    if kind < 10 {
-        chain(cells, kind, left, right);
-        return;
+// The tasks of a part's operands, the last to be done first.
+struct Operands {
+    first: u64,
+    second: u64,
+    third: u64,
+    fourth: u64,
+}
+
+fn four(first: u64, second: u64, third: u64, fourth: u64) -> Operands {
+    Operands {
+        first,
+        second,
+        third,
+        fourth,
     }
-    latch(cells, kind, left, right);
 }
 
-fn word_of(cells: &[u64], i: usize) -> u64 {
-    let from = (at(cells, START) % 4096) as usize;
-    at(cells, from + i % 256)
-}
-
-// The part at i, the brackets around it being open.
-fn bare(cells: &mut [u64], i: usize) {
-    let word = word_of(cells, i);
-    let kind = word % 16;
-    note(cells);
+// The right operand ends just before i; that of a chain is a level up, and the operator stands between the two.
+fn tasks_of(kind: u64, left: usize, i: usize) -> Operands {
+    let right = i % 256 + 255;
     if kind < 3 {
-        leaf(cells, kind, word / 16);
-        return;
+        return four(0, 0, 0, 0);
     }
-    if i == 0 {
-        return;
+    if kind < 6 {
+        return four(256, part_task(right, 2), 0, 0);
     }
     if kind < 8 {
-        unary(cells, kind, word / 16, i - 1);
-        return;
+        return four(41, part_task(right, 0), 0, 0);
     }
-    let left = left_of(cells, i);
-    binary(cells, kind, left, i - 1);
+    if kind < 10 {
+        let level = 1 - kind % 2;
+        let sign = 46 - kind % 2 * 3;
+        return four(part_task(right, level + 1), sign, part_task(left, level), 0);
+    }
+    four(41, part_task(right, 0), 44, part_task(left, 0))
+}
+
+fn push_all(cells: &mut Cells, tasks: Operands) {
+    push(cells, tasks.first);
+    push(cells, tasks.second);
+    push(cells, tasks.third);
+    push(cells, tasks.fourth);
 }
 
 fn level_of(kind: u64) -> u64 {
@@ -180,56 +169,85 @@ fn level_of(kind: u64) -> u64 {
     }
 }
 
-// An open bracket and the task to close it, where the grouping needs it or it is drawn.
-fn bracket(cells: &mut [u64], has: u64, level: u64) {
-    if roll(cells, 12) != 0 {
+// How much deeper the operands of a kind stand.
+fn inner(kind: u64) -> u64 {
+    if kind < 3 {
+        0
+    } else if kind / 2 == 4 {
+        0
+    } else {
+        1
+    }
+}
+
+// How many brackets are opened: one where the grouping needs it or it is drawn.
+fn brackets(drawn: u64, has: u64, level: u64) -> u64 {
+    if drawn != 0 {
         if level <= has {
-            return;
+            return 0;
         }
     }
-    write(cells, 40);
-    deeper(cells);
-    push(cells, 41);
+    1
 }
 
-fn placed(cells: &mut [u64], i: usize, level: u64) {
-    let has = level_of(word_of(cells, i) % 16);
-    bracket(cells, has, level);
-    bare(cells, i);
+fn word_of(cells: &Cells, i: usize) -> u64 {
+    let from = (cells[START] % 4096) as usize;
+    at(cells, from + i % 256)
 }
 
-fn byte_task(cells: &mut [u64], b: u8) {
-    write(cells, b);
-    if b == 41 {
-        less_deep(cells);
+// The bytes that begin a part, in so many brackets.
+fn begun(cells: &mut Cells, open: u64, kind: u64, value: u64) {
+    write_some(cells, 40, open);
+    push(cells, open % 2 * 41);
+    deepen(cells, open, inner(kind));
+    write_sign(cells, kind);
+    write_value(cells, kind, value);
+}
+
+fn placed(cells: &mut Cells, i: usize, level: u64) {
+    let word = word_of(cells, i);
+    let open = brackets(roll(cells, 12), level_of(word % 16), level);
+    begun(cells, open, word % 16, word / 16);
+    let left = left_of(cells, i);
+    push_all(cells, tasks_of(word % 16, left, i));
+}
+
+fn less(n: u64) -> u64 {
+    let depth = n % 4096;
+    if depth == 0 { 0 } else { depth - 1 }
+}
+
+// The depth after a task that is no part.
+fn depth_after(n: u64, task: u64) -> u64 {
+    if task == 41 {
+        less(n)
+    } else if task < 256 {
+        n
+    } else {
+        less(n)
     }
 }
 
-fn task(cells: &mut [u64], task: u64) {
-    if task < 256 {
-        byte_task(cells, task as u8);
-        return;
-    }
+fn task(cells: &mut Cells, task: u64) {
     if task < 1024 {
-        less_deep(cells);
+        write_some(cells, task, if task < 256 { 1 } else { 0 });
+        cells[DEPTH] = depth_after(cells[DEPTH], task);
         return;
     }
     placed(cells, ((task - 1024) / 4 % 256) as usize, task % 4);
 }
 
-pub fn cleared(cells: &mut [u64])
-    ensures { λ _. ⌜ now (cells .exit) ≡ set (set (set (set (now (cells .entry)) 1 0) 2 0) 3 0) 4 0 ⌝ }
-{
-    set(cells, TASKS, 0);
-    set(cells, BYTES, 0);
-    set(cells, DEPTH, 0);
-    set(cells, DEEPEST, 0);
+pub fn cleared(cells: &mut Cells) {
+    cells[TASKS] = 0;
+    cells[BYTES] = 0;
+    cells[DEPTH] = 0;
+    cells[DEEPEST] = 0;
 }
 
-fn tasks(cells: &mut [u64]) {
+fn tasks(cells: &mut Cells) {
     let mut turn: usize = 0;
     while turn < 4096 {
-        if at(cells, TASKS) == 0 {
+        if cells[TASKS] == 0 {
             return;
         }
         let next = pop(cells);
@@ -238,14 +256,19 @@ fn tasks(cells: &mut [u64]) {
     }
 }
 
-// Writes the tree of n parts from a place on; the cells then has the number of bytes and the greatest depth.
-pub fn written(cells: &mut [u64], from: usize, n: usize) {
-    cleared(cells);
+// The task of the last of n parts, none of none.
+fn last_task(n: usize) -> u64 {
     if n == 0 {
-        return;
+        return 0;
     }
-    set(cells, START, (from % 4096) as u64);
+    part_task(n - 1, 0)
+}
+
+// Writes the tree of n parts from a place on; the cells then have the number of bytes and the greatest depth.
+pub fn written(cells: &mut Cells, from: usize, n: usize) {
+    cleared(cells);
+    cells[START] = (from % 4096) as u64;
     measure(cells, from, n);
-    push_part(cells, n - 1, 0);
+    push(cells, last_task(n));
     tasks(cells);
 }

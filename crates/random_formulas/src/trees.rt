@@ -1,23 +1,15 @@
 // Random trees: a tree is its parts, operands before operators, each kind + 16 * value. Kinds: 0 and 1 the constants, 2 a name,
 // 3 !, 4 ^, 5 ~, 6 TON, 7 TOF, 8 ., 9 +, 10 SR, 11 RS. The value is the name's number or the length.
-ghost use mathlib.Core.Path.{_≡_};
-ghost use Prim.Native.Nat.{_+_, _*_, _%_};
-ghost use Rattle.random_formulas.specs.Trees.{operandsOf};
+use crate::cells::Cells;
+use crate::cells::Draw;
 use crate::cells::NAMES;
+use crate::cells::SEED;
 use crate::cells::SIZES;
 use crate::cells::at;
-use crate::cells::roll;
+use crate::cells::drawn;
 use crate::cells::set;
 
-pub fn part(kind: u64, value: u64) -> u64
-    ensures { λ r. ⌜ r ≡ kind % 16 + 16 * (value % 4294967296) ⌝ }
-{
-    kind % 16 + 16 * (value % 4294967296)
-}
-
-pub fn operands(kind: u64) -> u64
-    ensures { λ r. ⌜ r ≡ operandsOf kind ⌝ }
-{
+pub fn operands(kind: u64) -> u64 {
     if kind < 3 {
         0
     } else if kind < 8 {
@@ -27,109 +19,109 @@ pub fn operands(kind: u64) -> u64
     }
 }
 
-fn leaf(cells: &mut [u64]) -> u64 {
-    let k = roll(cells, 14);
-    if k < 2 {
+fn part(seed: u64, kind: u64, value: u64) -> Draw {
+    Draw {
+        seed,
+        value: kind % 16 + 16 * (value % 4294967296),
+    }
+}
+
+fn leaf(seed: u64, names: u64) -> Draw {
+    let k = drawn(seed, 14);
+    if k.value < 2 {
         return k;
     }
-    if roll(cells, 200) == 0 {
-        return part(2, 3);
+    let strange = drawn(k.seed, 200);
+    if strange.value == 0 {
+        return part(strange.seed, 2, 3);
     }
-    let names = at(cells, NAMES);
-    part(2, roll(cells, names))
+    let name = drawn(strange.seed, names);
+    part(name.seed, 2, name.value)
 }
 
-fn length(cells: &mut [u64]) -> u64 {
-    if roll(cells, 200) == 0 {
-        return 1073741824;
-    }
-    roll(cells, 5)
-}
-
-fn unary(cells: &mut [u64]) -> u64 {
-    let kind = roll(cells, 5) % 5 + 3;
+fn unary(seed: u64) -> Draw {
+    let d = drawn(seed, 5);
+    let kind = d.value % 5 + 3;
     if kind < 6 {
-        return part(kind, 0);
+        return part(d.seed, kind, 0);
     }
-    part(kind, length(cells))
+    let long = drawn(d.seed, 200);
+    if long.value == 0 {
+        return part(long.seed, kind, 1073741824);
+    }
+    let length = drawn(long.seed, 5);
+    part(length.seed, kind, length.value)
 }
 
-fn binary(cells: &mut [u64]) -> u64 {
-    roll(cells, 4) % 4 + 8
+fn binary(seed: u64) -> Draw {
+    let d = drawn(seed, 4);
+    part(d.seed, d.value % 4 + 8, 0)
 }
 
 // The next part, with so many trees waiting for their operator.
-fn next_part(cells: &mut [u64], waiting: u64, full: bool) -> u64 {
+fn next_part(seed: u64, names: u64, waiting: u64, full: bool) -> Draw {
     if waiting == 0 {
-        return leaf(cells);
+        return leaf(seed, names);
     }
     if full {
-        return binary(cells);
+        return binary(seed);
     }
-    let k = roll(cells, 10);
-    if k < 3 {
-        return unary(cells);
+    let k = drawn(seed, 10);
+    if k.value < 3 {
+        return unary(k.seed);
     }
-    if 5 < k {
+    if 5 < k.value {
         if 1 < waiting {
-            return binary(cells);
+            return binary(k.seed);
         }
     }
-    leaf(cells)
+    leaf(k.seed, names)
 }
 
 fn waiting_after(waiting: u64, word: u64) -> u64 {
-    let n = operands(word % 16);
-    if n == 0 {
-        return waiting % 64 + 1;
-    }
-    if n == 1 {
-        return waiting;
-    }
-    if 1 < waiting { waiting - 1 } else { waiting }
+    let n = operands(word % 16) % 3;
+    (waiting % 64 + 129 - n) % 128
 }
 
 // A random tree of at least so many parts from a place on, and how many it has.
-pub fn grow(cells: &mut [u64], from: usize, least: usize) -> usize {
+pub fn grow(cells: &mut Cells, from: usize, least: usize) -> usize {
+    let names = cells[NAMES];
     let mut waiting: u64 = 0;
     let mut n: usize = 0;
     while n < 120 {
         let full = least <= n;
-        if full {
-            if waiting == 1 {
-                return n;
-            }
+        if grown(waiting, full) {
+            return n;
         }
-        let word = next_part(cells, waiting, full);
-        set(cells, from % 4096 + n, word);
-        waiting = waiting_after(waiting, word);
+        let next = next_part(cells[SEED], names, waiting, full);
+        cells[SEED] = next.seed;
+        set(cells, from % 4096 + n, next.value);
+        waiting = waiting_after(waiting, next.value);
         n += 1;
     }
     n
 }
 
-fn size(cells: &[u64], i: usize) -> u64 {
+fn grown(waiting: u64, full: bool) -> bool {
+    if full { waiting == 1 } else { false }
+}
+
+fn size(cells: &Cells, i: usize) -> u64 {
     at(cells, SIZES + i % 256)
 }
 
 // Where the left operand of the part at i ends; its right operand ends just before i.
-pub fn left_of(cells: &[u64], i: usize) -> usize {
-    if i == 0 {
-        return 0;
-    }
-    let right = (size(cells, i - 1) % 256) as usize;
-    if right < i { i - 1 - right } else { 0 }
+pub fn left_of(cells: &Cells, i: usize) -> usize {
+    let right = (size(cells, i % 256 + 255) % 256) as usize;
+    (i % 256 + 511 - right) % 256
 }
 
-fn size_at(cells: &[u64], word: u64, i: usize) -> u64 {
+fn size_at(cells: &Cells, word: u64, i: usize) -> u64 {
     let n = operands(word % 16);
     if n == 0 {
         return 1;
     }
-    if i == 0 {
-        return 1;
-    }
-    let right = size(cells, i - 1) % 256 + 1;
+    let right = size(cells, i % 256 + 255) % 256 + 1;
     if n == 1 {
         return right;
     }
@@ -137,7 +129,7 @@ fn size_at(cells: &[u64], word: u64, i: usize) -> u64 {
 }
 
 // How many parts each part of the tree from a place on has, itself counted.
-pub fn measure(cells: &mut [u64], from: usize, n: usize) {
+pub fn measure(cells: &mut Cells, from: usize, n: usize) {
     let mut i: usize = 0;
     while i < n {
         let size = size_at(cells, at(cells, from % 4096 + i % 256), i);

@@ -1,12 +1,15 @@
 // Random formulas with their fault number, and spoiled sheets.
 use random_formulas::cells::BYTES;
+use random_formulas::cells::Cells;
 use random_formulas::cells::DEEPEST;
+use random_formulas::cells::Draw;
+use random_formulas::cells::SEED;
 use random_formulas::cells::TEXT;
 use random_formulas::cells::TREE;
-use random_formulas::cells::at;
+use random_formulas::cells::drawn;
 use random_formulas::cells::roll;
 use random_formulas::cells::set;
-use random_formulas::texts::write;
+use random_formulas::texts::write_some;
 use random_formulas::texts::written;
 use random_formulas::trees::grow;
 use random_sheets::steps::LONG;
@@ -14,15 +17,57 @@ use random_sheets::steps::STRANGE;
 use random_sheets::steps::first;
 
 // How many parts at least: mostly few.
-fn least(cells: &mut [u64]) -> usize {
-    if roll(cells, 25) == 0 {
-        return (roll(cells, 20) % 20) as usize + 18;
+fn least(seed: u64) -> Draw {
+    let many = drawn(seed, 25);
+    if many.value == 0 {
+        let d = drawn(many.seed, 20);
+        return Draw {
+            seed: d.seed,
+            value: d.value % 20 + 18,
+        };
     }
-    (roll(cells, 11) % 11) as usize + 1
+    let d = drawn(many.seed, 11);
+    Draw {
+        seed: d.seed,
+        value: d.value % 11 + 1,
+    }
 }
 
-// A byte that no formula ends with.
-fn stray(r: u64) -> u8 {
+// A tree, how many parts it has.
+pub fn tree(cells: &mut Cells) -> usize {
+    let parts = least(cells[SEED]);
+    cells[SEED] = parts.seed;
+    grow(cells, TREE, parts.value as usize)
+}
+
+fn tree_fault_of(bytes: u64, long: bool, n: usize, depth: u64, strange: bool) -> u64 {
+    if 1024 < bytes {
+        10
+    } else if long {
+        8
+    } else if 32 < n {
+        12
+    } else if 16 < depth {
+        12
+    } else if strange {
+        13
+    } else {
+        0
+    }
+}
+
+fn tree_fault(cells: &Cells, n: usize) -> u64 {
+    tree_fault_of(
+        cells[BYTES],
+        first(cells, LONG, 0, 0, n) < n,
+        n,
+        cells[DEEPEST],
+        first(cells, STRANGE, 0, 0, n) < n,
+    )
+}
+
+// The byte that no formula ends with, of the drawn number; how many of it.
+fn stray(r: u64) -> u64 {
     if r == 2 {
         43
     } else if r == 3 {
@@ -32,87 +77,61 @@ fn stray(r: u64) -> u8 {
     }
 }
 
-// Spoils some texts; their fault, else the one given.
-fn spoiled(cells: &mut [u64], fault: u64) -> u64 {
-    let r = roll(cells, 250);
-    if 4 < r {
-        return fault;
-    }
+fn strays(r: u64) -> u64 {
     if r < 2 {
-        set(cells, BYTES, r * 1025);
-        return 10;
+        0
+    } else if 4 < r {
+        0
+    } else {
+        1
     }
-    write(cells, stray(r));
-    11
 }
 
-fn shape_fault(n: usize, depth: u64) -> u64 {
-    if 32 < n {
-        return 12;
-    }
-    if 16 < depth { 12 } else { 0 }
+fn spoiled_bytes(r: u64, n: u64) -> u64 {
+    if r < 2 { r * 1025 } else { n }
 }
 
-fn tree_fault(cells: &[u64], n: usize) -> u64 {
-    if 1024 < at(cells, BYTES) {
-        return 10;
+fn spoiled_fault(r: u64, fault: u64) -> u64 {
+    if r < 2 {
+        10
+    } else if 4 < r {
+        fault
+    } else {
+        11
     }
-    if first(cells, LONG, 0, 0, n) < n {
-        return 8;
-    }
-    let fault = shape_fault(n, at(cells, DEEPEST));
-    if fault != 0 {
-        return fault;
-    }
-    if first(cells, STRANGE, 0, 0, n) < n {
-        return 13;
-    }
-    0
-}
-
-// A tree, how many parts it has.
-pub fn tree(cells: &mut [u64]) -> usize {
-    let parts = least(cells);
-    grow(cells, TREE, parts)
 }
 
 // Writes the tree, and spoils some texts; the fault.
-pub fn text(cells: &mut [u64], n: usize) -> u64 {
+pub fn text(cells: &mut Cells, n: usize) -> u64 {
     written(cells, TREE, n);
     let fault = tree_fault(cells, n);
-    spoiled(cells, fault)
+    let r = roll(cells, 250);
+    write_some(cells, stray(r), strays(r));
+    cells[BYTES] = spoiled_bytes(r, cells[BYTES]);
+    spoiled_fault(r, fault)
 }
 
 // A sheet fault, most times none.
-pub fn sheet_fault(cells: &mut [u64]) -> u64 {
-    let r = roll(cells, 200);
+pub fn sheet_fault(r: u64) -> u64 {
     if r < 4 { r + 14 } else { 0 }
 }
 
-// The place of the version, of the first name and of the first word.
+// The place of the version, of the first name and of the first word; of another fault one that nothing reads.
 fn spoiled_place(fault: u64) -> usize {
-    if fault == 14 {
-        TEXT + 3
-    } else if fault == 16 {
-        TEXT + 7
-    } else {
-        TEXT + 17
+    match fault {
+        14 => TEXT + 3,
+        16 => TEXT + 7,
+        17 => TEXT + 17,
+        _ => 31,
     }
 }
 
-// Version 2, the name A, the first word 2.
-fn spoiled_byte(fault: u64) -> u64 {
-    if fault == 16 { 65 } else { 2 }
-}
-
-// Spoils the sheet written so that it has the fault: by a byte more, or by another byte in its place.
-pub fn spoil(cells: &mut [u64], fault: u64) {
-    if fault == 0 {
-        return;
-    }
-    if fault == 15 {
-        write(cells, 0);
-        return;
-    }
-    set(cells, spoiled_place(fault), spoiled_byte(fault));
+// Spoils the sheet written so that it has the fault: by a byte more, or by another in its place: version 2, the name A, the first word 2.
+pub fn spoil(cells: &mut Cells, fault: u64) {
+    write_some(cells, 0, if fault == 15 { 1 } else { 0 });
+    set(
+        cells,
+        spoiled_place(fault),
+        if fault == 16 { 65 } else { 2 },
+    );
 }

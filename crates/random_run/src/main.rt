@@ -4,29 +4,29 @@ mod compared;
 mod made;
 
 use crate::compared::round;
-use random_calls::slots;
+use random_formulas::cells::Cells;
 use random_formulas::cells::SEED;
 use random_formulas::cells::TALLY;
 use random_formulas::cells::at;
-use random_formulas::cells::set;
 use random_formulas::cells::whole;
 
-fn rounds(cells: &mut [u64], slots: &mut [u8], many: usize) {
+fn rounds(cells: &mut Cells, many: usize) {
+    cells[SEED] = 20261115;
     let mut i: usize = 0;
     while i < many {
-        round(cells, slots);
+        round(cells);
         i += 1;
     }
 }
 
-fn line(label: &[u8], cells: &[u64], kind: usize) {
+fn line(label: &[u8], cells: &Cells, kind: usize) {
     io::write_all(1, label);
     io::print_decimal(1, at(cells, TALLY + kind % 32));
     io::write_all(1, b"\n");
 }
 
 // The fault in the label is the number of its kind; formula calls have no fault 9.
-fn told_fault(cells: &[u64], fault: usize) {
+fn told_fault(cells: &Cells, fault: usize) {
     if fault == 9 {
         return;
     }
@@ -35,7 +35,7 @@ fn told_fault(cells: &[u64], fault: usize) {
     line(b" ", cells, fault);
 }
 
-fn told_faults(cells: &[u64]) {
+fn told_faults(cells: &Cells) {
     let mut fault: usize = 5;
     while fault < 19 {
         told_fault(cells, fault);
@@ -43,24 +43,18 @@ fn told_faults(cells: &[u64]) {
     }
 }
 
-fn told_claims(cells: &[u64]) {
+fn told_claims(cells: &Cells) {
     line(b"claims that hold ", cells, 21);
     line(b"claims that fail at ", cells, 22);
     line(b"claims that fail after ", cells, 23);
     line(b"claims refused ", cells, 24);
 }
 
-fn run(cells: &mut [u64], slots: &mut [u8]) {
-    set(cells, SEED, 20261115);
-    rounds(cells, slots, 20000);
-    line(b"formulas answered ", cells, 20);
-    told_faults(cells);
-    told_claims(cells);
-    line(b"mismatches ", cells, 0);
-}
-
 fn main() {
     let mut cells = whole();
-    let mut slots = slots();
-    run(&mut cells, &mut slots);
+    rounds(&mut cells, 20000);
+    line(b"formulas answered ", &cells, 20);
+    told_faults(&cells);
+    told_claims(&cells);
+    line(b"mismatches ", &cells, 0);
 }

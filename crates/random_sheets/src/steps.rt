@@ -3,11 +3,11 @@ use crate::rows::dates;
 use crate::rows::row_fault;
 use crate::rows::store;
 use crate::rows::up;
+use random_formulas::cells::Cells;
 use random_formulas::cells::NAMES;
 use random_formulas::cells::PART;
 use random_formulas::cells::TREE;
 use random_formulas::cells::at;
-use random_formulas::cells::set;
 use random_formulas::trees::operands;
 
 // The tests of a place: a row is down or up at a moment, row 1 is up and row 2 down, a part of the tree has a length above M, a part
@@ -22,7 +22,7 @@ pub const LONG: u64 = 3;
 
 pub const STRANGE: u64 = 4;
 
-fn fails(cells: &[u64], moment: usize) -> bool {
+fn fails(cells: &Cells, moment: usize) -> bool {
     if up(cells, 1, moment) {
         return !up(cells, 2, moment);
     }
@@ -43,7 +43,7 @@ fn strange(word: u64, names: u64) -> bool {
     false
 }
 
-fn passes(cells: &[u64], test: u64, row: usize, i: usize) -> bool {
+fn passes(cells: &Cells, test: u64, row: usize, i: usize) -> bool {
     if test < FAILS {
         let value = test == UP;
         return up(cells, row, i) == value;
@@ -59,7 +59,7 @@ fn passes(cells: &[u64], test: u64, row: usize, i: usize) -> bool {
 }
 
 // The first place from one up to another that passes the test, the end when none does.
-pub fn first(cells: &[u64], test: u64, row: usize, from: usize, end: usize) -> usize {
+pub fn first(cells: &Cells, test: u64, row: usize, from: usize, end: usize) -> usize {
     let mut i = from;
     while i < end {
         if passes(cells, test, row, i) {
@@ -70,7 +70,7 @@ pub fn first(cells: &[u64], test: u64, row: usize, from: usize, end: usize) -> u
     end
 }
 
-fn leaf_up(cells: &[u64], kind: u64, value: u64, moment: usize) -> bool {
+fn leaf_up(cells: &Cells, kind: u64, value: u64, moment: usize) -> bool {
     if kind < 2 {
         return kind == 1;
     }
@@ -79,19 +79,16 @@ fn leaf_up(cells: &[u64], kind: u64, value: u64, moment: usize) -> bool {
 }
 
 // Up, or down, at an instant and the other just before.
-fn edge(cells: &[u64], row: usize, moment: usize, to: bool) -> bool {
-    if moment % 2 == 0 {
-        return false;
-    }
-    if moment == 0 {
-        return false;
-    }
+fn edge(cells: &Cells, row: usize, moment: usize, to: bool) -> bool {
     let now = up(cells, row, moment);
-    let before = up(cells, row, moment - 1);
-    if now == before {
-        return false;
+    let before = up(cells, row, moment % 832 + 831);
+    if moment % 2 == 0 {
+        false
+    } else if now == before {
+        false
+    } else {
+        now == to
     }
-    now == to
 }
 
 // The first moment from t-d on.
@@ -101,12 +98,12 @@ fn back(moment: usize, d: u64) -> usize {
 }
 
 // The row has the value at some moment from t-d to t.
-fn some(cells: &[u64], test: u64, row: usize, moment: usize, d: u64) -> bool {
+fn some(cells: &Cells, test: u64, row: usize, moment: usize, d: u64) -> bool {
     let end = moment % 832 + 1;
     first(cells, test, row, back(moment, d), end) < end
 }
 
-fn ton(cells: &[u64], row: usize, moment: usize, d: u64) -> bool {
+fn ton(cells: &Cells, row: usize, moment: usize, d: u64) -> bool {
     let k = (moment % 1024 + 1) / 2;
     if (k as u64) < d {
         return false;
@@ -114,7 +111,7 @@ fn ton(cells: &[u64], row: usize, moment: usize, d: u64) -> bool {
     !some(cells, DOWN, row, moment, d)
 }
 
-fn unary_up(cells: &[u64], kind: u64, d: u64, row: usize, moment: usize) -> bool {
+fn unary_up(cells: &Cells, kind: u64, d: u64, row: usize, moment: usize) -> bool {
     if kind == 3 {
         return !up(cells, row, moment);
     }
@@ -128,7 +125,7 @@ fn unary_up(cells: &[u64], kind: u64, d: u64, row: usize, moment: usize) -> bool
 }
 
 // At moment m, with r down on all the moments after it: 0 when SR or RS is up by it, 1 when r is up, 2 when earlier moments decide.
-fn decided(cells: &[u64], kind: u64, s: usize, r: usize, m: usize) -> u64 {
+fn decided(cells: &Cells, kind: u64, s: usize, r: usize, m: usize) -> u64 {
     let set = up(cells, s, m);
     let reset = up(cells, r, m);
     if reset {
@@ -143,7 +140,7 @@ fn decided(cells: &[u64], kind: u64, s: usize, r: usize, m: usize) -> u64 {
 }
 
 // SR and RS at a moment, back from it.
-fn latched(cells: &[u64], kind: u64, s: usize, r: usize, moment: usize) -> bool {
+fn latched(cells: &Cells, kind: u64, s: usize, r: usize, moment: usize) -> bool {
     let mut left = moment % 832 + 1;
     while 0 < left {
         left -= 1;
@@ -155,7 +152,7 @@ fn latched(cells: &[u64], kind: u64, s: usize, r: usize, moment: usize) -> bool 
     false
 }
 
-fn latch_up(cells: &[u64], kind: u64, s: usize, r: usize, moment: usize) -> bool {
+fn latch_up(cells: &Cells, kind: u64, s: usize, r: usize, moment: usize) -> bool {
     if kind == 10 {
         if up(cells, s, moment) {
             return true;
@@ -164,7 +161,7 @@ fn latch_up(cells: &[u64], kind: u64, s: usize, r: usize, moment: usize) -> bool
     latched(cells, kind, s, r, moment)
 }
 
-fn binary_up(cells: &[u64], kind: u64, f: usize, g: usize, moment: usize) -> bool {
+fn binary_up(cells: &Cells, kind: u64, f: usize, g: usize, moment: usize) -> bool {
     if 9 < kind {
         return latch_up(cells, kind, f, g, moment);
     }
@@ -178,7 +175,7 @@ fn binary_up(cells: &[u64], kind: u64, f: usize, g: usize, moment: usize) -> boo
 }
 
 // A part at a moment, its operands standing in the row and the one after it.
-fn part_up(cells: &[u64], kind: u64, value: u64, row: usize, moment: usize) -> bool {
+fn part_up(cells: &Cells, kind: u64, value: u64, row: usize, moment: usize) -> bool {
     let n = operands(kind);
     if n == 0 {
         return leaf_up(cells, kind, value, moment);
@@ -190,8 +187,8 @@ fn part_up(cells: &[u64], kind: u64, value: u64, row: usize, moment: usize) -> b
 }
 
 // From the last moment to the first, since a part looks only back.
-fn filled(cells: &mut [u64], kind: u64, value: u64, row: usize) {
-    let mut m = 2 * dates(cells);
+fn filled(cells: &mut Cells, kind: u64, value: u64, row: usize) {
+    let mut m = dates(cells) % 417 * 2;
     while 0 < m {
         m -= 1;
         let v = part_up(cells, kind, value, row, m);
@@ -199,31 +196,29 @@ fn filled(cells: &mut [u64], kind: u64, value: u64, row: usize) {
     }
 }
 
+pub fn first_of(before: u64, now: u64) -> u64 {
+    if before == 0 { now } else { before }
+}
+
 // Notes the fault of the part in the row, unless one before it met one.
-fn noted(cells: &mut [u64], row: usize) {
-    if at(cells, PART) == 0 {
-        let fault = row_fault(cells, row);
-        set(cells, PART, fault);
-    }
+fn noted(cells: &mut Cells, row: usize) {
+    let fault = row_fault(cells, row);
+    cells[PART] = first_of(cells[PART], fault);
 }
 
 // One part more; how many rows stand from the base on.
-fn step(cells: &mut [u64], word: u64, top: usize, base: usize) -> usize {
+fn step(cells: &mut Cells, word: u64, top: usize, base: usize) -> usize {
     let kind = word % 16;
     let n = (operands(kind) % 3) as usize;
-    let high = top % 64;
-    if high < n {
-        return high;
-    }
-    let row = base % 64 + high - n;
+    let row = base % 64 + (top % 64 + 64 - n) % 64;
     filled(cells, kind, word / 16, row);
     noted(cells, row);
-    high + 1 - n
+    (top % 64 + 65 - n) % 64
 }
 
 // The tree of n parts, its values in the row base; the fault of its first part that meets 5 or 6 is noted.
-pub fn stepped(cells: &mut [u64], n: usize, base: usize) {
-    set(cells, PART, 0);
+pub fn stepped(cells: &mut Cells, n: usize, base: usize) {
+    cells[PART] = 0;
     let mut top: usize = 0;
     let mut i: usize = 0;
     while i < n {

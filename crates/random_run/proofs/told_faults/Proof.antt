@@ -1,6 +1,6 @@
 -- `random_run::told_faults` is safe and ends.
 use borrow.Author.Needs.{needs}
-use Prim.Native.Nat.{_≤_, _-_}
+use Prim.Native.Nat.{_-_, _≤_}
 use Rattle.random_run.proofs.told_faults.Statement.{statement}
 use Rattle.random_run.proofs.told_faults.Tie as tie
 

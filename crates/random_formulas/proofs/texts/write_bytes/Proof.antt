@@ -1,13 +1,12 @@
 -- `random_formulas::texts::write_bytes` is safe and ends.
 use borrow.Author.Needs.{needs}
-use Prim.Native.Nat.{_-_}
-use mathlib.Core.Path.{_≡_}
+use Prim.Native.Nat.{_-_, _≤_}
 use lib.ListN.{length}
 use Rattle.random_formulas.proofs.texts.write_bytes.Statement.{statement}
 use Rattle.random_formulas.proofs.texts.write_bytes.Tie as tie
 
 abbrev Inv-loop : tie.InvT-loop
-Inv-loop cells₀ s i₀ cells i = length cells ≡ length cells₀
+Inv-loop cells₀ s i₀ cells i = 0 ≤ 0
 
 abbrev μ-loop : tie.MeasureT-loop
 μ-loop cells₀ s i₀ cells i = length s - i
@@ -16,4 +15,4 @@ pub write-bytes-spec : {M : Type 1} → statement M
 write-bytes-spec =
     tie.close
     (tie.spec Inv-loop μ-loop (λ c. search needs) (λ c. search needs) (λ c κs. search needs) (λ c. search needs) (λ c. search needs)
-    (λ c. search needs) (λ c. search needs) (λ c. search needs))
+    (λ c. search needs) (λ c. search needs))

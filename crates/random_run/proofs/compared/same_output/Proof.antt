@@ -1,6 +1,6 @@
 -- `random_run::compared::same_output` is safe and ends.
 use borrow.Author.Needs.{needs}
-use Prim.Native.Nat.{_≤_, _-_}
+use Prim.Native.Nat.{_-_, _≤_}
 use lib.ListN.{length}
 use Rattle.random_run.proofs.compared.same_output.Statement.{statement}
 use Rattle.random_run.proofs.compared.same_output.Tie as tie
@@ -14,5 +14,5 @@ abbrev μ-loop : tie.MeasureT-loop
 pub same-output-spec : {M : Type 1} → statement M
 same-output-spec =
     tie.close
-    (tie.spec Inv-loop μ-loop (λ c. search needs) (λ c κs. search needs) (λ c. search needs) (λ c. search needs) (λ c. search needs)
-    (λ c. search needs) (λ c. search needs))
+    (tie.spec Inv-loop μ-loop (λ c. search needs) (λ c. search needs) (λ c. search needs) (λ c κs. search needs) (λ c κs. search needs)
+    (λ c. search needs) (λ c. search needs) (λ c. search needs) (λ c. search needs) (λ c. search needs))

@@ -1,13 +1,11 @@
 -- `random_sheets::steps::filled` is safe and ends.
 use borrow.Author.Needs.{needs}
-use Prim.Native.Nat.{_-_}
-use mathlib.Core.Path.{_≡_}
-use lib.ListN.{length}
+use Prim.Native.Nat.{_≤_}
 use Rattle.random_sheets.proofs.steps.filled.Statement.{statement}
 use Rattle.random_sheets.proofs.steps.filled.Tie as tie
 
 abbrev Inv-loop : tie.InvT-loop
-Inv-loop cells₀ kind value row m₀ cells m = length cells ≡ length cells₀
+Inv-loop cells₀ kind value row m₀ cells m = 0 ≤ 0
 
 abbrev μ-loop : tie.MeasureT-loop
 μ-loop cells₀ kind value row m₀ cells m = m
@@ -16,4 +14,4 @@ pub filled-spec : {M : Type 1} → statement M
 filled-spec =
     tie.close
     (tie.spec Inv-loop μ-loop (λ c κs. search needs) (λ c. search needs) (λ c. search needs) (λ c. search needs) (λ c κs. search needs)
-    (λ c κs. search needs) (λ c. search needs) (λ c. search needs) (λ c. search needs) (λ c. search needs))
+    (λ c κs. search needs) (λ c. search needs) (λ c. search needs) (λ c. search needs))

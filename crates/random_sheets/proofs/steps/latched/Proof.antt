@@ -1,6 +1,6 @@
 -- `random_sheets::steps::latched` is safe and ends.
 use borrow.Author.Needs.{needs}
-use Prim.Native.Nat.{_≤_, _-_}
+use Prim.Native.Nat.{_≤_}
 use Rattle.random_sheets.proofs.steps.latched.Statement.{statement}
 use Rattle.random_sheets.proofs.steps.latched.Tie as tie
 

@@ -1,13 +1,11 @@
 -- `random_sheets::steps::stepped` is safe and ends.
 use borrow.Author.Needs.{needs}
-use Prim.Native.Nat.{_-_}
-use mathlib.Core.Path.{_≡_}
-use lib.ListN.{length}
+use Prim.Native.Nat.{_-_, _≤_}
 use Rattle.random_sheets.proofs.steps.stepped.Statement.{statement}
 use Rattle.random_sheets.proofs.steps.stepped.Tie as tie
 
 abbrev Inv-loop : tie.InvT-loop
-Inv-loop cells₀ n base top₀ i₀ cells top i = length cells ≡ length cells₀
+Inv-loop cells₀ n base top₀ i₀ cells top i = 0 ≤ 0
 
 abbrev μ-loop : tie.MeasureT-loop
 μ-loop cells₀ n base top₀ i₀ cells top i = n - i
@@ -15,5 +13,5 @@ abbrev μ-loop : tie.MeasureT-loop
 pub stepped-spec : {M : Type 1} → statement M
 stepped-spec =
     tie.close
-    (tie.spec Inv-loop μ-loop (λ c κs. search needs) (λ c. search needs) (λ c. search needs) (λ c κs. search needs) (λ c κs. search needs)
-    (λ c. search needs) (λ c. search needs) (λ c. search needs) (λ c. search needs) (λ c. search needs))
+    (tie.spec Inv-loop μ-loop (λ c. search needs) (λ c. search needs) (λ c. search needs) (λ c κs. search needs) (λ c κs. search needs)
+    (λ c. search needs) (λ c. search needs) (λ c. search needs) (λ c. search needs))

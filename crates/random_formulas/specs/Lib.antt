@@ -1,4 +1,0 @@
--- Definitions that the contracts cite.
-pub mod Draws
-pub mod Texts
-pub mod Trees

@@ -1,2 +1,0 @@
--- Definitions that the contracts cite.
-pub mod Rows
