@@ -31,10 +31,7 @@ pub fn name_in(text: &[u8], code: u64) -> &[u8]
 pub fn constant(code: u64) -> u32
     ensures { λ r. ⌜ r ≡ constantOf code ⌝ }
 {
-    if code % 16 == kind::UP {
-        return 1;
-    }
-    0
+    if code % 16 == kind::UP { 1 } else { 0 }
 }
 
 // How many operands the part takes.
