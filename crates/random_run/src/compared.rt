@@ -82,12 +82,20 @@ fn list(cells: &mut Cells, row: usize) -> usize {
     (cells[BYTES] / 4) as usize
 }
 
+fn note(cells: &Cells, k: usize) -> u64 {
+    at(cells, NOTES + k % 4)
+}
+
+fn note_of_parts(cells: &Cells, k: usize) -> u64 {
+    at(cells, NOTES + 4 + k % 4)
+}
+
 // What a call of F, or a claim of F to G, meets before its output: the sheet's fault, F's, G's, 18, then F's parts, then G's.
 fn fault_of(cells: &Cells, f: usize, g: usize) -> u64 {
-    let texts = first_of(at(cells, NOTES + f % 4), at(cells, NOTES + g % 4));
-    let parts = first_of(at(cells, NOTES + 4 + f % 4), at(cells, NOTES + 4 + g % 4));
-    let early = first_of(cells[NOTES], texts);
-    first_of(early, first_of(cells[NOTES + 3], parts)) % 20
+    let texts = first_of(note(cells, f), note(cells, g));
+    let parts = first_of(note_of_parts(cells, f), note_of_parts(cells, g));
+    let early = first_of(note(cells, 0), texts);
+    first_of(early, first_of(note(cells, 3), parts)) % 20
 }
 
 // The fault of a call with no fault before its output, its list having so many words.
@@ -157,12 +165,16 @@ fn calls(cells: &mut Cells, work: &mut [u32]) {
     judge_claim(cells, answer);
 }
 
+fn scarce(r: u64) -> u64 {
+    if r == 0 { 1 } else { 0 }
+}
+
 // With a whole work area, at times with one word less.
 fn with_work(cells: &mut Cells) {
     let mut work = [0u32; WORK_WORDS];
-    let short: u64 = if roll(cells, 50) == 0 { 1 } else { 0 };
-    cells[NOTES + 3] = short % 2 * 18;
-    let enough = WORK_WORDS - (short % 2) as usize;
+    let short = scarce(roll(cells, 50)) % 2;
+    cells[NOTES + 3] = short * 18;
+    let enough = WORK_WORDS - short as usize;
     calls(cells, &mut work[0..enough]);
 }
 

@@ -126,12 +126,16 @@ fn spoiled_place(fault: u64) -> usize {
     }
 }
 
+fn spoiled_byte(fault: u64) -> u64 {
+    if fault == 16 { 65 } else { 2 }
+}
+
+fn more_bytes(fault: u64) -> u64 {
+    if fault == 15 { 1 } else { 0 }
+}
+
 // Spoils the sheet written so that it has the fault: by a byte more, or by another in its place: version 2, the name A, the first word 2.
 pub fn spoil(cells: &mut Cells, fault: u64) {
-    write_some(cells, 0, if fault == 15 { 1 } else { 0 });
-    set(
-        cells,
-        spoiled_place(fault),
-        if fault == 16 { 65 } else { 2 },
-    );
+    write_some(cells, 0, more_bytes(fault));
+    set(cells, spoiled_place(fault), spoiled_byte(fault));
 }
