@@ -14,7 +14,7 @@ use native.Mathlib.Nat.{add-zero}
 use Rattle.signals.specs.Moment.{M}
 use Rattle.names.specs.Names.{letter, digit, nameByte}
 use Rattle.texts.specs.Lengths.{value, valueFrom}
-use Rattle.grammar.specs.Reader.{run, valueBetween, starts}
+use Rattle.grammar.specs.Reader.{run, valueBetween, starts, blockKind}
 use Rattle.texts.specs.Lengths.{capped}
 use Rattle.marks.specs.Marks.{Mark, lent, classOf, nextMark, numberAt}
 use Rattle.grammar.proofs.Bytes.{never}
@@ -170,3 +170,20 @@ starts-off w l i h e = starts-from w l i h ∙ rw (ne-eqb _ _ e) refl
 pub starts-end : (w l : List ℕ) (i : ℕ) → length w ≤ i → starts (drop i w) l ≡ true
 unfolding starts
 starts-end w l i h = rw (drop-of-length-le w {i = i} h) refl
+
+-- a byte after T begins no block
+pub no-block : (text : List ℕ) (m : Mark) → 84 < nextMark text m → cond (m .ok) (blockKind (drop (m .at) text)) 0 ≡ 0
+unfolding nextMark blockKind starts
+no-block text m = go (m .ok)
+  where
+    go : (z : Bool) → 84 < cond z (getD text (m .at) 0) 0 → cond z (blockKind (drop (m .at) text)) 0 ≡ 0
+    go false h = refl
+    go true h =
+        let b = getD text (m .at) 0 in
+        rw (
+          getD-drop (m .at) text 0 0,
+          add-zero,
+          ne-eqb b 83 (omega arith),
+          ne-eqb b 82 (omega arith),
+          ne-eqb b 84 (omega arith),
+        ) refl

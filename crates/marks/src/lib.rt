@@ -219,6 +219,9 @@ pub fn opening(text: &[u8; 1024], bytes: usize, m: &[usize; 5]) -> u64
     if b == b'(' {
         return kind::BRACKET;
     }
+    if b'T' < b {
+        return 0;
+    }
     if m[OK] == 1 {
         return block_kind(text, bytes, m[AT]);
     }

@@ -1,9 +1,11 @@
 -- `marks::opening` meets its contract.
 use borrow.Author.Needs.{needs}
 use borrow.Author.Tests.{eq-eqb, ne-eqb, lt-ltb, le-ltb}
-use mathlib.Core.Path.{refl, ap, _∙_}
+use Prim.Native.Nat.{ℕ, _<_}
+use mathlib.Core.Path.{refl, ap, _∙_, subst}
 use Rattle.grammar.specs.Reader.{prefixKind}
-use Rattle.marks.specs.Marks.{markOf, openKind}
+use Rattle.marks.specs.Marks.{markOf, lent, openKind}
+use Rattle.marks.proofs.Marking.{no-block}
 use Rattle.marks.proofs.opening.Statement.{statement}
 use Rattle.marks.proofs.opening.Tie as tie
 
@@ -22,24 +24,20 @@ returns-2 c =
     rw (← n, ← p .prefix-kind .ensures, le-ltb _ _ (c .before .if1 .left), eq-eqb _ _ (c .if2 .taken)) refl
 
 returns-3 : tie.Need-returns-3
-unfolding openKind markOf
+unfolding openKind
 returns-3 c =
-    let t = c .before .before in
-    let e2 = t .before .before in
+    let e2 = c .before in
     let p = e2 .before .before in
     let n = p .before .next .ensures in
-    rw (
-      ← n,
-      ← p .prefix-kind .ensures,
-      le-ltb _ _ (e2 .before .if1 .left),
-      ne-eqb _ _ (e2 .if2 .left),
-      eq-eqb _ _ (t .if3 .taken),
-    ) (c .block-kind .ensures)
+    let a = p .before .before .args in
+    let none = no-block (lent (a .text .now) (a .bytes)) (markOf (a .m .now)) (subst (λ (b : ℕ). 84 < b) n (c .if3 .taken)) in
+    rw (none, ← n, ← p .prefix-kind .ensures, le-ltb _ _ (e2 .before .if1 .left), ne-eqb _ _ (e2 .if2 .left)) refl
 
 returns-4 : tie.Need-returns-4
 unfolding openKind markOf
 returns-4 c =
-    let e2 = c .before .before in
+    let t = c .before .before in
+    let e2 = t .before .before .before in
     let p = e2 .before .before in
     let n = p .before .next .ensures in
     rw (
@@ -47,11 +45,25 @@ returns-4 c =
       ← p .prefix-kind .ensures,
       le-ltb _ _ (e2 .before .if1 .left),
       ne-eqb _ _ (e2 .if2 .left),
-      ne-eqb _ _ (c .if3 .left),
+      eq-eqb _ _ (t .if4 .taken),
+    ) (c .block-kind .ensures)
+
+returns-5 : tie.Need-returns-5
+unfolding openKind markOf
+returns-5 c =
+    let e2 = c .before .before .before in
+    let p = e2 .before .before in
+    let n = p .before .next .ensures in
+    rw (
+      ← n,
+      ← p .prefix-kind .ensures,
+      le-ltb _ _ (e2 .before .if1 .left),
+      ne-eqb _ _ (e2 .if2 .left),
+      ne-eqb _ _ (c .if4 .left),
     ) refl
 
 pub opening-spec : {M : Type 1} → statement M
 opening-spec =
     tie.close
-    (tie.spec (λ c κs. search needs) (λ c κs. search needs) returns returns-2 (λ c. search needs) (λ c. search needs)
-    (λ c κs. search needs) returns-3 returns-4)
+    (tie.spec (λ c κs. search needs) (λ c κs. search needs) returns returns-2 returns-3 (λ c. search needs) (λ c. search needs)
+    (λ c κs. search needs) returns-4 returns-5)
