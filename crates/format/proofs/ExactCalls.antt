@@ -16,28 +16,29 @@ use Rattle.names.specs.Names.{wellNamed}
 use Rattle.names.specs.Sentence.{IsName}
 use Rattle.names.proofs.Truth.{true-false}
 use Rattle.names.proofs.NamesExact.{names-exact}
+use Rattle.format.proofs.SheetFields.{among-one, not-one}
 use Rattle.format.specs.Names.{among}
 use Rattle.format.specs.Reading.{sheetFault, signalsOn, names}
 use Rattle.format.specs.Calls.{lookupFault, appendFault, appended}
-use Rattle.format.specs.Sentences.{LookupFaultsExact, AppendFaultIs, AppendFaultsExact}
+use Rattle.format.specs.Sentences.{OneOf, LookupFaultIs, LookupFaultsExact, AppendFaultIs, AppendFaultsExact}
 
 not-named : (name : List ℕ) → wellNamed name ≡ false → ¬ IsName name
 not-named name e n = true-false (sym (names-exact name .1 n) ∙ e)
 
 -- 16 and 13 by their tests, s that it is a name, t that the sheet has it
 looked : (sheet name : List ℕ) (s t : Bool) → wellNamed name ≡ s → among name (names (signalsOn sheet)) ≡ t
-    → Check 16 (¬ IsName name) (Check 13 (among name (names (signalsOn sheet)) ≡ false) NoFault) (cond s (cond t 0 13) 16)
+    → Check 16 (¬ IsName name) (Check 13 (¬ OneOf (names (signalsOn sheet)) name) NoFault) (cond s (cond t 0 13) 16)
 looked sheet name false t p q = inl (not-named name p, refl)
-looked sheet name true false p q = inr ((λ n. n (names-exact name .0 p)), inl (q, refl))
-looked sheet name true true p q = inr ((λ n. n (names-exact name .0 p)), inr ((λ e. true-false (sym q ∙ e)), refl))
+looked sheet name true false p q = inr ((λ n. n (names-exact name .0 p)), inl (not-one name (names (signalsOn sheet)) q, refl))
+looked sheet name true true p q =
+    inr ((λ n. n (names-exact name .0 p)), inr ((λ o. o (among-one name (names (signalsOn sheet)) q)), refl))
 
 lookup-given : (sheet name : List ℕ)
-    → FaultCheck (sheetFault sheet) (Check 16 (¬ IsName name) (Check 13 (among name (names (signalsOn sheet)) ≡ false) NoFault))
-    (lookupFault sheet name)
+    → LookupFaultIs sheet name (lookupFault sheet name)
 unfolding lookupFault
 lookup-given sheet name =
     fault-check (sheetFault sheet) (cond (wellNamed name) (cond (among name (names (signalsOn sheet))) 0 13) 16)
-    (Check 16 (¬ IsName name) (Check 13 (among name (names (signalsOn sheet)) ≡ false) NoFault))
+    (Check 16 (¬ IsName name) (Check 13 (¬ OneOf (names (signalsOn sheet)) name) NoFault))
     (λ z. looked sheet name (wellNamed name) (among name (names (signalsOn sheet))) refl refl)
 
 pub lookup-faults-exact : LookupFaultsExact
@@ -45,15 +46,15 @@ lookup-faults-exact sheet name = exactly _ _ (check-single (check-single (check-
 
 -- 16 of append by its test
 malformed : (sheet name : List ℕ) (s t : Bool) → wellNamed name ≡ s → among name (names (signalsOn sheet)) ≡ t → not s || t ≡ true
-    → (¬ IsName name) ⊎ (among name (names (signalsOn sheet)) ≡ true)
+    → (¬ IsName name) ⊎ OneOf (names (signalsOn sheet)) name
 malformed sheet name false t p q e = inl (not-named name p)
-malformed sheet name true t p q e = inr (q ∙ e)
+malformed sheet name true t p q e = inr (among-one name (names (signalsOn sheet)) (q ∙ e))
 
 new : (sheet name : List ℕ) (s t : Bool) → wellNamed name ≡ s → among name (names (signalsOn sheet)) ≡ t → not s || t ≡ false
-    → ¬ ((¬ IsName name) ⊎ (among name (names (signalsOn sheet)) ≡ true))
+    → ¬ ((¬ IsName name) ⊎ OneOf (names (signalsOn sheet)) name)
 new sheet name false t p q e x = true-false e
 new sheet name true t p q e (inl n) = n (names-exact name .0 p)
-new sheet name true t p q e (inr a) = true-false (sym a ∙ q ∙ e)
+new sheet name true t p q e (inr a) = not-one name (names (signalsOn sheet)) (q ∙ e) a
 
 module _ (sheet name list : List ℕ) (room : ℕ) where
   abbrev short : ℕ
@@ -79,8 +80,8 @@ module _ (sheet name list : List ℕ) (room : ℕ) where
   append-given =
       fault-check (sheetFault sheet)
       (cond (not (wellNamed name) || among name (names (signalsOn sheet))) 16 (firstOf (listFault list) full))
-      (Check 16 ((¬ IsName name) ⊎ (among name (names (signalsOn sheet)) ≡ true)) (FaultCheck (listFault list) rest))
-      (λ z. check-by 16 (firstOf (listFault list) full) ((¬ IsName name) ⊎ (among name (names (signalsOn sheet)) ≡ true))
+      (Check 16 ((¬ IsName name) ⊎ OneOf (names (signalsOn sheet)) name) (FaultCheck (listFault list) rest))
+      (λ z. check-by 16 (firstOf (listFault list) full) ((¬ IsName name) ⊎ OneOf (names (signalsOn sheet)) name)
       (FaultCheck (listFault list) rest) (not (wellNamed name) || among name (names (signalsOn sheet)))
       (malformed sheet name (wellNamed name) (among name (names (signalsOn sheet))) refl refl)
       (new sheet name (wellNamed name) (among name (names (signalsOn sheet))) refl refl)

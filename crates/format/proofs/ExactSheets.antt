@@ -82,7 +82,7 @@ rest-checks rest b = go (ltb (length rest) 2) (ltb 32 (low16 rest)) refl refl
   where
     go : (s t : Bool) → ltb (length rest) 2 ≡ s → ltb 32 (low16 rest) ≡ t
         → SheetFaultIs (mark ++ (bytes16 1 ++ rest)) (sheetFault (mark ++ (bytes16 1 ++ rest)))
-    go true t p q = inr ((λ n. n (five rest)), inl (omega (arith, ltb-true (length rest) 2 p), right-cut rest (ltb-true (length rest) 2 p)))
+    go true t p q = inr ((λ n. n (five rest)), inl (ltb-true (length rest) 2 p, right-cut rest (ltb-true (length rest) 2 p)))
     go false true p q =
         let l = ltb-false (length rest) 2 p in
         inr (

@@ -7,7 +7,7 @@ use mathlib.Core.List.{List, [], _∷_, _++_}
 use mathlib.Core.Logic.{_⊎_, inl, inr}
 use lib.Dec.{ltb, eqb}
 use lib.ListN.{length, take, drop, length-drop, take-append-drop}
-use lib.Seq.{drop-drop, length-take-le}
+use lib.Seq.{take-at, drop-drop, length-take-le}
 use borrow.Author.Tests.{ltb-true, ltb-false, eqb-true, eqb-false}
 use Rattle.signals.specs.Answers.{firstOf}
 use Rattle.signals.specs.Checks.{Check, NoFault}
@@ -19,11 +19,12 @@ use Rattle.names.specs.Sentence.{IsName}
 use Rattle.slices.specs.Bytes.{bytes16, Bytes}
 use Rattle.format.proofs.Digits.{low16-below, written16, bytes-drop}
 use Rattle.format.proofs.Fields.{padded-fits, fits-named, fits-padded}
-use Rattle.format.proofs.SheetFields.{name-single, number-single}
+use Rattle.format.proofs.Filling.{length-padded}
+use Rattle.format.proofs.SheetFields.{name-single, number-single, among-one, not-one}
 use Rattle.format.proofs.SheetWords.{words-single, all-words}
 use Rattle.format.specs.Names.{padded, unpadded, fieldFits, among}
 use Rattle.format.specs.Reading.{nameAt, wordCount, signalSize, sheetWordsFault, signalFault, signalsFault}
-use Rattle.format.specs.Sentences.{NumberField, WordsFaultIs, SignalFaultIs, SignalsFaultIs}
+use Rattle.format.specs.Sentences.{Begins, OneOf, WordsFaultIs, CountedWordsFaultIs, SignalFaultIs, SignalsFaultIs}
 
 signal-single : (earlier : List (List ℕ)) (bytes : List ℕ) (later : List ℕ → List ℕ → ℕ → Type 0)
     → ((name rest : List ℕ) → Single (later name rest)) → Single (SignalFaultIs earlier bytes later)
@@ -43,10 +44,7 @@ signals-single earlier (suc n) bytes =
 
 -- what is judged after the name
 abbrev AfterName : List (List ℕ) → List ℕ → List ℕ → (List ℕ → ℕ → Type 0) → ℕ → Type 0
-AfterName earlier name counted later =
-    Check 16 (among name earlier ≡ true)
-    (Check 15 (length counted < 2)
-    (NumberField counted (λ n words. Check 17 ((n ≡ 0) ⊎ (mostWords < n)) (WordsFaultIs [] n words later))))
+AfterName earlier name bytes later = Check 16 (OneOf earlier name) (CountedWordsFaultIs bytes later)
 
 -- a word count outside 1 to 256
 outside : (k : ℕ) → eqb k 0 || ltb mostWords k ≡ true → (k ≡ 0) ⊎ (mostWords < k)
@@ -61,8 +59,11 @@ inside k h = (eqb-false k 0 (or-left (eqb k 0) (ltb mostWords k) h), ltb-false m
 
 -- the fields of a signal, read from its bytes
 module _ (bytes : List ℕ) (b : Bytes bytes) where
-  unnamed : fieldFits (take 8 bytes) ≡ false → ¬ ((name : List ℕ) × IsName name × (take 8 bytes ≡ padded name))
-  unnamed e (name, n, p) = true-false (sym (ap fieldFits p ∙ padded-fits name (names-exact name .1 n)) ∙ e)
+  unnamed : fieldFits (take 8 bytes) ≡ false → ¬ Begins IsName padded bytes
+  unnamed e (name, rest, n, p) =
+      let f : take 8 bytes ≡ padded name =
+      ap (λ (l : List ℕ). take 8 l) p ∙ take-at (padded name) rest 8 (length-padded name (n .most)) in
+      true-false (sym (ap fieldFits f ∙ padded-fits name (names-exact name .1 n)) ∙ e)
 
   module _ (l : 8 ≤ length bytes) (e : fieldFits (take 8 bytes) ≡ true) where
     is-name : IsName (nameAt bytes)
@@ -93,13 +94,13 @@ module _ (bytes : List ℕ) (b : Bytes bytes) where
       → AfterName earlier (nameAt bytes) (drop 8 bytes) (later (nameAt bytes))
       (firstOf (cond t₃ 16 (cond t₄ 15 (cond t₅ 17 (sheetWordsFault (wordCount bytes) (drop 10 bytes))))) next)
   unfolding signalSize firstOf
-  after-name earlier later next true t₄ t₅ l p₃ p₄ p₅ g = inl (p₃, refl)
+  after-name earlier later next true t₄ t₅ l p₃ p₄ p₅ g = inl (among-one (nameAt bytes) earlier p₃, refl)
   after-name earlier later next false true t₅ l p₃ p₄ p₅ g =
-      inr ((λ c. true-false (sym c ∙ p₃)), inl (rw length-drop (omega (arith, ltb-true (length bytes) 10 p₄)), refl))
+      inr (not-one (nameAt bytes) earlier p₃, inl (rw length-drop (omega (arith, ltb-true (length bytes) 10 p₄)), refl))
   after-name earlier later next false false t₅ l p₃ p₄ p₅ g =
       let m = ltb-false (length bytes) 10 p₄ in
       inr (
-        (λ c. true-false (sym c ∙ p₃)),
+        not-one (nameAt bytes) earlier p₃,
         inr ((λ c. omega (arith, c, length-drop 8 bytes)), (wordCount bytes, drop 10 bytes, count-below, count-first m, words t₅ p₅ g)),
       )
     where
@@ -142,7 +143,7 @@ module _ (bytes : List ℕ) (b : Bytes bytes) where
           inr (
             (λ c. omega (arith, c)),
             inr (
-              (λ c. c (nameAt bytes, is-name l p₂, field-is l p₂)),
+              (λ c. c (nameAt bytes, drop 8 bytes, is-name l p₂, name-first l p₂)),
               (nameAt bytes, drop 8 bytes, is-name l p₂, name-first l p₂, after-name earlier later next t₃ t₄ t₅ l p₃ p₄ p₅ g),
             ),
           )
