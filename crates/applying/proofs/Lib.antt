@@ -1,4 +1,3 @@
--- What a code word asks for: its name, its operators, and the answers of its operations as document 01's.
-pub mod CutNames
+-- The operators of a code word, and the answers of its operations as document 01's.
 pub mod Operators
 pub mod Numbering

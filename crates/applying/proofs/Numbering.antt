@@ -10,7 +10,7 @@ use Rattle.signals.specs.declared.Written.the-variants.{Count, Refused}
 use Rattle.operations.specs.Calls.{changesAfterM, partFault}
 use Rattle.building.specs.Slots.{builtAnswer}
 use Rattle.building.specs.declared.SlotAnswer.the-variants.{Stands, TooLong, TooLate}
-use Rattle.applying.specs.CodeWords.{partAnswer}
+use Rattle.applying.specs.PartCalls.{partAnswer}
 use Rattle.signals.specs.Words.{mostWords}
 
 pub numbered : (exact : List ℕ) → partAnswer (builtAnswer exact) ≡ writtenOf (partFault exact) exact

@@ -9,8 +9,8 @@ use Rattle.building.specs.Slots.{CallInSlot}
 use Rattle.building.specs.declared.SlotAnswer.{SlotAnswer}
 use Rattle.grammar.specs.Kinds as kinds
 use Rattle.grammar.specs.Tree.{Unary, Binary, invert, rise, fall, ton, tof, and, or, sr, rs}
-use Rattle.applying.specs.CodeWords.{unaryOf, binaryOf, unaryIn, binaryIn, unaryFault, unaryExact, binaryExact, partAnswer}
-use Rattle.applying.specs.CodeWords.{judgedFor, exactFor, PartInSlot}
+use Rattle.applying.specs.PartCalls.{unaryOf, binaryOf, unaryIn, binaryIn, unaryFault, unaryExact, binaryExact, partAnswer}
+use Rattle.applying.specs.PartCalls.{judgedFor, exactFor, PartInSlot}
 
 module _ (k n : ℕ) where
   pub unary-not : k ≡ kinds.NOT → unaryOf k n ≡ invert

@@ -1,2 +1,2 @@
--- What a code word asks for: definitions that mirror the code.
-pub mod CodeWords
+-- A part's operation: definitions that mirror the code.
+pub mod PartCalls

@@ -1,55 +1,13 @@
-// What a part's code word asks for: its name in the text, its constant, how many operands it has, and its operation on their lists, worked
-// out in a slot that is lent. Other code words are taken for these, so that every call has an answer.
+// The operation that a part's code word asks for, on its operands' lists, worked out in a slot that is lent. Other code words are taken for
+// these, so that every call has an answer.
 ghost use mathlib.Core.Path.{_≡_};
-ghost use Prim.Native.Nat.{_/_, _%_};
-ghost use Rattle.grammar.specs.Formula.{nameAt};
 ghost use Rattle.signals.specs.Words.{pairFault};
 ghost use Rattle.building.specs.Slots.{CallInSlot};
-ghost use Rattle.applying.specs.CodeWords.{constantOf, operandsOf, unaryIn, binaryIn};
-ghost use Rattle.applying.specs.CodeWords.{unaryFault, unaryExact, binaryExact, partAnswer, PartInSlot};
+ghost use Rattle.applying.specs.PartCalls.{unaryIn, binaryIn, unaryFault, unaryExact, binaryExact, partAnswer, PartInSlot};
 use building::SlotAnswer;
 use marks::kind;
 use signals::Length;
 use signals::Written;
-
-// The name that a code word holds, cut at the end of the text.
-pub fn name_in(text: &[u8], code: u64) -> &[u8]
-    ensures { λ r. ⌜ now r ≡ nameAt (now (text .entry)) (code / 256) (code / 16 % 16) ⌝ }
-{
-    let place = (code / 256) as usize;
-    let count = (code / 16 % 16) as usize;
-    if text.len() <= place {
-        return &text[..0];
-    }
-    if text.len() - place <= count {
-        return &text[place..];
-    }
-    &text[place..place + count]
-}
-
-// The one word of a constant's list.
-pub fn constant(code: u64) -> u32
-    ensures { λ r. ⌜ r ≡ constantOf code ⌝ }
-{
-    if code % 16 == kind::UP { 1 } else { 0 }
-}
-
-// How many operands the part takes.
-pub fn operands(code: u64) -> usize
-    ensures { λ r. ⌜ r ≡ operandsOf code ⌝ }
-{
-    let kind = code % 16;
-    if kind < kind::NOT {
-        return 0;
-    }
-    if kind < kind::AND {
-        return 1;
-    }
-    if kind < kind::KINDS {
-        return 2;
-    }
-    0
-}
 
 const AND: [[bool; 2]; 2] = [[false, false], [false, true]];
 

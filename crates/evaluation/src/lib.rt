@@ -15,7 +15,7 @@ ghost use Rattle.grammar.specs.Formula.{partOf, formulaTree};
 ghost use Rattle.calls.specs.OnSheet.{exactOn};
 ghost use Rattle.calls.specs.Calls.{workWords, partsFault, workingFault, wordsOn, claimFails};
 ghost use Rattle.calls.specs.Work.{CallOfFormula, CallOfClaim};
-ghost use Rattle.applying.specs.CodeWords.{operandsOf};
+ghost use Rattle.code_words.specs.CodeWords.{operandsOf};
 ghost use Rattle.machine.specs.Machine.{leafOf, leafKnown, Known, Loaded, Room, Ready, Steps, Plan, partsIn, WorkedOut};
 ghost use Rattle.machine.specs.Machine.{partFound, allFound, Prepared, Coded, runFault, judgeFault, InSlot, ClaimOn};
 use machine::Next;
@@ -72,11 +72,11 @@ fn load(sheet: &[u8], text: &[u8], code: u64, work: &mut [u32], at: usize) -> us
 {
     let kind = code % 16;
     if kind == marks::kind::NAME {
-        let name = applying::name_in(text, code);
+        let name = code_words::name_in(text, code);
         let part = lookups::lookup(sheet, name);
         return put_part(part, work, at);
     }
-    put_word(work, at, applying::constant(code));
+    put_word(work, at, code_words::constant(code));
     1
 }
 
@@ -162,7 +162,7 @@ fn step(
     ensures { λ r. ⌜ Steps (now (sheet .entry)) (now (work .entry)) (now (work .exit)) (now (counts .entry)) base height
         (partOf (now (text .entry)) code) r ⌝ }
 {
-    let taken = applying::operands(code);
+    let taken = code_words::operands(code);
     if taken == 0 {
         return push_leaf(sheet, text, code, work, height, base);
     }
@@ -217,7 +217,7 @@ fn found(sheet: &[u8], text: &[u8], code: u64) -> bool
     ensures { λ r. ⌜ r ≡ partFound (now (sheet .entry)) (partOf (now (text .entry)) code) ⌝ }
 {
     if code % 16 == marks::kind::NAME {
-        let name = applying::name_in(text, code);
+        let name = code_words::name_in(text, code);
         return lookups::lookup_fault(sheet, name) == 0;
     }
     true

@@ -12,11 +12,13 @@ use Rattle.grammar.specs.Reader.{State, stepped, expect, passLength, valueBetwe
 use Rattle.grammar.specs.Reader.{latchAt, timerAt}
 use Rattle.grammar.specs.Formula.{coded, timerWord}
 use Rattle.texts.specs.Lengths.{capped}
-use Rattle.marks.specs.Marks.{Mark, nextMark, openKind, openBytes}
+use Rattle.marks.specs.Marks.{Mark, nextMark}
+use Rattle.grammar.specs.Kinds as kinds
+use Rattle.openings.specs.Opening.{BRACKET, openKind, openBytes}
 use Rattle.formulas.specs.Readers.{viewOf, movedMark, expectMark, lengthMark, putMark, putCode, Ready, Done, LeafRead, SumRead}
 use Rattle.formulas.specs.Readers.{FactorRead, LatchRead, TimerRead}
 use Rattle.marks.proofs.Marking.{inside}
-use Rattle.marks.proofs.Openings.{blockMark, Opens, opens, prefix-above}
+use Rattle.openings.proofs.Openings.{blockMark, Opens, opens, prefix-above}
 use Rattle.grammar.proofs.Branches.{BlockNext, latch-is, timer-is}
 use Rattle.formulas.proofs.Doing.{view-next, ready-deeper, starting, turned, moving, moving-by, expecting, passing, calling}
 use Rattle.formulas.proofs.Doing.{put-needs, putting, closing, finishing}
@@ -95,17 +97,17 @@ module _ {text old : List ℕ} {m : Mark} {deep t first : ℕ} {x : Mark} (k : O
   to : (n : ℕ) → openBytes first ≡ n → x ≡ movedMark m (m .at + n)
   to n e = k .moved ∙ ap (λ (j : ℕ). movedMark m (m .at + j)) e
 
-  pub prefix-step : (first ≡ 0 → ⊥) → first < 6 → Step text old m deep 2 t (nextMark text m) x
+  pub prefix-step : (first ≡ 0 → ⊥) → first < kinds.TON → Step text old m deep 2 t (nextMark text m) x
   prefix-step some low =
       let pos = positive first some in
       step (k .falls, k .ready) refl (prefix-above (nextMark text m) first (says .prefix pos low) pos) (to 1 (says .one pos low))
 
-  pub opened-prefix : {mid new : List ℕ} {y r : Mark} → (first ≡ 0 → ⊥) → first < 6 → FactorRead text (deep + 1) x old mid y →
+  pub opened-prefix : {mid new : List ℕ} {y r : Mark} → (first ≡ 0 → ⊥) → first < kinds.TON → FactorRead text (deep + 1) x old mid y →
       (r ≡ putMark y deep 0) × (new ≡ putCode y first mid) → FactorRead text deep m old new r
   opened-prefix some low p w =
       let pos = positive first some in prefix-path (prefix-step some low) first (sym (says .prefix pos low)) pos p w
 
-  pub bracket-step : first ≡ 16 → Step text old m deep 2 t 40 x
+  pub bracket-step : first ≡ BRACKET → Step text old m deep 2 t 40 x
   unfolding openBytes
   bracket-step e = step (k .falls, k .ready) (says .bracket e) (omega arith) (to 1 (ap openBytes e))
 
@@ -126,7 +128,7 @@ module _ {text old : List ℕ} {m : Mark} {deep t first : ℕ} {x : Mark} (k : O
       (λ n. rw (view-next text m old, u .0, u .1, none) refl)
 
   -- a block
-  module _ (high : 6 ≤ first) (other : first ≡ 16 → ⊥) where
+  module _ (high : kinds.TON ≤ first) (other : first ≡ BRACKET → ⊥) where
     word : Done (λ n s. stepped (blockBytes first) s) 1 text m old old x
     word =
         let e = says .bytes (omega arith) other in
@@ -155,10 +157,12 @@ module _ {text old : List ℕ} {m : Mark} {deep t first : ℕ} {x : Mark} (k : O
         FactorRead text deep m old new r
     read s e = finishing (calling word s (omega (arith, on, word .within))) e
 
-    pub opened-latch : {new : List ℕ} {r : Mark} → 8 ≤ first → LatchRead text first deep x old new r → FactorRead text deep m old new r
+    pub opened-latch : {new : List ℕ} {r : Mark} → kinds.AND ≤ first → LatchRead text first deep x old new r
+        → FactorRead text deep m old new r
     opened-latch h s = read s (λ n. latch-is coded deep n block-next h)
 
-    pub opened-timer : {new : List ℕ} {r : Mark} → first < 8 → TimerRead text first deep x old new r → FactorRead text deep m old new r
+    pub opened-timer : {new : List ℕ} {r : Mark} → first < kinds.AND → TimerRead text first deep x old new r
+        → FactorRead text deep m old new r
     opened-timer h s = read s (λ n. timer-is coded deep n block-next h)
 
 -- sum,sum) after SR( or RS(

@@ -4,7 +4,8 @@ ghost use mathlib.Core.Path.{_≡_};
 ghost use Prim.Native.Nat.{_+_, _≤_, _<_};
 ghost use lib.Dec.{eqb};
 ghost use lib.ListN.{length};
-ghost use Rattle.marks.specs.Marks.{markOf, lent, nextMark, openKind, openBytes};
+ghost use Rattle.marks.specs.Marks.{markOf, lent, nextMark};
+ghost use Rattle.openings.specs.Opening.{openKind, openBytes};
 ghost use Rattle.formulas.specs.Readers.{Lent, Marked, badMark, movedMark, passMark, expectMark, lengthMark, putMark, putCode};
 use marks::AT;
 use marks::DEEPEST;
@@ -14,8 +15,8 @@ use marks::PARTS;
 use marks::larger;
 use marks::length_end;
 use marks::next;
-use marks::opening;
-use marks::opening_bytes;
+use openings::opening;
+use openings::opening_bytes;
 
 // Makes a mark bad.
 pub(crate) fn fail(m: &mut [usize; 5])

@@ -21,8 +21,9 @@ use Rattle.building.proofs.BuildingLaws.{slot-short}
 use Rattle.grammar.specs.Kinds as kinds
 use Rattle.grammar.specs.Tree.{Unary, invert, rise, fall, ton, tof}
 use Rattle.grammar.specs.Code.{ticksOf}
-use Rattle.applying.specs.CodeWords.{operandsOf, unaryOf, binaryIn, unaryFault, unaryExact, binaryExact, judgedFor, exactFor}
-use Rattle.applying.specs.CodeWords.{PartInSlot}
+use Rattle.code_words.specs.CodeWords.{operandsOf}
+use Rattle.applying.specs.PartCalls.{unaryOf, binaryIn, unaryFault, unaryExact, binaryExact, judgedFor, exactFor}
+use Rattle.applying.specs.PartCalls.{PartInSlot}
 use Rattle.applying.proofs.Numbering.{numbered}
 use Rattle.machine.proofs.PartCodes.{arity-one, arity-two}
 

@@ -19,7 +19,7 @@ use Rattle.format.specs.Reading.{sheetFault}
 use Rattle.calls.specs.OnSheet.{signalOn, settlingDate, exactOn}
 use Rattle.operations.specs.Calls.{partFault}
 use Rattle.calls.proofs.Settles.{settles, exact-for}
-use Rattle.applying.specs.CodeWords.{unaryExact, binaryExact, AND-table, OR-table}
+use Rattle.applying.specs.PartCalls.{unaryExact, binaryExact, AND-table, OR-table}
 
 and-cell : (f g : Signal) (t : ℕ) → connective AND-table f g t ≡ AND f g t
 unfolding connective cell AND

@@ -30,7 +30,7 @@ use Rattle.format.proofs.Theorems.{lookup-gives-the-list}
 use Rattle.signals.proofs.Normal.{read-back, accepted-normal}
 use Rattle.operations.specs.Calls.{partFault}
 use Rattle.calls.specs.OnSheet.{exactOn, settlingDate}
-use Rattle.applying.specs.CodeWords.{constantOf}
+use Rattle.code_words.specs.CodeWords.{constantOf}
 use Rattle.machine.specs.Machine.{leafOf, leafKnown, Loaded}
 use Rattle.machine.proofs.SlotFacts.{short}
 use Rattle.machine.proofs.Putting.{words-length}

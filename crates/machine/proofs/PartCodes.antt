@@ -9,7 +9,8 @@ use Rattle.grammar.specs.Kinds as kinds
 use Rattle.grammar.specs.Tree.{Leaf, down, up, name}
 use Rattle.grammar.specs.Code.{Part, operand, one, two}
 use Rattle.grammar.specs.Formula.{partOf, plainPart, timedPart, nameAt}
-use Rattle.applying.specs.CodeWords.{arity, operandsOf, unaryOf, binaryOf}
+use Rattle.code_words.specs.CodeWords.{arity, operandsOf}
+use Rattle.applying.specs.PartCalls.{unaryOf, binaryOf}
 use Rattle.machine.specs.Machine.{leafOf}
 
 -- what holds of each number below n, one after the other

@@ -32,7 +32,7 @@ use Rattle.calls.specs.Calls.{readingFault}
 use Rattle.calls.proofs.FirstFault.{passed}
 use Rattle.calls.proofs.ReadingFaults.{derived}
 use Rattle.format.proofs.SheetLists.{Sound, AllSound, sheet-sound}
-use Rattle.applying.specs.CodeWords.{operandsOf}
+use Rattle.code_words.specs.CodeWords.{operandsOf}
 use Rattle.machine.specs.Machine.{leafOf, AllKnown, partsIn, partFound, allFound, Prepared}
 use Rattle.machine.proofs.Leaves.{leaf-name, leaf-up, leaf-down}
 use Rattle.machine.proofs.PartCodes.{part-leaf, part-one, part-two, name-none, arity-small}

@@ -19,7 +19,8 @@ use Rattle.format.specs.Reading.{sheetFault}
 use Rattle.calls.specs.OnSheet.{exactOn}
 use Rattle.operations.specs.Calls.{partFault}
 use Rattle.calls.specs.Calls.{workWords}
-use Rattle.applying.specs.CodeWords.{operandsOf, unaryOf, binaryOf, judgedFor, exactFor, PartInSlot}
+use Rattle.code_words.specs.CodeWords.{operandsOf}
+use Rattle.applying.specs.PartCalls.{unaryOf, binaryOf, judgedFor, exactFor, PartInSlot}
 use Rattle.machine.specs.declared.Next.{Next}
 use Rattle.machine.specs.Machine.{InSlot, Stacked, Enough, Known, Stepped, Ready, Room, Loaded, worked, leafOf, leafKnown}
 use Rattle.machine.proofs.SlotFacts.{short, push-slot, below}

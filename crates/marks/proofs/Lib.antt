@@ -1,3 +1,2 @@
--- Lemmas on marks, runs of bytes and lengths, and on what begins a factor.
+-- Lemmas on marks, runs of bytes and lengths.
 pub mod Marking
-pub mod Openings

@@ -6,8 +6,7 @@ use lib.Dec.{leb, ltb, eqb}
 use lib.ListN.{getD, take, drop}
 use Rattle.signals.specs.Moment.{M}
 use Rattle.names.specs.Names.{letter, digit, nameByte}
-use Rattle.grammar.specs.Kinds as kinds
-use Rattle.grammar.specs.Reader.{run, prefixKind, blockKind, blockBytes}
+use Rattle.grammar.specs.Reader.{run}
 
 -- whether all is well, the bytes passed, the parts put out, and the largest depth and length of a part
 pub record Mark : Type 0 where
@@ -33,20 +32,6 @@ classOf false = digit
 -- the next byte; 0 at the end and for a bad mark
 unfoldable pub nextMark : List ℕ → Mark → ℕ
 nextMark text m = cond (m .ok) (getD text (m .at) 0) 0
-
--- an open bracket: no kind of a part
-abbrev pub BRACKET : ℕ
-BRACKET = 16
-
--- the kind of what is next and begins a factor: a prefix, an open bracket, or a block's word and bracket; 0 where none is
-unfoldable pub openKind : List ℕ → Mark → ℕ
-openKind text m =
-    cond (ltb 0 (prefixKind (nextMark text m))) (prefixKind (nextMark text m))
-    (cond (eqb (nextMark text m) 40) BRACKET (cond (m .ok) (blockKind (drop (m .at) text)) 0))
-
--- how many bytes it has
-unfoldable pub openBytes : ℕ → ℕ
-openBytes first = cond (eqb first 0) 0 (cond (ltb first kinds.TON) 1 (cond (eqb first BRACKET) 1 (blockBytes first)))
 
 -- the place after the length that is next; 0 where none is
 unfoldable pub lengthEnd : List ℕ → Mark → ℕ

@@ -1,14 +1,14 @@
-// Where the reader of a formula is, and what it finds there: the next byte, what begins a factor, a length, a constant or a name, a
-// length's ticks, and the fault of a text that was read to its end. The text is lent as the first bytes of an array of 1,024 and the mark
+// Where the reader of a formula is, and what it finds there: the next byte, a length, a constant or a name, a length's ticks, and the
+// fault of a text that was read to its end. The text is lent as the first bytes of an array of 1,024 and the mark
 // as an array, so that a reader that calls another holds neither on the stack.
 pub mod kind;
 
 ghost use mathlib.Core.Path.{_≡_};
 ghost use Prim.Native.Nat.{_+_, _-_, _<_, min, max};
-ghost use lib.ListN.{getD, drop};
-ghost use Rattle.grammar.specs.Reader.{run, prefixKind, starts, blockKind};
+ghost use lib.ListN.{drop};
+ghost use Rattle.grammar.specs.Reader.{run};
 ghost use Rattle.texts.specs.Lengths.{capped};
-ghost use Rattle.marks.specs.Marks.{markOf, lent, classOf, nextMark, openKind, openBytes, lengthEnd, leafEnd, numberAt, markFault};
+ghost use Rattle.marks.specs.Marks.{markOf, lent, classOf, nextMark, lengthEnd, leafEnd, numberAt, markFault};
 
 // The words of a mark: 1 if all is well and 0 if not, the bytes passed, the parts put out, and the largest depth and length of a part.
 pub const OK: usize = 0;
@@ -142,109 +142,6 @@ pub fn leaf_end(text: &[u8; 1024], bytes: usize, m: &[usize; 5]) -> usize
         }
     }
     0
-}
-
-// The kind of !, ^ and ~; 0 for any other byte.
-fn prefix_kind(b: u8) -> u64
-    ensures { λ r. ⌜ r ≡ prefixKind b ⌝ }
-{
-    if b == b'!' {
-        return kind::NOT;
-    }
-    if b == b'^' {
-        return kind::RISING;
-    }
-    if b == b'~' {
-        return kind::FALLING;
-    }
-    0
-}
-
-// The byte so many after the place; 0 past the end.
-fn byte_after(text: &[u8; 1024], bytes: usize, at: usize, k: usize) -> u8
-    ensures { λ r. ⌜ r ≡ getD (drop at (lent (now (text .entry)) bytes)) k 0 ⌝ }
-{
-    let stop = within(bytes);
-    if at < stop {
-        if k < stop - at {
-            return text[at + k];
-        }
-    }
-    0
-}
-
-// Whether the word stands at the place.
-fn stands(text: &[u8; 1024], bytes: usize, at: usize, word: &[u8]) -> bool
-    ensures { λ r. ⌜ r ≡ starts (now (word .entry)) (drop at (lent (now (text .entry)) bytes)) ⌝ }
-{
-    let mut i = 0;
-    while i < word.len() {
-        if byte_after(text, bytes, at, i) == word[i] {
-            i += 1;
-        } else {
-            return false;
-        }
-    }
-    true
-}
-
-// The kind of the block whose word and bracket stand at the place; 0 where none do.
-fn block_kind(text: &[u8; 1024], bytes: usize, at: usize) -> u64
-    ensures { λ r. ⌜ r ≡ blockKind (drop at (lent (now (text .entry)) bytes)) ⌝ }
-{
-    if stands(text, bytes, at, b"SR(") {
-        return kind::SR;
-    }
-    if stands(text, bytes, at, b"RS(") {
-        return kind::RS;
-    }
-    if stands(text, bytes, at, b"TON(") {
-        return kind::TON;
-    }
-    if stands(text, bytes, at, b"TOF(") {
-        return kind::TOF;
-    }
-    0
-}
-
-// The kind of what is next and begins a factor: !, ^, ~, an open bracket, or a block's word and bracket; 0 where none is.
-pub fn opening(text: &[u8; 1024], bytes: usize, m: &[usize; 5]) -> u64
-    ensures { λ r. ⌜ r ≡ openKind (lent (now (text .entry)) bytes) (markOf (now (m .entry))) ⌝ }
-{
-    let b = next(text, bytes, m);
-    let prefix = prefix_kind(b);
-    if 0 < prefix {
-        return prefix;
-    }
-    if b == b'(' {
-        return kind::BRACKET;
-    }
-    if b'T' < b {
-        return 0;
-    }
-    if m[OK] == 1 {
-        return block_kind(text, bytes, m[AT]);
-    }
-    0
-}
-
-// How many bytes such an opening has.
-pub fn opening_bytes(first: u64) -> usize
-    ensures { λ r. ⌜ r ≡ openBytes first ⌝ }
-{
-    if first == 0 {
-        return 0;
-    }
-    if first < kind::TON {
-        return 1;
-    }
-    if first == kind::BRACKET {
-        return 1;
-    }
-    if first < kind::AND {
-        return 4;
-    }
-    3
 }
 
 // The fault of a text of so many bytes that was read up to the mark: 11, 8, 12, 0 for none.

@@ -1,6 +1,6 @@
 -- `applying::part_answer` gives the number of each case, or the word count.
 use mathlib.Core.Path.{sym, ap}
-use Rattle.applying.specs.CodeWords.{partAnswer}
+use Rattle.applying.specs.PartCalls.{partAnswer}
 use borrow.Author.Needs.{needs}
 use Rattle.applying.proofs.part_answer.Statement.{statement}
 use Rattle.applying.proofs.part_answer.Tie as tie

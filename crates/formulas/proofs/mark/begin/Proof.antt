@@ -3,9 +3,10 @@ use borrow.Author.Needs.{needs}
 use native.Mathlib.Omega.{arith}
 use Prim.Native.Nat.{ℕ, _+_}
 use mathlib.Core.Path.{ap, _∙_}
-use Rattle.marks.specs.Marks.{markOf, lent, openBytes}
+use Rattle.marks.specs.Marks.{markOf, lent}
+use Rattle.openings.specs.Opening.{openBytes}
 use Rattle.marks.proofs.Marking.{lent-most}
-use Rattle.marks.proofs.Openings.{open-most}
+use Rattle.openings.proofs.Openings.{open-most}
 use Rattle.formulas.specs.Readers.{movedMark}
 use Rattle.formulas.proofs.mark.begin.Statement.{statement}
 use Rattle.formulas.proofs.mark.begin.Tie as tie

@@ -1,8 +1,8 @@
--- `marks::prefix_kind` meets its contract.
+-- `openings::prefix_kind` meets its contract.
 use borrow.Author.Tests.{eq-eqb, ne-eqb}
 use Rattle.grammar.specs.Reader.{prefixKind}
-use Rattle.marks.proofs.prefix_kind.Statement.{statement}
-use Rattle.marks.proofs.prefix_kind.Tie as tie
+use Rattle.openings.proofs.prefix_kind.Statement.{statement}
+use Rattle.openings.proofs.prefix_kind.Tie as tie
 
 returns : tie.Need-returns
 unfolding prefixKind

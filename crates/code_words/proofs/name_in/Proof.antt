@@ -1,10 +1,10 @@
--- `applying::name_in` gives a part of the text, the name of a code word, cut at its end.
+-- `code_words::name_in` gives a part of the text, the name of a code word, cut at its end.
 use native.Mathlib.Nat.{add-sub-cancel-left}
 use mathlib.Core.Path.{refl}
-use Rattle.applying.proofs.CutNames.{name-none, name-rest, name-whole}
+use Rattle.code_words.proofs.CutNames.{name-none, name-rest, name-whole}
 use borrow.Author.Needs.{needs}
-use Rattle.applying.proofs.name_in.Statement.{statement}
-use Rattle.applying.proofs.name_in.Tie as tie
+use Rattle.code_words.proofs.name_in.Statement.{statement}
+use Rattle.code_words.proofs.name_in.Tie as tie
 
 slice-aggregate-result : tie.Need-slice-aggregate-result
 slice-aggregate-result c = search needs

@@ -1,13 +1,14 @@
--- `marks::opening` meets its contract.
+-- `openings::opening` meets its contract.
 use borrow.Author.Needs.{needs}
 use borrow.Author.Tests.{eq-eqb, ne-eqb, lt-ltb, le-ltb}
 use Prim.Native.Nat.{ℕ, _<_}
 use mathlib.Core.Path.{refl, ap, _∙_, subst}
 use Rattle.grammar.specs.Reader.{prefixKind}
-use Rattle.marks.specs.Marks.{markOf, lent, openKind}
-use Rattle.marks.proofs.Marking.{no-block}
-use Rattle.marks.proofs.opening.Statement.{statement}
-use Rattle.marks.proofs.opening.Tie as tie
+use Rattle.marks.specs.Marks.{markOf, lent}
+use Rattle.openings.specs.Opening.{openKind}
+use Rattle.openings.proofs.Words.{no-block}
+use Rattle.openings.proofs.opening.Statement.{statement}
+use Rattle.openings.proofs.opening.Tie as tie
 
 returns : tie.Need-returns
 unfolding openKind

@@ -1,5 +1,5 @@
--- Mirrored: What a part's code word asks for, by its kind in the low four bits: its constant, the number of its operands, its operation on
--- their lists in a lent slot, and document 01's number for what that gives.
+-- Mirrored: The operation that a part's code word asks for, by its kind in the low four bits, on its operands' lists in a lent slot, and
+-- document 01's number for what that gives.
 use Prim.Native.Nat.{ℕ, _/_, _%_}
 use mathlib.Core.Path.{_≡_}
 use mathlib.Core.Bool.{true, false, cond, _&&_}
@@ -17,17 +17,6 @@ use Rattle.building.specs.declared.SlotAnswer.{SlotAnswer}
 use Rattle.building.specs.declared.SlotAnswer.the-variants.{Stands, TooLong, TooLate, NotBegun}
 use Rattle.grammar.specs.Kinds as kinds
 use Rattle.grammar.specs.Tree.{Unary, Binary, invert, rise, fall, ton, tof, and, or, sr, rs}
-
--- the word of a constant's list
-unfoldable pub constantOf : ℕ → ℕ
-constantOf w = cond (eqb (w % 16) kinds.UP) 1 0
-
--- how many operands a part of a kind takes: none below NOT and from KINDS on, one below AND, else two
-unfoldable pub arity : ℕ → ℕ
-arity kind = cond (ltb kind kinds.NOT) 0 (cond (ltb kind kinds.AND) 1 (cond (ltb kind kinds.KINDS) 2 0))
-
-abbrev pub operandsOf : ℕ → ℕ
-operandsOf w = arity (w % 16)
 
 -- the operators by their kind, that of a timer with its length
 unfoldable pub unaryOf : ℕ → ℕ → Unary

@@ -1,10 +1,10 @@
--- `applying::operands` gives the number of a part's operands.
+-- `code_words::operands` gives the number of a part's operands.
 use Prim.Native.Nat.{_%_}
 use borrow.Author.Tests.{lt-ltb, le-ltb}
 use Rattle.grammar.specs.Kinds as kinds
-use Rattle.applying.specs.CodeWords.{arity}
-use Rattle.applying.proofs.operands.Statement.{statement}
-use Rattle.applying.proofs.operands.Tie as tie
+use Rattle.code_words.specs.CodeWords.{arity}
+use Rattle.code_words.proofs.operands.Statement.{statement}
+use Rattle.code_words.proofs.operands.Tie as tie
 
 returns : tie.Need-returns
 unfolding arity

@@ -1,9 +1,9 @@
--- `marks::opening_bytes` meets its contract.
+-- `openings::opening_bytes` meets its contract.
 use borrow.Author.Tests.{eq-eqb, ne-eqb, lt-ltb, le-ltb}
 use Rattle.grammar.specs.Reader.{blockBytes}
-use Rattle.marks.specs.Marks.{openBytes}
-use Rattle.marks.proofs.opening_bytes.Statement.{statement}
-use Rattle.marks.proofs.opening_bytes.Tie as tie
+use Rattle.openings.specs.Opening.{openBytes}
+use Rattle.openings.proofs.opening_bytes.Statement.{statement}
+use Rattle.openings.proofs.opening_bytes.Tie as tie
 
 returns : tie.Need-returns
 unfolding openBytes

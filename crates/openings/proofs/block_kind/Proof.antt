@@ -1,9 +1,9 @@
--- `marks::block_kind` meets its contract.
+-- `openings::block_kind` meets its contract.
 use borrow.Author.Needs.{needs}
 use mathlib.Core.Path.{refl, sym, _∙_}
 use Rattle.grammar.specs.Reader.{blockKind}
-use Rattle.marks.proofs.block_kind.Statement.{statement}
-use Rattle.marks.proofs.block_kind.Tie as tie
+use Rattle.openings.proofs.block_kind.Statement.{statement}
+use Rattle.openings.proofs.block_kind.Tie as tie
 
 returns : tie.Need-returns
 unfolding blockKind

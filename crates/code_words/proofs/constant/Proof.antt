@@ -1,10 +1,10 @@
--- `applying::constant` gives the word of a constant's list.
+-- `code_words::constant` gives the word of a constant's list.
 use Prim.Native.Nat.{_%_}
 use borrow.Author.Tests.{eq-eqb, ne-eqb}
 use Rattle.grammar.specs.Kinds as kinds
-use Rattle.applying.specs.CodeWords.{constantOf}
-use Rattle.applying.proofs.constant.Statement.{statement}
-use Rattle.applying.proofs.constant.Tie as tie
+use Rattle.code_words.specs.CodeWords.{constantOf}
+use Rattle.code_words.proofs.constant.Statement.{statement}
+use Rattle.code_words.proofs.constant.Tie as tie
 
 returns : tie.Need-returns
 unfolding constantOf

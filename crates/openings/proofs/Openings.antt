@@ -10,10 +10,12 @@ use lib.ListN.{length, drop, length-append, length-drop}
 use borrow.Author.Tests.{eqb-true, ltb-true, ltb-false, eq-eqb, ne-eqb, lt-ltb, le-ltb}
 use Rattle.names.specs.Names.{allOf}
 use Rattle.grammar.specs.Reader.{prefixKind, starts, blockKind, blockBytes}
-use Rattle.marks.specs.Marks.{Mark, nextMark, openKind, openBytes}
+use Rattle.grammar.specs.Kinds as kinds
+use Rattle.marks.specs.Marks.{Mark, nextMark}
+use Rattle.openings.specs.Opening.{BRACKET, openKind, openBytes}
 use Rattle.grammar.proofs.Bytes.{by-cond}
 use Rattle.grammar.proofs.Standing.{front}
 use Rattle.marks.proofs.Marking.{inside}
 
 -- the kind of the block that is next
 abbrev pub blockMark : List ℕ → Mark → ℕ
@@ -27,12 +29,12 @@ Unopened text m kind = (prefixKind (nextMark text m) ≡ 0) × (eqb (nextMark te
 pub record Opens (text : List ℕ) (m : Mark) (kind : ℕ) : Type 0 where
   pub some : 0 < kind → 0 < openBytes kind
   pub within : 0 < kind → m .at + openBytes kind ≤ length text
-  pub prefix : 0 < kind → kind < 6 → prefixKind (nextMark text m) ≡ kind
-  pub one : 0 < kind → kind < 6 → openBytes kind ≡ 1
-  pub bracket : kind ≡ 16 → nextMark text m ≡ 40
+  pub prefix : 0 < kind → kind < kinds.TON → prefixKind (nextMark text m) ≡ kind
+  pub one : 0 < kind → kind < kinds.TON → openBytes kind ≡ 1
+  pub bracket : kind ≡ BRACKET → nextMark text m ≡ 40
   pub leaf : kind ≡ 0 → Unopened text m kind
-  pub block : 5 < kind → (kind ≡ 16 → ⊥) → Unopened text m kind
-  pub bytes : 5 < kind → (kind ≡ 16 → ⊥) → openBytes kind ≡ blockBytes kind
+  pub block : kinds.FALLING < kind → (kind ≡ BRACKET → ⊥) → Unopened text m kind
+  pub bytes : kinds.FALLING < kind → (kind ≡ BRACKET → ⊥) → openBytes kind ≡ blockBytes kind
 
 -- a byte with a prefix's kind is not 0
 pub prefix-above : (b kind : ℕ) → prefixKind b ≡ kind → 0 < kind → 0 < b
@@ -40,17 +42,17 @@ unfolding prefixKind
 prefix-above zero kind e h = absurd (omega arith)
 prefix-above (suc b) kind e h = omega arith
 
-prefix-most : (b : ℕ) → prefixKind b < 6
+prefix-most : (b : ℕ) → prefixKind b < kinds.TON
 unfolding prefixKind
 prefix-most b =
-    by-cond (λ (k : ℕ). k < 6) (eqb b 33) (λ e. omega arith)
-    (λ e. by-cond (λ (k : ℕ). k < 6) (eqb b 94) (λ e. omega arith)
-    (λ e. by-cond (λ (k : ℕ). k < 6) (eqb b 126) (λ e. omega arith) (λ e. omega arith)))
+    by-cond (λ (k : ℕ). k < kinds.TON) (eqb b 33) (λ e. omega arith)
+    (λ e. by-cond (λ (k : ℕ). k < kinds.TON) (eqb b 94) (λ e. omega arith)
+    (λ e. by-cond (λ (k : ℕ). k < kinds.TON) (eqb b 126) (λ e. omega arith) (λ e. omega arith)))
 
 -- a block's kind, and room for its word
 record Blocks (text : List ℕ) (m : Mark) (kind : ℕ) : Type 0 where
-  low : 0 < kind → 5 < kind
-  high : kind < 16
+  low : 0 < kind → kinds.FALLING < kind
+  high : kind < BRACKET
   fits : 0 < kind → m .at + blockBytes kind ≤ length text
 
 word-fits : (text : List ℕ) (m : Mark) (w : List ℕ) → allOf (ltb 0) w ≡ true → 0 < length w → starts w (drop (m .at) text) ≡ true →
@@ -64,19 +66,20 @@ unfolding blockKind blockBytes allOf
 blocks text m =
     by-cond (Blocks text m) (m .ok)
     (λ o. by-cond (Blocks text m) (starts (83 ∷ 82 ∷ 40 ∷ []) (drop (m .at) text))
-    (λ e. of (83 ∷ 82 ∷ 40 ∷ []) 10 refl (omega arith, omega arith, omega arith, refl) e)
+    (λ e. of (83 ∷ 82 ∷ 40 ∷ []) kinds.SR refl (omega arith, omega arith, omega arith, refl) e)
     (λ o. by-cond (Blocks text m) (starts (82 ∷ 83 ∷ 40 ∷ []) (drop (m .at) text))
-    (λ e. of (82 ∷ 83 ∷ 40 ∷ []) 11 refl (omega arith, omega arith, omega arith, refl) e)
+    (λ e. of (82 ∷ 83 ∷ 40 ∷ []) kinds.RS refl (omega arith, omega arith, omega arith, refl) e)
     (λ o. by-cond (Blocks text m) (starts (84 ∷ 79 ∷ 78 ∷ 40 ∷ []) (drop (m .at) text))
-    (λ e. of (84 ∷ 79 ∷ 78 ∷ 40 ∷ []) 6 refl (omega arith, omega arith, omega arith, refl) e)
+    (λ e. of (84 ∷ 79 ∷ 78 ∷ 40 ∷ []) kinds.TON refl (omega arith, omega arith, omega arith, refl) e)
     (λ o. by-cond (Blocks text m) (starts (84 ∷ 79 ∷ 70 ∷ 40 ∷ []) (drop (m .at) text))
-    (λ e. of (84 ∷ 79 ∷ 70 ∷ 40 ∷ []) 7 refl (omega arith, omega arith, omega arith, refl) e) (λ e. nothing)))))
+    (λ e. of (84 ∷ 79 ∷ 70 ∷ 40 ∷ []) kinds.TOF refl (omega arith, omega arith, omega arith, refl) e) (λ e. nothing)))))
     (λ o. nothing)
   where
     nothing : Blocks text m 0
     nothing = record { low = λ h. absurd (omega arith); high = omega arith; fits = λ h. absurd (omega arith) }
 
-    of : (w : List ℕ) (kind : ℕ) → blockBytes kind ≡ length w → (5 < kind) × (kind < 16) × (0 < length w) × (allOf (ltb 0) w ≡ true) →
+    of : (w : List ℕ) (kind : ℕ) → blockBytes kind ≡ length w
+        → (kinds.FALLING < kind) × (kind < BRACKET) × (0 < length w) × (allOf (ltb 0) w ≡ true) →
         starts w (drop (m .at) text) ≡ true → Blocks text m kind
     of w kind q b e =
         record {
@@ -87,17 +90,17 @@ blocks text m =
 
 block-some : (kind : ℕ) → 0 < blockBytes kind
 unfolding blockBytes
-block-some kind = by-cond (λ (k : ℕ). 0 < k) (ltb kind 8) (λ e. omega arith) (λ e. omega arith)
+block-some kind = by-cond (λ (k : ℕ). 0 < k) (ltb kind kinds.AND) (λ e. omega arith) (λ e. omega arith)
 
 pub none-bytes : (kind : ℕ) → kind ≤ 0 → openBytes kind ≡ 0
 unfolding openBytes
 none-bytes kind h = rw (eq-eqb kind 0 (omega arith)) refl
 
 module _ (text : List ℕ) (m : Mark) where
-  of-prefix : (kind : ℕ) → prefixKind (nextMark text m) ≡ kind → 0 < kind → kind < 6 → Opens text m kind
+  of-prefix : (kind : ℕ) → prefixKind (nextMark text m) ≡ kind → 0 < kind → kind < kinds.TON → Opens text m kind
   unfolding openBytes
   of-prefix kind e pos low =
-      let single : openBytes kind ≡ 1 = rw (ne-eqb kind 0 (omega arith), lt-ltb kind 6 low) refl in
+      let single : openBytes kind ≡ 1 = rw (ne-eqb kind 0 (omega arith), lt-ltb kind kinds.TON low) refl in
       let i = inside text m (nextMark text m) refl (prefix-above (nextMark text m) kind e pos) in
       record {
         some = λ h. omega (arith, single);
@@ -110,10 +113,10 @@ module _ (text : List ℕ) (m : Mark) where
         bytes = λ h o. absurd (omega arith);
       }
 
-  of-bracket : nextMark text m ≡ 40 → Opens text m 16
+  of-bracket : nextMark text m ≡ 40 → Opens text m BRACKET
   unfolding openBytes
   of-bracket e =
-      let single : openBytes 16 ≡ 1 = refl in
+      let single : openBytes BRACKET ≡ 1 = refl in
       let i = inside text m 40 e (omega arith) in
       record {
         some = λ h. omega (arith, single);
@@ -143,7 +146,8 @@ module _ (text : List ℕ) (m : Mark) where
       same : 0 < kind → openBytes kind ≡ blockBytes kind
       same h =
           let low = b .low h in
-          let high = b .high in rw (ne-eqb kind 0 (omega arith), le-ltb kind 6 (omega arith), ne-eqb kind 16 (omega arith)) refl
+          let high = b .high in
+          rw (ne-eqb kind 0 (omega arith), le-ltb kind kinds.TON (omega arith), ne-eqb kind BRACKET (omega arith)) refl
 
   pub opens : Opens text m (openKind text m)
   unfolding openKind

@@ -1,14 +1,14 @@
--- `marks::stands` meets its contract: the bytes begin with the word where those after its first bytes begin with the rest of it.
+-- `openings::stands` meets its contract: the bytes begin with the word where those after its first bytes begin with the rest of it.
 use borrow.Author.Needs.{needs}
 use Prim.Native.Nat.{_-_}
 use native.Mathlib.Omega.{arith}
 use mathlib.Core.Path.{_≡_, refl, sym, _∙_}
 use lib.ListN.{length, drop}
 use Rattle.grammar.specs.Reader.{starts}
 use Rattle.marks.specs.Marks.{lent}
-use Rattle.marks.proofs.Marking.{starts-on, starts-off, starts-end}
-use Rattle.marks.proofs.stands.Statement.{statement}
-use Rattle.marks.proofs.stands.Tie as tie
+use Rattle.openings.proofs.Words.{starts-on, starts-off, starts-end}
+use Rattle.openings.proofs.stands.Statement.{statement}
+use Rattle.openings.proofs.stands.Tie as tie
 
 abbrev Inv-loop : tie.InvT-loop
 Inv-loop text bytes at word i₀ i =

@@ -1,0 +1,2 @@
+-- Lemmas on names cut from a text.
+mod CutNames

@@ -1,0 +1,3 @@
+-- Lemmas on what begins a factor.
+pub mod Words
+pub mod Openings

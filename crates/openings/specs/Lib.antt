@@ -1,0 +1,2 @@
+-- What begins a factor: definitions that mirror the code.
+pub mod Opening

@@ -1,0 +1,117 @@
+// What begins a factor of a formula at a mark of its text: a prefix, an open bracket, or a block's word with its bracket.
+ghost use mathlib.Core.Path.{_≡_};
+ghost use lib.ListN.{getD, drop};
+ghost use Rattle.grammar.specs.Reader.{prefixKind, starts, blockKind};
+ghost use Rattle.marks.specs.Marks.{markOf, lent};
+ghost use Rattle.openings.specs.Opening.{openKind, openBytes};
+use marks::AT;
+use marks::OK;
+use marks::kind;
+use marks::next;
+
+// The kind of !, ^ and ~; 0 for any other byte.
+fn prefix_kind(b: u8) -> u64
+    ensures { λ r. ⌜ r ≡ prefixKind b ⌝ }
+{
+    if b == b'!' {
+        return kind::NOT;
+    }
+    if b == b'^' {
+        return kind::RISING;
+    }
+    if b == b'~' {
+        return kind::FALLING;
+    }
+    0
+}
+
+// The byte so many after the place; 0 past the end.
+fn byte_after(text: &[u8; 1024], bytes: usize, at: usize, k: usize) -> u8
+    ensures { λ r. ⌜ r ≡ getD (drop at (lent (now (text .entry)) bytes)) k 0 ⌝ }
+{
+    if bytes <= at {
+        return 0;
+    }
+    if bytes - at <= k {
+        return 0;
+    }
+    let place = at + k;
+    if place < 1024 {
+        return text[place];
+    }
+    0
+}
+
+// Whether the word stands at the place.
+fn stands(text: &[u8; 1024], bytes: usize, at: usize, word: &[u8]) -> bool
+    ensures { λ r. ⌜ r ≡ starts (now (word .entry)) (drop at (lent (now (text .entry)) bytes)) ⌝ }
+{
+    let mut i = 0;
+    while i < word.len() {
+        if byte_after(text, bytes, at, i) == word[i] {
+            i += 1;
+        } else {
+            return false;
+        }
+    }
+    true
+}
+
+// The kind of the block whose word and bracket stand at the place; 0 where none do.
+fn block_kind(text: &[u8; 1024], bytes: usize, at: usize) -> u64
+    ensures { λ r. ⌜ r ≡ blockKind (drop at (lent (now (text .entry)) bytes)) ⌝ }
+{
+    if stands(text, bytes, at, b"SR(") {
+        return kind::SR;
+    }
+    if stands(text, bytes, at, b"RS(") {
+        return kind::RS;
+    }
+    if stands(text, bytes, at, b"TON(") {
+        return kind::TON;
+    }
+    if stands(text, bytes, at, b"TOF(") {
+        return kind::TOF;
+    }
+    0
+}
+
+// The kind of what is next and begins a factor: !, ^, ~, an open bracket, or a block's word and bracket; 0 where none is.
+pub fn opening(text: &[u8; 1024], bytes: usize, m: &[usize; 5]) -> u64
+    ensures { λ r. ⌜ r ≡ openKind (lent (now (text .entry)) bytes) (markOf (now (m .entry))) ⌝ }
+{
+    let b = next(text, bytes, m);
+    let prefix = prefix_kind(b);
+    if 0 < prefix {
+        return prefix;
+    }
+    if b == b'(' {
+        return kind::BRACKET;
+    }
+    if b'T' < b {
+        return 0;
+    }
+    if m[OK] == 1 {
+        return block_kind(text, bytes, m[AT]);
+    }
+    0
+}
+
+// How many bytes such an opening has.
+pub fn opening_bytes(first: u64) -> usize
+    ensures { λ r. ⌜ r ≡ openBytes first ⌝ }
+{
+    if first == 0 {
+        return 0;
+    }
+    if first < kind::TON {
+        return 1;
+    }
+    if first == kind::BRACKET {
+        return 1;
+    }
+    if first < kind::AND {
+        return 4;
+    }
+    3
+}
