@@ -16,15 +16,53 @@ elif [ $# -ne 0 ]; then
 fi
 
 copy=$(mktemp -d)
-trap 'rm -rf -- "$copy"' EXIT
+claims=
+trap 'if [ -n "$claims" ]; then kill "$claims" 2>/dev/null || true; wait "$claims" || true; fi; rm -rf -- "$copy"' EXIT
 trap 'exit 1' HUP INT TERM
 mkdir "$copy/repository"
 cp -R "$root/crates" "$root/crates.txt" "$copy/repository/"
-# Crates proved before and unchanged since are not proved again: the gate runs these tests after rt ci has proved all from nothing.
+# Crates proved before and unchanged since are not proved again: the gate runs these tests after rt ci has proved all from nothing. Their
+# libraries are linked where the file system can (rt writes a library anew, and never into an old one), else copied.
+laid() {
+    cp -al "$1" "$2" 2>/dev/null || { rm -rf "$2" && cp -R "$1" "$2"; }
+}
 if [ -d "$root/target/rlib" ] && [ -d "$root/target/stamp" ]; then
     mkdir "$copy/repository/target"
-    cp -R "$root/target/rlib" "$root/target/stamp" "$copy/repository/target/"
+    cp -R "$root/target/stamp" "$copy/repository/target/"
+    laid "$root/target/rlib" "$copy/repository/target/rlib"
 fi
+
+# bin/claim over a repository of its own, beside the rest: each takes one core
+test_claims() {
+    set -eu
+    "$root/bindings/test_claim" --quiet
+    claim() {
+        "$copy/other/bin/claim" "$1" "$2" "$copy/other/examples/$3"
+    }
+    # says FOUND WANTED WHAT
+    says() {
+        if [ "$1" != "$2" ]; then
+            echo "bindings: bin/claim $3: $1, not $2" >&2
+            exit 1
+        fi
+    }
+    grep -v '^#' "$copy/other/examples/claims.txt" | while read -r sheet f g verdict; do
+        found=$(claim "$f" "$g" "$sheet" 2>"$copy/other/said") || [ $? -eq 1 ]
+        says "$found" "$verdict" "$f $g $sheet"
+    done
+    status=0
+    found=$(claim knife cut trim.sgl 2>"$copy/other/said") || status=$?
+    says "$status $found" "3 refused 13" "knife cut trim.sgl"
+    says "$(cat "$copy/other/said")" "claim: refused 13: a formula has a name that the sheet does not have" "knife cut trim.sgl"
+    status=0
+    found=$(claim cut cut none.sgl 2>"$copy/other/said") || status=$?
+    says "$status $found" "2 " "cut cut none.sgl"
+}
+
+laid "$copy/repository" "$copy/other"
+cp -R "$root/bin" "$root/examples" "$copy/other/"
+(test_claims) >"$copy/claims" 2>&1 &
+claims=$!
 
 echo "bindings: proving capi and building its archive"
 if ! (cd "$copy/repository" && rt staticlib capi) >"$copy/log" 2>&1; then
@@ -52,29 +90,11 @@ cargo build --offline --quiet --release --bin sheet
 SHEET=$CARGO_TARGET_DIR/release/sheet "$root/bindings/test_sheet" --quiet
 
 echo "bindings: bin/claim"
-"$root/bindings/test_claim" --quiet
-cp -R "$root/bin" "$root/examples" "$copy/repository/"
-claim() {
-    "$copy/repository/bin/claim" "$1" "$2" "$copy/examples/$3"
-}
-# says FOUND WANTED WHAT
-says() {
-    if [ "$1" != "$2" ]; then
-        echo "bindings: bin/claim $3: $1, not $2" >&2
-        exit 1
-    fi
-}
-grep -v '^#' "$copy/examples/claims.txt" | while read -r sheet f g verdict; do
-    found=$(claim "$f" "$g" "$sheet" 2>"$copy/said") || [ $? -eq 1 ]
-    says "$found" "$verdict" "$f $g $sheet"
-done
-status=0
-found=$(claim knife cut trim.sgl 2>"$copy/said") || status=$?
-says "$status $found" "3 refused 13" "knife cut trim.sgl"
-says "$(cat "$copy/said")" "claim: refused 13: a formula has a name that the sheet does not have" "knife cut trim.sgl"
-status=0
-found=$(claim cut cut none.sgl 2>"$copy/said") || status=$?
-says "$status $found" "2 " "cut cut none.sgl"
+if ! wait "$claims"; then
+    cat "$copy/claims" >&2
+    exit 1
+fi
+claims=
 
 if [ -n "$into" ]; then
     cp "$RASCRUNEL_LIB/libcapi.a" "$CARGO_TARGET_DIR/release/sheet" "$into/"
