@@ -17,8 +17,7 @@ use Rattle.signals.specs.declared.Verdict.the-variants as verdict
 use Rattle.grammar.specs.Tree.{Tree}
 use Rattle.grammar.specs.Formula.{formulaTree}
 use Rattle.format.specs.Reading.{sheetFault}
-use Rattle.calls.specs.Calls.{workWords, neededWork, readingFault, workFault, workingFault, wordsOn, callFault, callAnswer}
-use Rattle.calls.specs.Calls.{claimFault}
+use Rattle.calls.specs.Calls.{neededWork, readingFault, workFault, workingFault, wordsOn, callFault, callAnswer, claimFault}
 use Rattle.calls.specs.Calls.{claimFails, claimVerdict, claimAnswer}
 use Rattle.operations.specs.Calls.{roomFault}
 use Rattle.calls.specs.Answered.{Answered, Enough}
@@ -199,7 +198,7 @@ pub enough-served : (sheet formula : List ℕ) → Answered sheet formula → (w
     → callFault sheet formula work (length old) ≡ 0
 enough-served sheet formula a work old n = clear-call sheet formula (answered-clear sheet formula a) work (length old) (n .area) (n .room)
 
-needed : (sheet : List ℕ) → neededWork sheet ≡ workWords
+needed : (sheet : List ℕ) → neededWork sheet ≡ 8192
 unfolding neededWork
 needed sheet = refl
 

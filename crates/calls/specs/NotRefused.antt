@@ -9,13 +9,13 @@ use Rattle.signals.specs.Implication.{faultOfVerdict}
 use Rattle.signals.specs.declared.Written.the-variants.{Count}
 use Rattle.signals.specs.declared.Verdict.the-variants.{Refused}
 use Rattle.format.specs.Reading.{sheetFault}
-use Rattle.calls.specs.Calls.{neededWork, readingFault, workingFault, wordsOn, callAnswer, claimAnswer, claimVerdict, workWords}
+use Rattle.calls.specs.Calls.{neededWork, readingFault, workingFault, wordsOn, callAnswer, claimAnswer, claimVerdict}
 use Rattle.calls.specs.Answered.{Answered, Enough}
 use Rattle.grammar.specs.Formula.{formulaTree}
 
 pub record NotRefused : Type 0 where
   -- the needed work words are 8,192 on every sheet
-  pub needed : (sheet : List ℕ) → neededWork sheet ≡ workWords
+  pub needed : (sheet : List ℕ) → neededWork sheet ≡ 8192
   -- an answered formula's call with the needed work words and an output at least as long as its answer is not refused
   pub enough : (sheet formula : List ℕ) → Answered sheet formula → (work : ℕ) (old : List ℕ) → Enough sheet formula work old
       → callAnswer sheet formula work old ≡ Count (length (wordsOn sheet formula))
