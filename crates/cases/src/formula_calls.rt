@@ -1,9 +1,9 @@
 // The formula reader, formula calls, claims and the program's line.
-use crate::answers::verdict;
-use crate::answers::written;
-use crate::shown::answer;
-use crate::shown::number;
-use crate::shown::with_words;
+use answers::shown::answer;
+use answers::shown::number;
+use answers::shown::with_words;
+use answers::verdict;
+use answers::written;
 use evaluation::WORK_WORDS;
 use fields::part;
 use notation::Ends;

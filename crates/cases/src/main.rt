@@ -16,11 +16,7 @@ use notation::words;
 use slices::part_after;
 use slices::part_before;
 
-mod answers;
 mod formula_calls;
-mod list_calls;
-mod sheet_calls;
-mod shown;
 
 // A call on lists, with as many words of output.
 fn on_words(call: usize, digits: &[u8], a: &[u32], b: &[u32], c: &[u32], room: usize) {

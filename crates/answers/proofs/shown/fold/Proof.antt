@@ -1,9 +1,9 @@
--- `cases::shown::fold` is safe and ends.
+-- `answers::shown::fold` is safe and ends.
 use borrow.Author.Needs.{needs}
 use Prim.Native.Nat.{_-_, _≤_}
 use lib.ListN.{length}
-use Rattle.cases.proofs.shown.fold.Statement.{statement}
-use Rattle.cases.proofs.shown.fold.Tie as tie
+use Rattle.answers.proofs.shown.fold.Statement.{statement}
+use Rattle.answers.proofs.shown.fold.Tie as tie
 
 abbrev Inv-loop : tie.InvT-loop
 Inv-loop bytes few sum₀ i₀ sum i = 0 ≤ 0

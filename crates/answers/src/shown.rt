@@ -1,6 +1,6 @@
 // What came out, in the notation of the arguments; bytes in hexadecimal.
-use crate::answers::Answer;
-use crate::answers::YES;
+use crate::Answer;
+use crate::YES;
 use fields::byte_at;
 use fields::part;
 use notation::name;

@@ -1,9 +1,9 @@
--- `cases::shown::run` is safe and ends.
+-- `answers::shown::run` is safe and ends.
 use borrow.Author.Needs.{needs}
 use Prim.Native.Nat.{_-_, _≤_}
 use lib.ListN.{length}
-use Rattle.cases.proofs.shown.run.Statement.{statement}
-use Rattle.cases.proofs.shown.run.Tie as tie
+use Rattle.answers.proofs.shown.run.Statement.{statement}
+use Rattle.answers.proofs.shown.run.Tie as tie
 
 abbrev Inv-loop : tie.InvT-loop
 Inv-loop list i by j₀ j = 1 ≤ j

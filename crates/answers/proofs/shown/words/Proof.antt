@@ -1,9 +1,9 @@
--- `cases::shown::words` is safe and ends.
+-- `answers::shown::words` is safe and ends.
 use borrow.Author.Needs.{needs}
 use Prim.Native.Nat.{_-_, _≤_}
 use lib.ListN.{length}
-use Rattle.cases.proofs.shown.words.Statement.{statement}
-use Rattle.cases.proofs.shown.words.Tie as tie
+use Rattle.answers.proofs.shown.words.Statement.{statement}
+use Rattle.answers.proofs.shown.words.Tie as tie
 
 abbrev Inv-loop : tie.InvT-loop
 Inv-loop list done₀ i₀ done i = 0 ≤ 0

@@ -1,12 +1,12 @@
-// The calls on sheets.
-use crate::answers::PLAIN;
-use crate::answers::counted;
-use crate::answers::number;
-use crate::answers::written;
-use crate::answers::yes;
-use crate::shown;
-use crate::shown::answer;
-use crate::shown::with_bytes;
+// Test support: the calls on sheets.
+use answers::PLAIN;
+use answers::counted;
+use answers::number;
+use answers::shown;
+use answers::shown::answer;
+use answers::shown::with_bytes;
+use answers::written;
+use answers::yes;
 use fields::part;
 use format::Place;
 use notation::Space;

@@ -1,10 +1,9 @@
-// The calls on lists: questions, tidying, the operations into an output and in a slot that is lent.
-use crate::answers;
-use crate::answers::Answer;
-use crate::answers::slot;
-use crate::answers::told;
-use crate::answers::written;
-use crate::shown::with_words;
+// Test support: the calls on lists: questions, tidying, the operations into an output and in a slot that is lent.
+use answers::Answer;
+use answers::shown::with_words;
+use answers::slot;
+use answers::told;
+use answers::written;
 use building::SlotAnswer;
 use fields::byte_at;
 use notation::head;

@@ -1,4 +1,6 @@
-// What a call answers, as it is shown: one of the texts, the number that some of them have, and whether the output follows.
+// Test support: what a call answers, as it is shown: one of the texts, the number that some of them have, and whether the output follows.
+pub mod shown;
+
 use building::SlotAnswer;
 use signals::Sum;
 use signals::Told;
