@@ -31,11 +31,11 @@ use random_sheets::rows::date_of;
 use random_sheets::rows::dates;
 use random_sheets::rows::word_at;
 use random_sheets::rows::words;
-use random_sheets::steps::FAILS;
-use random_sheets::steps::first;
-use random_sheets::steps::first_of;
-use random_sheets::steps::stepped;
 use signals::WORDS;
+use stepping::FAILS;
+use stepping::first;
+use stepping::first_of;
+use stepping::stepped;
 
 fn wide(word: u32) -> u64 {
     word as u64

@@ -12,9 +12,9 @@ use random_formulas::cells::set;
 use random_formulas::texts::write_some;
 use random_formulas::texts::written;
 use random_formulas::trees::grow;
-use random_sheets::steps::LONG;
-use random_sheets::steps::STRANGE;
-use random_sheets::steps::first;
+use stepping::LONG;
+use stepping::STRANGE;
+use stepping::first;
 
 // How many parts at least: mostly few.
 fn least(seed: u64) -> Draw {

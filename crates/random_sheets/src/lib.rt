@@ -1,5 +1,4 @@
-// Test support: random signals and their sheets on the cells, and a second evaluator that shares no code with the engine. No function
-// has a `requires`; what is proved of each is that it is safe and ends.
+// Test support: random signals and their sheets on the cells. No function has a `requires`; what is proved of each is that it is safe and
+// ends.
 pub mod drawn;
 pub mod rows;
-pub mod steps;

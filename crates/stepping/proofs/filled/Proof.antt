@@ -1,8 +1,8 @@
--- `random_sheets::steps::filled` is safe and ends.
+-- `stepping::filled` is safe and ends.
 use borrow.Author.Needs.{needs}
 use Prim.Native.Nat.{_≤_}
-use Rattle.random_sheets.proofs.steps.filled.Statement.{statement}
-use Rattle.random_sheets.proofs.steps.filled.Tie as tie
+use Rattle.stepping.proofs.filled.Statement.{statement}
+use Rattle.stepping.proofs.filled.Tie as tie
 
 abbrev Inv-loop : tie.InvT-loop
 Inv-loop cells₀ kind value row m₀ cells m = 0 ≤ 0

@@ -1,8 +1,8 @@
--- `random_sheets::steps::latched` is safe and ends.
+-- `stepping::latched` is safe and ends.
 use borrow.Author.Needs.{needs}
 use Prim.Native.Nat.{_≤_}
-use Rattle.random_sheets.proofs.steps.latched.Statement.{statement}
-use Rattle.random_sheets.proofs.steps.latched.Tie as tie
+use Rattle.stepping.proofs.latched.Statement.{statement}
+use Rattle.stepping.proofs.latched.Tie as tie
 
 abbrev Inv-loop : tie.InvT-loop
 Inv-loop cells kind s r moment left₀ left = 0 ≤ 0

@@ -1,8 +1,8 @@
--- `random_sheets::steps::stepped` is safe and ends.
+-- `stepping::stepped` is safe and ends.
 use borrow.Author.Needs.{needs}
 use Prim.Native.Nat.{_-_, _≤_}
-use Rattle.random_sheets.proofs.steps.stepped.Statement.{statement}
-use Rattle.random_sheets.proofs.steps.stepped.Tie as tie
+use Rattle.stepping.proofs.stepped.Statement.{statement}
+use Rattle.stepping.proofs.stepped.Tie as tie
 
 abbrev Inv-loop : tie.InvT-loop
 Inv-loop cells₀ n base top₀ i₀ cells top i = 0 ≤ 0

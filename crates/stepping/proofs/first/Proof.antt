@@ -1,8 +1,8 @@
--- `random_sheets::steps::first` is safe and ends.
+-- `stepping::first` is safe and ends.
 use borrow.Author.Needs.{needs}
 use Prim.Native.Nat.{_-_, _≤_}
-use Rattle.random_sheets.proofs.steps.first.Statement.{statement}
-use Rattle.random_sheets.proofs.steps.first.Tie as tie
+use Rattle.stepping.proofs.first.Statement.{statement}
+use Rattle.stepping.proofs.first.Tie as tie
 
 abbrev Inv-loop : tie.InvT-loop
 Inv-loop cells test row from end i₀ i = 0 ≤ 0
