@@ -4,7 +4,7 @@ ghost use mathlib.Core.Bool.{not, _&&_, _||_};
 ghost use Rattle.signals.specs.Signal.{cell};
 ghost use Rattle.signals.specs.LatchSteps.{atStep, gapStep, shown};
 ghost use Rattle.showing.specs.Showing.{latchFirst, latchShown, firstShown, dateShown};
-use lists::Step;
+use reading::Step;
 
 // What the merge of two lists builds: a connective by its table, an edge of the first, or a latch.
 pub enum Operation {

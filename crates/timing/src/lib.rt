@@ -21,7 +21,7 @@ fn date_in(sum: Sum) -> Date
     match sum {
         Sum::On(date) => date,
         Sum::PastM(date) => Date(date),
-        Sum::Refused(_) => Date(lists::NEVER),
+        Sum::Refused(_) => Date(reading::NEVER),
     }
 }
 
