@@ -10,8 +10,8 @@ use reading::next_date;
 use reading::past;
 use signals::Told;
 use signals::Verdict;
-use signals::earlier;
-use signals::index;
+use words::earlier;
+use words::index;
 
 // What a scan over moments finds: a moment by its number (gap k is 2k, instant k is 2k-1), or none.
 enum Found {

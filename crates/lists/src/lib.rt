@@ -5,7 +5,7 @@ ghost use lib.ListN.{length, getD, drop};
 ghost use Rattle.signals.specs.Words.{headValue, wordsFault, listFault, pairFault};
 ghost use Rattle.lists.specs.Head.{headFault};
 use signals::WORDS;
-use signals::changes_nothing;
+use words::changes_nothing;
 
 // The fault of a list's length and first word.
 pub fn head_fault(list: &[u32]) -> u32

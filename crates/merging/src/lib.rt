@@ -35,7 +35,7 @@ fn merge(
     let mut i: usize = 1;
     let mut j: usize = 1;
     while i + j < a.len() + b.len() {
-        let date = signals::earlier(reading::next_date(a, i), reading::next_date(b, j));
+        let date = words::earlier(reading::next_date(a, i), reading::next_date(b, j));
         let p = reading::past(a, i, date);
         let q = reading::past(b, j, date);
         let shown = showing::date_shown(operation, table, carried, p, q);

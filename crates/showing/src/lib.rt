@@ -26,8 +26,8 @@ pub struct Shown {
 fn cell_of(table: [[bool; 2]; 2], p: bool, q: bool) -> bool
     ensures { λ r. ⌜ r ≡ cell table p q ⌝ }
 {
-    let row = signals::index(p);
-    let column = signals::index(q);
+    let row = words::index(p);
+    let column = words::index(q);
     table[row][column]
 }
 

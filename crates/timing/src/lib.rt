@@ -29,7 +29,7 @@ fn date_in(sum: Sum) -> Date
 fn pending_from(date: Date, at: bool, d: Length) -> Timer
     ensures { λ r. ⌜ r ≡ pending (date .0) at (d .0) ⌝ }
 {
-    let sum = signals::date_plus_length(date, d);
+    let sum = words::date_plus_length(date, d);
     Timer {
         level: false,
         waiting: true,

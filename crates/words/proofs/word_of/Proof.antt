@@ -1,9 +1,9 @@
--- `signals::word_of` gives the word of a date and its two values.
+-- `words::word_of` gives the word of a date and its two values.
 use native.Mathlib.Omega.{arith}
 use Rattle.signals.specs.Words.{word}
 use borrow.Author.Needs.{needs}
-use Rattle.signals.proofs.word_of.Statement.{statement}
-use Rattle.signals.proofs.word_of.Tie as tie
+use Rattle.words.proofs.word_of.Statement.{statement}
+use Rattle.words.proofs.word_of.Tie as tie
 
 cast-w : tie.Need-cast-w
 cast-w c = search needs

@@ -1,8 +1,8 @@
--- `signals::date_plus_length` meets its contract: at each `return` the tests that led there say which case of `sumOf` holds.
+-- `words::date_plus_length` meets its contract: at each `return` the tests that led there say which case of `sumOf` holds.
 use borrow.Author.Needs.{needs}
 use borrow.Author.Tests.{lt-ltb, le-ltb}
-use Rattle.signals.proofs.date_plus_length.Statement.{statement}
-use Rattle.signals.proofs.date_plus_length.Tie as tie
+use Rattle.words.proofs.date_plus_length.Statement.{statement}
+use Rattle.words.proofs.date_plus_length.Tie as tie
 
 returns : tie.Need-returns
 returns c = simp (lt-ltb _ _ (c .if1 .taken))

@@ -1,8 +1,8 @@
--- `signals::changes_nothing` compares both values of a word with the value before.
+-- `words::changes_nothing` compares both values of a word with the value before.
 use borrow.Author.Needs.{needs}
-use Rattle.signals.proofs.Unchanged.{both-up, both-down}
-use Rattle.signals.proofs.changes_nothing.Statement.{statement}
-use Rattle.signals.proofs.changes_nothing.Tie as tie
+use Rattle.words.proofs.Unchanged.{both-up, both-down}
+use Rattle.words.proofs.changes_nothing.Statement.{statement}
+use Rattle.words.proofs.changes_nothing.Tie as tie
 
 returns : tie.Need-returns
 returns c = rw (c .if1 .taken) (both-up (c .before .args .w))
