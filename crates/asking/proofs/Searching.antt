@@ -11,10 +11,10 @@ use Rattle.signals.specs.Words.{dateOf, listFault, signalOf}
 use Rattle.signals.specs.Passing.{heldValue, isNext, atDate, afterDate, passedDate}
 use Rattle.signals.proofs.Operand.{At, at-pass, at-take, next-later, value-held}
 use Rattle.signals.proofs.Normal.{accepted-start}
-use Rattle.lists.specs.Reading.{NEVER, nextDate, stepPast, countBy, datedBy}
-use Rattle.lists.specs.declared.Step.{Step}
-use Rattle.lists.proofs.ReadingFacts.{not-next, none-next}
-use Rattle.lists.proofs.Counting.{next-in, next-left, passed-next, count-start, count-passed, none-left, pass-count}
+use Rattle.reading.specs.Reading.{NEVER, nextDate, stepPast, countBy, datedBy}
+use Rattle.reading.specs.declared.Step.{Step}
+use Rattle.reading.proofs.ReadingFacts.{not-next, none-next}
+use Rattle.reading.proofs.Counting.{next-in, next-left, passed-next, count-start, count-passed, none-left, pass-count}
 use Rattle.asking.specs.Seeking.{Sought}
 
 -- p words are passed, all dated before k (at 0 when k is 0)

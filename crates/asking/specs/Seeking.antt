@@ -4,8 +4,8 @@ use mathlib.Core.Path.{_≡_}
 use mathlib.Core.List.{List}
 use Rattle.signals.specs.Moment.{gap, instant}
 use Rattle.signals.specs.Words.{signalOf}
-use Rattle.lists.specs.Reading.{datedBy}
-use Rattle.lists.specs.declared.Step.{Step}
+use Rattle.reading.specs.Reading.{datedBy}
+use Rattle.reading.specs.declared.Step.{Step}
 
 -- the words of l dated at or before k, counted, and its signal's values at instant k and in gap k
 abbrev pub Sought : List ℕ → ℕ → Step → Type 0

@@ -76,7 +76,7 @@ pub fn emit(slot: &mut [u32], made: Made, date: Date, at: bool, after: bool) -> 
     }
     let place = made.count as usize;
     if place < slot.len() {
-        slot[place] = signals::word_of(date, at, after) as u32;
+        slot[place] = words::word_of(date, at, after) as u32;
         return Made {
             value: after,
             count: one_more(made.count),

@@ -17,7 +17,7 @@ use Rattle.signals.specs.declared.Verdict.the-variants as verdict
 use Rattle.signals.specs.declared.Told.the-variants as told
 use Rattle.signals.proofs.Truth.{not-both, every-of}
 use Rattle.signals.proofs.Implication.{refuted-up, refuted-of, verdict-judged}
-use Rattle.lists.specs.Reading.{NEVER}
+use Rattle.reading.specs.Reading.{NEVER}
 use Rattle.questions.specs.Questions.{laterLast, agreeing, equalOf, impliesOf}
 use Rattle.questions.proofs.LaterLast.{settled-a, settled-b, not-every}
 use Rattle.comparing.specs.Finding.{shows, shown, FirstFrom, Near, verdictIn}

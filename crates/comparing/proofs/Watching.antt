@@ -16,13 +16,13 @@ use Rattle.signals.specs.Passing.{heldValue, isNext, atDate, passedDate}
 use Rattle.signals.specs.Quantified.{Down}
 use Rattle.signals.proofs.Operand.{At, Passed, at-pass, at-end, next-later}
 use Rattle.signals.proofs.Normal.{accepted-start, accepted-normal}
-use Rattle.lists.specs.Reading.{NEVER, nextDate, stepPast}
+use Rattle.reading.specs.Reading.{NEVER, nextDate, stepPast}
 use Rattle.comparing.specs.Finding.{shows, shown, inStretch, Clear, FirstFrom}
-use Rattle.lists.specs.declared.Step.{Step}
+use Rattle.reading.specs.declared.Step.{Step}
 use Rattle.comparing.specs.declared.Found.{Found}
 use Rattle.comparing.specs.declared.Found.the-variants.{In, Nowhere}
-use Rattle.lists.proofs.ReadingFacts.{is-next}
-use Rattle.lists.proofs.Counting.{next-in, next-none}
+use Rattle.reading.proofs.ReadingFacts.{is-next}
+use Rattle.reading.proofs.Counting.{next-in, next-none}
 
 pub short : (l : List ℕ) → listFault l ≡ 0 → length l ≤ mostWords
 short l z = accepted-normal l .0 z .1

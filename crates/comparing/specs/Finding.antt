@@ -8,7 +8,7 @@ use Rattle.signals.specs.Quantified.{Up, Down}
 use Rattle.signals.specs.Implication.{failsIn}
 use Rattle.signals.specs.declared.Verdict.{Verdict}
 use Rattle.signals.specs.declared.Verdict.the-variants.{Holds}
-use Rattle.lists.specs.Reading.{NEVER}
+use Rattle.reading.specs.Reading.{NEVER}
 use Rattle.comparing.specs.declared.Found.{Found}
 use Rattle.comparing.specs.declared.Found.the-variants.{In, Nowhere}
 

@@ -4,14 +4,14 @@ ghost use Prim.Native.Nat.{max};
 ghost use Rattle.signals.specs.Words.{listFault, signalOf};
 ghost use Rattle.questions.specs.Questions.{equalOf, impliesOf};
 ghost use Rattle.comparing.specs.Finding.{shown, shows, inStretch, verdictIn, Near, FirstFrom};
-use lists::held_value;
-use lists::next_date;
 use lists::pair_fault;
-use lists::past;
+use reading::held_value;
+use reading::next_date;
+use reading::past;
 use signals::Told;
 use signals::Verdict;
-use signals::earlier;
-use signals::index;
+use words::earlier;
+use words::index;
 
 // What a scan over moments finds: a moment by its number (gap k is 2k, instant k is 2k-1), or none.
 enum Found {

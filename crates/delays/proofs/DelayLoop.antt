@@ -16,8 +16,8 @@ use Rattle.signals.proofs.Truth.{not-both}
 use Rattle.signals.proofs.Scan.{Held}
 use Rattle.signals.proofs.Operand.{At, Passed, at-pass, at-end, value-held}
 use Rattle.signals.proofs.Normal.{accepted-start, accepted-settled}
-use Rattle.lists.specs.Reading.{NEVER, stepPast}
-use Rattle.lists.specs.declared.Step.{Step}
+use Rattle.reading.specs.Reading.{NEVER, stepPast}
+use Rattle.reading.specs.declared.Step.{Step}
 use Rattle.operations.specs.Calls.{exactOfDelay}
 use Rattle.building.specs.Building.{emitted, emittedIn, begun, Built}
 use Rattle.timing.specs.Delay.{timerNext, firstTimer, onLevel, levelOf, delayed, delayOf}

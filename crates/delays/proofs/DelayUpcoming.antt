@@ -15,7 +15,7 @@ use Rattle.signals.specs.Quantified.{Up, Down}
 use Rattle.signals.proofs.Truth.{not-both}
 use Rattle.signals.proofs.Operand.{At, next-later, words-left}
 use Rattle.signals.proofs.Normal.{last-le}
-use Rattle.lists.specs.Reading.{NEVER, nextDate}
+use Rattle.reading.specs.Reading.{NEVER, nextDate}
 use Rattle.delays.specs.Upcoming.{upcomingDate}
 use Rattle.timing.specs.declared.Timer.{Timer}
 use Rattle.timing.proofs.DelayTiming.{momentOf, Timed, timed-ahead}

@@ -3,7 +3,7 @@ use Prim.Native.Nat.{ℕ}
 use mathlib.Core.Bool.{cond, _&&_}
 use mathlib.Core.List.{List}
 use lib.Dec.{ltb}
-use Rattle.lists.specs.Reading.{NEVER, nextDate}
+use Rattle.reading.specs.Reading.{NEVER, nextDate}
 use Rattle.timing.specs.declared.Timer.{Timer}
 
 -- the next date to look at: that of the next word or of the pending change, NEVER when there is neither

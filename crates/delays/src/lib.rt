@@ -23,7 +23,7 @@ use timing::Timer;
 fn upcoming(words: &[u32], passed: usize, timer: Timer) -> Date
     ensures { λ r. ⌜ r .0 ≡ upcomingDate (now (words .entry)) passed timer ⌝ }
 {
-    let next = lists::next_date(words, passed);
+    let next = reading::next_date(words, passed);
     if timer.waiting {
         let due = timer.due;
         if due.0 < next.0 {
@@ -43,12 +43,12 @@ fn run(level: bool, waits: bool, d: Length, words: &[u32], slot: &mut [u32]) -> 
     let mut timer = timing::first(
         d,
         waits,
-        timing::on_level(level, lists::held_value(words, 1)),
+        timing::on_level(level, reading::held_value(words, 1)),
     );
     let mut made = building::begin(slot, timing::on_level(level, timer.level));
     let mut date = upcoming(words, passed, timer);
-    while date.0 < lists::NEVER {
-        let step = lists::past(words, passed, date);
+    while date.0 < reading::NEVER {
+        let step = reading::past(words, passed, date);
         let now_at = timing::follow(timer, d, date, true, timing::on_level(level, step.at));
         let now_after = timing::follow(now_at, d, date, false, timing::on_level(level, step.after));
         made = building::emit(

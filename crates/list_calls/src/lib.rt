@@ -24,7 +24,7 @@ fn answer(call: usize, a: &[u32], b: &[u32], d: u32, k: u32) -> Answer {
     match call {
         0 => answers::number(lists::list_fault(a)),
         4 => answers::verdict(comparing::implies(a, b)),
-        5 => answers::sum(signals::date_plus_length(Date(d), Length(k))),
+        5 => answers::sum(words::date_plus_length(Date(d), Length(k))),
         _ => told(question(call, a, b, k)),
     }
 }

@@ -9,7 +9,7 @@ use lib.Dec.{ltb}
 use lib.ListN.{length, getD, drop, drop-of-length-le}
 use lib.Seq.{drop-cons}
 use borrow.Author.Tests.{le-leb, lt-leb, lt-ltb, le-ltb}
-use Rattle.lists.specs.Reading.{headFault}
+use Rattle.lists.specs.Head.{headFault}
 use Rattle.signals.specs.Words.{dateOf, valueAfter, headValue, changesNothing, wordsFault, listFault, mostWords}
 
 module _ (l : List ℕ) (passed last : ℕ) (before : Bool) (h : passed < length l) where

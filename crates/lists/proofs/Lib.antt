@@ -1,7 +1,2 @@
--- Proofs of the statements of specs/, and the lemmas that they and the proofs of functions share.
+-- The lemmas that the proofs of the list check and of tidying share.
 pub mod Judging
-pub mod ReadingFacts
-pub mod Counting
-pub mod ReaderSays
-pub mod Apart
-pub mod Above

@@ -1,3 +1,2 @@
--- How words are read.
-pub mod Reading
-pub mod ReaderSays
+-- The list check's own words.
+pub mod Head

@@ -18,8 +18,8 @@ use Rattle.signals.proofs.Operand.{At, Passed, at-pass, at-end, next-later, val
 use Rattle.signals.proofs.Normal.{accepted-start, accepted-normal, last-le, lastDate-bound}
 use Rattle.signals.proofs.WordFacts.{date-bounds, date-le}
 use Rattle.signals.proofs.Operand.{words-rise}
-use Rattle.lists.specs.Reading.{nextDate, NEVER, stepPast}
-use Rattle.lists.specs.declared.Step.{Step}
+use Rattle.reading.specs.Reading.{nextDate, NEVER, stepPast}
+use Rattle.reading.specs.declared.Step.{Step}
 use Rattle.operations.specs.Calls.{exactOfTwo}
 use Rattle.building.specs.Building.{emitted, emittedIn, begun, Built}
 use Rattle.showing.specs.Showing.{merged, bitOf, firstShown, dateShown}

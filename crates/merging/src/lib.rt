@@ -27,17 +27,17 @@ fn merge(
     let first = showing::first_shown(
         operation,
         table,
-        lists::held_value(a, 1),
-        lists::held_value(b, 1),
+        reading::held_value(a, 1),
+        reading::held_value(b, 1),
     );
     let mut made = building::begin(slot, first.after);
     let mut carried = first.carried;
     let mut i: usize = 1;
     let mut j: usize = 1;
     while i + j < a.len() + b.len() {
-        let date = signals::earlier(lists::next_date(a, i), lists::next_date(b, j));
-        let p = lists::past(a, i, date);
-        let q = lists::past(b, j, date);
+        let date = words::earlier(reading::next_date(a, i), reading::next_date(b, j));
+        let p = reading::past(a, i, date);
+        let q = reading::past(b, j, date);
         let shown = showing::date_shown(operation, table, carried, p, q);
         made = building::emit(slot, made, date, shown.at, shown.after);
         carried = shown.carried;

@@ -50,7 +50,7 @@ fn words_fault(s: &[u8], from: usize, n: usize) -> u32
         if word / 4 <= last {
             return 17;
         }
-        if signals::changes_nothing(before, word) {
+        if words::changes_nothing(before, word) {
             return 17;
         }
         last = word / 4;

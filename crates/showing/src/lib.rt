@@ -4,7 +4,7 @@ ghost use mathlib.Core.Bool.{not, _&&_, _||_};
 ghost use Rattle.signals.specs.Signal.{cell};
 ghost use Rattle.signals.specs.LatchSteps.{atStep, gapStep, shown};
 ghost use Rattle.showing.specs.Showing.{latchFirst, latchShown, firstShown, dateShown};
-use lists::Step;
+use reading::Step;
 
 // What the merge of two lists builds: a connective by its table, an edge of the first, or a latch.
 pub enum Operation {
@@ -26,8 +26,8 @@ pub struct Shown {
 fn cell_of(table: [[bool; 2]; 2], p: bool, q: bool) -> bool
     ensures { λ r. ⌜ r ≡ cell table p q ⌝ }
 {
-    let row = signals::index(p);
-    let column = signals::index(q);
+    let row = words::index(p);
+    let column = words::index(q);
     table[row][column]
 }
 

@@ -1,4 +1,4 @@
--- Proofs of the statements of specs/, and the lemmas that they and the proofs of functions share.
+-- Proofs of the statements of specs/, and the lemmas that they and the crates above share.
 pub mod Truth
 pub mod Agreement
 pub mod Wording
@@ -21,5 +21,4 @@ pub mod HeadFaults
 pub mod ListFaults
 pub mod TidyFaults
 pub mod Tidying
-pub mod Unchanged
 pub mod Giving

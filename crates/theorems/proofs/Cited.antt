@@ -147,9 +147,6 @@ laws-Substitutions-SubstitutionsExact = Rattle.laws.proofs.Substitutions.substi
 pub laws-WrongTurns-WrongTurns : Rattle.laws.specs.WrongTurns.WrongTurns
 laws-WrongTurns-WrongTurns = Rattle.laws.proofs.WrongTurns.wrong-turns
 
-pub lists-ReaderSays-ReaderSays : Rattle.lists.specs.ReaderSays.ReaderSays
-lists-ReaderSays-ReaderSays = Rattle.lists.proofs.ReaderSays.reader-says
-
 pub names-Sentence-NamesExact : Rattle.names.specs.Sentence.NamesExact
 names-Sentence-NamesExact = Rattle.names.proofs.NamesExact.names-exact
 
@@ -170,6 +167,9 @@ questions-Equality-Equality = Rattle.questions.proofs.Equality.equality
 
 pub questions-Implication-Implication : Rattle.questions.specs.Implication.Implication
 questions-Implication-Implication = Rattle.questions.proofs.Implication.implication
+
+pub reading-ReaderSays-ReaderSays : Rattle.reading.specs.ReaderSays.ReaderSays
+reading-ReaderSays-ReaderSays = Rattle.reading.proofs.ReaderSays.reader-says
 
 pub signals-AnswersSay-AnswersSay : Rattle.signals.specs.AnswersSay.AnswersSay
 signals-AnswersSay-AnswersSay = Rattle.signals.proofs.AnswersSay.answers-say

@@ -9,7 +9,7 @@ use lib.ListN.{length, getD, drop, drop-of-length-le}
 use lib.Seq.{drop-cons}
 use borrow.Author.Tests.{le-leb, lt-leb}
 use Rattle.signals.specs.Words.{dateOf, datesFault, tidyFault, mostWords}
-use Rattle.lists.specs.Reading.{headFault}
+use Rattle.lists.specs.Head.{headFault}
 use Rattle.lists.proofs.Judging.{head-first, head-past}
 
 module _ (l : List ℕ) (passed last : ℕ) (h : passed < length l) where

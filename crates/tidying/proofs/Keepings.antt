@@ -17,11 +17,11 @@ use Rattle.signals.proofs.Scan.{scan-to, scan-settled, listOf-scan}
 use Rattle.signals.proofs.Operand.{At, Passed, at-pass, at-end, next-later, words-left, value-held}
 use Rattle.signals.proofs.Normal.{last-le, changes-word, accepted-normal}
 use Rattle.signals.proofs.Tidying.{tidy-start, tidying}
-use Rattle.lists.specs.Reading.{nextDate, stepPast}
+use Rattle.reading.specs.Reading.{nextDate, stepPast}
 use Rattle.tidying.specs.Calls.{tidyingFault, CallOfTidying}
 use Rattle.tidying.specs.Keeping.{entryOf, putIn, overlay, KeptWord}
-use Rattle.lists.specs.declared.Step.{Step}
-use Rattle.lists.proofs.Counting.{next-in, passed-next}
+use Rattle.reading.specs.declared.Step.{Step}
+use Rattle.reading.proofs.Counting.{next-in, passed-next}
 use Rattle.signals.specs.Answers.{firstOf}
 
 -- words laid over an output

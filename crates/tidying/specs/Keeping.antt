@@ -5,7 +5,7 @@ use mathlib.Core.List.{List, [], _∷_}
 use lib.ListN.{length, set}
 use Rattle.signals.specs.Settled.{entry}
 use Rattle.signals.specs.Words.{tidied}
-use Rattle.lists.specs.declared.Step.{Step}
+use Rattle.reading.specs.declared.Step.{Step}
 
 -- the words that a date passed gives
 abbrev pub entryOf : ℕ → Step → List ℕ

@@ -6,15 +6,15 @@ ghost use Rattle.signals.specs.Moment.{M};
 ghost use Rattle.signals.specs.Words.{datesFault, tidyFault};
 ghost use Rattle.tidying.specs.Calls.{CallOfTidying};
 ghost use Rattle.tidying.specs.Keeping.{KeptWord, KeptWords};
-use lists::Step;
 use lists::head_fault;
-use lists::held_value;
-use lists::next_date;
-use lists::past;
+use reading::Step;
+use reading::held_value;
+use reading::next_date;
+use reading::past;
 use signals::Date;
 use signals::Written;
-use signals::changes_nothing;
-use signals::index;
+use words::changes_nothing;
+use words::index;
 
 // The fault of the dates of the words after the first.
 fn dates_fault(list: &[u32]) -> u32
@@ -59,7 +59,7 @@ fn keep_word(out: &mut [u32], count: usize, date: Date, step: Step) -> usize
     requires { ⌜ (date .0 ≤ M) × (count < 4294967296) ⌝ }
     ensures { λ r. ⌜ KeptWord (now (out .entry)) count (date .0) step r (now (out .exit)) ⌝ }
 {
-    let w = signals::word_of(date, step.at, step.after) as u32;
+    let w = words::word_of(date, step.at, step.after) as u32;
     if changes_nothing(step.before, w) {
         return count;
     }

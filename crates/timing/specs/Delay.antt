@@ -9,7 +9,7 @@ use Rattle.signals.specs.Answers.{sumOf}
 use Rattle.signals.specs.declared.Date.{Date}
 use Rattle.signals.specs.declared.Sum.{Sum}
 use Rattle.signals.specs.declared.Sum.the-variants as sum
-use Rattle.lists.specs.Reading.{NEVER, nextDate}
+use Rattle.reading.specs.Reading.{NEVER, nextDate}
 use Rattle.timing.specs.declared.Timer.{Timer}
 
 -- the date of a sum, past M too

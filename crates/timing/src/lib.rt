@@ -21,7 +21,7 @@ fn date_in(sum: Sum) -> Date
     match sum {
         Sum::On(date) => date,
         Sum::PastM(date) => Date(date),
-        Sum::Refused(_) => Date(lists::NEVER),
+        Sum::Refused(_) => Date(reading::NEVER),
     }
 }
 
@@ -29,7 +29,7 @@ fn date_in(sum: Sum) -> Date
 fn pending_from(date: Date, at: bool, d: Length) -> Timer
     ensures { λ r. ⌜ r ≡ pending (date .0) at (d .0) ⌝ }
 {
-    let sum = signals::date_plus_length(date, d);
+    let sum = words::date_plus_length(date, d);
     Timer {
         level: false,
         waiting: true,

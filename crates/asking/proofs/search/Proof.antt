@@ -4,7 +4,7 @@ use Prim.Native.Nat.{_-_}
 use native.Mathlib.Omega.{arith}
 use mathlib.Core.Path.{_≡_}
 use lib.ListN.{length}
-use Rattle.lists.specs.Reading.{nextDate}
+use Rattle.reading.specs.Reading.{nextDate}
 use Rattle.asking.proofs.Searching.{Seeking, Turned, seek-start, turn, found}
 use Rattle.asking.proofs.search.Statement.{statement}
 use Rattle.asking.proofs.search.Tie as tie

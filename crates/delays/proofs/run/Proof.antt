@@ -4,7 +4,7 @@ use Prim.Native.Nat.{_≤_, _-_}
 use native.Mathlib.Omega.{arith}
 use mathlib.Core.Path.{_≡_, refl, sym, _∙_, ap}
 use lib.ListN.{length}
-use Rattle.lists.specs.Reading.{NEVER}
+use Rattle.reading.specs.Reading.{NEVER}
 use Rattle.timing.specs.Delay.{onLevel}
 use Rattle.operations.proofs.NeverMet.{last-32}
 use Rattle.delays.proofs.DelayLoop.{Delaying, delaying-begin, delaying-turn, delaying-end, first-word, next}

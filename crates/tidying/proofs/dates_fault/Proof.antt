@@ -6,7 +6,7 @@ use mathlib.Core.Path.{_≡_, refl, sym, _∙_}
 use lib.ListN.{length, drop}
 use Rattle.signals.specs.Words.{datesFault}
 use Rattle.tidying.proofs.Dates.{dates-3, dates-on, dates-done}
-use Rattle.lists.proofs.Counting.{next-in}
+use Rattle.reading.proofs.Counting.{next-in}
 use Rattle.tidying.proofs.dates_fault.Statement.{statement}
 use Rattle.tidying.proofs.dates_fault.Tie as tie
 

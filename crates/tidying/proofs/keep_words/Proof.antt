@@ -6,7 +6,7 @@ use mathlib.Core.Path.{_∙_}
 use lib.ListN.{length}
 use Rattle.signals.proofs.WordFacts.{num-le, date-le}
 use Rattle.tidying.proofs.Keepings.{Keeping, keep-start, keep-turn, keep-few, keep-count, keep-over, keep-length, moved}
-use Rattle.lists.proofs.Counting.{next-in}
+use Rattle.reading.proofs.Counting.{next-in}
 use Rattle.tidying.proofs.keep_words.Statement.{statement}
 use Rattle.tidying.proofs.keep_words.Tie as tie
 

@@ -1,0 +1,3 @@
+-- How words are read.
+pub mod Reading
+pub mod ReaderSays

@@ -1,0 +1,37 @@
+-- Mirrored: Reading along a list's words: the next word's date, what passing a date gives, and how many words are dated up to one. Tied to
+-- what is believed by `ReaderSays`.
+use Prim.Native.Nat.{ℕ, suc}
+use mathlib.Core.Bool.{cond}
+use mathlib.Core.List.{List, [], _∷_}
+use lib.Dec.{leb, ltb}
+use lib.ListN.{length, getD}
+use Rattle.signals.specs.Words.{dateOf}
+use Rattle.signals.specs.Passing.{heldValue, atDate, afterDate, passedDate}
+use Rattle.reading.specs.declared.Step.{Step}
+
+-- The date where no word is left: above every sum of a date and a length.
+abbrev pub NEVER : ℕ
+NEVER = 4294967295
+
+-- the date of the next word
+unfoldable pub nextDate : List ℕ → ℕ → ℕ
+nextDate l passed = cond (ltb passed (length l)) (dateOf (getD l passed 0)) NEVER
+
+-- past a date that is not after the next word's: the values before, at and after it, and the new number passed
+abbrev pub stepPast : List ℕ → ℕ → ℕ → Step
+stepPast l passed date =
+    record {
+      before = heldValue l passed;
+      at = atDate l passed date;
+      after = afterDate l passed date;
+      passed = passedDate l passed date;
+    }
+
+-- how many of these words are dated at or before k, and how many of a list's, the first word counted as date 0
+unfoldable pub countBy : ℕ → List ℕ → ℕ
+countBy k [] = 0
+countBy k (w ∷ ws) = cond (leb (dateOf w) k) (suc (countBy k ws)) (countBy k ws)
+
+unfoldable pub datedBy : ℕ → List ℕ → ℕ
+datedBy k [] = 0
+datedBy k (h ∷ ws) = suc (countBy k ws)

@@ -1,0 +1,2 @@
+-- What `changes_nothing` needs of words.
+pub mod Unchanged
