@@ -1,72 +1,180 @@
--- Which operator a code word of a kind stands for; a call in a slot under another name of its operator, or as a code word's.
-use Prim.Native.Nat.{ℕ, _%_, _≤_, _<_}
-use mathlib.Core.Path.{_≡_, _∙_, ap}
-use mathlib.Core.List.{List}
-use borrow.Author.Tests.{ne-eqb, lt-ltb, le-ltb}
-use Rattle.signals.specs.Words.{pairFault}
+-- Which merge or delay a code word of a kind asks for, and its answer as that of the operator which the code word stands for.
+use Prim.Native.Nat.{ℕ, _/_, _%_, _≤_, _<_}
+use native.Mathlib.Omega.{arith}
+use mathlib.Core.Path.{_≡_, refl, sym, _∙_, ap}
+use mathlib.Core.Bool.{Bool, true, false, cond, _||_}
+use mathlib.Core.List.{List, [], _∷_}
+use lib.Dec.{eqb, ltb}
+use borrow.Author.Tests.{eq-eqb, ne-eqb, lt-ltb, le-ltb, eqb-true, eqb-false}
+use Rattle.signals.specs.Answers.{firstOf}
+use Rattle.signals.specs.Signal.{Table, NOT, rising, falling}
+use Rattle.signals.specs.Words.{listFault, pairFault}
 use Rattle.signals.specs.declared.Written.{Written}
-use Rattle.building.specs.Slots.{CallInSlot}
+use Rattle.signals.proofs.Truth.{not-both}
+use Rattle.operations.specs.Calls.{lengthFault, exactOfTwo, exactOfDelay}
+use Rattle.building.specs.Slots.{SlotOfTwo, SlotOfDelay}
 use Rattle.building.specs.declared.SlotAnswer.{SlotAnswer}
+use Rattle.showing.specs.declared.Operation.{Operation}
+use Rattle.showing.specs.declared.Operation.the-variants.{Connective, Rising, Falling, SetWins, ResetWins}
+use Rattle.showing.specs.Showing.{merged}
+use Rattle.timing.specs.Delay.{delayOf}
+use Rattle.timing.proofs.DelaySignals.{ton-delay, tof-delay}
+use Rattle.merging.proofs.OneOperand.{none, pair-of-one, exact-of-one, inverted}
 use Rattle.grammar.specs.Kinds as kinds
-use Rattle.grammar.specs.Tree.{Unary, Binary, invert, rise, fall, ton, tof, and, or, sr, rs}
+use Rattle.grammar.specs.Tree.{Unary, invert, rise, fall, ton, tof}
 use Rattle.applying.specs.PartCalls.{unaryOf, binaryOf, unaryIn, binaryIn, unaryFault, unaryExact, binaryExact, partAnswer}
-use Rattle.applying.specs.PartCalls.{judgedFor, exactFor, PartInSlot}
-
-module _ (k n : ℕ) where
-  pub unary-not : k ≡ kinds.NOT → unaryOf k n ≡ invert
-  unfolding unaryOf
-  unary-not e = rw e
-
-  pub unary-rising : k ≡ kinds.RISING → unaryOf k n ≡ rise
-  unfolding unaryOf
-  unary-rising e = rw e
-
-  pub unary-falling : k ≡ kinds.FALLING → unaryOf k n ≡ fall
-  unfolding unaryOf
-  unary-falling e = rw e
-
-  pub unary-ton : k ≡ kinds.TON → unaryOf k n ≡ ton n
-  unfolding unaryOf
-  unary-ton e = rw e
-
-  pub unary-tof : (k ≡ kinds.NOT → ⊥) → (k ≡ kinds.RISING → ⊥) → (k ≡ kinds.FALLING → ⊥) → (k ≡ kinds.TON → ⊥) → unaryOf k n ≡ tof n
-  unfolding unaryOf
-  unary-tof a b c d = rw (ne-eqb k kinds.NOT a, ne-eqb k kinds.RISING b, ne-eqb k kinds.FALLING c, ne-eqb k kinds.TON d)
+use Rattle.applying.specs.PartCalls.{judgedFor, exactFor, AND-table, OR-table, PartInSlot}
+use Rattle.applying.specs.Merges.{operationOf, tableFor, NumberedInSlot, MergedInSlot}
 
 module _ (k : ℕ) where
-  pub binary-and : k ≡ kinds.AND → binaryOf k ≡ and
-  unfolding binaryOf
-  binary-and e = rw e
+  pub is-rising : k ≡ kinds.RISING → Rising ≡ operationOf k
+  unfolding operationOf
+  is-rising e = rw (eq-eqb k kinds.RISING e)
 
-  pub binary-or : k ≡ kinds.OR → binaryOf k ≡ or
-  unfolding binaryOf
-  binary-or e = rw e
+  pub is-falling : (k ≡ kinds.RISING → ⊥) → k ≡ kinds.FALLING → Falling ≡ operationOf k
+  unfolding operationOf
+  is-falling a e = rw (ne-eqb k kinds.RISING a, eq-eqb k kinds.FALLING e)
 
-  pub binary-sr : k ≡ kinds.SR → binaryOf k ≡ sr
-  unfolding binaryOf
-  binary-sr e = rw e
+  pub is-connective : (k ≡ kinds.RISING → ⊥) → (k ≡ kinds.FALLING → ⊥) → k < kinds.SR → Connective ≡ operationOf k
+  unfolding operationOf
+  is-connective a b l = rw (ne-eqb k kinds.RISING a, ne-eqb k kinds.FALLING b, lt-ltb k kinds.SR l)
 
-  pub binary-rs : (k ≡ kinds.AND → ⊥) → (k ≡ kinds.OR → ⊥) → (k ≡ kinds.SR → ⊥) → binaryOf k ≡ rs
-  unfolding binaryOf
-  binary-rs a b c = rw (ne-eqb k kinds.AND a, ne-eqb k kinds.OR b, ne-eqb k kinds.SR c)
+  pub is-set-wins : (k ≡ kinds.RISING → ⊥) → (k ≡ kinds.FALLING → ⊥) → kinds.SR ≤ k → k ≡ kinds.SR → SetWins ≡ operationOf k
+  unfolding operationOf
+  is-set-wins a b l e = rw (ne-eqb k kinds.RISING a, ne-eqb k kinds.FALLING b, le-ltb k kinds.SR l, eq-eqb k kinds.SR e)
 
--- the call of an operator, under another name of it
-pub as-unary : (o p : Unary) (a slot : List ℕ) (answer : SlotAnswer) (after : List ℕ) → o ≡ p
-    → CallInSlot (unaryFault p a) (unaryExact p a) slot answer after → CallInSlot (unaryFault o a) (unaryExact o a) slot answer after
-as-unary o p a slot answer after e h = rw e h
+  pub is-reset-wins : (k ≡ kinds.RISING → ⊥) → (k ≡ kinds.FALLING → ⊥) → kinds.SR ≤ k → (k ≡ kinds.SR → ⊥) → ResetWins ≡ operationOf k
+  unfolding operationOf
+  is-reset-wins a b l e = rw (ne-eqb k kinds.RISING a, ne-eqb k kinds.FALLING b, le-ltb k kinds.SR l, ne-eqb k kinds.SR e)
 
-pub as-binary : (o p : Binary) (a b slot : List ℕ) (answer : SlotAnswer) (after : List ℕ) → o ≡ p
-    → CallInSlot (pairFault a b) (binaryExact p a b) slot answer after → CallInSlot (pairFault a b) (binaryExact o a b) slot answer after
-as-binary o p a b slot answer after e h = rw e h
+  pub inverts : k ≡ kinds.NOT → (true ∷ true ∷ []) ∷ (false ∷ false ∷ []) ∷ [] ≡ tableFor k
+  unfolding tableFor
+  inverts e = rw (eq-eqb k kinds.NOT e)
+
+  pub is-and : (k ≡ kinds.NOT → ⊥) → k ≡ kinds.AND → AND-table ≡ tableFor k
+  unfolding tableFor
+  is-and a e = rw (ne-eqb k kinds.NOT a, eq-eqb k kinds.AND e)
+
+  pub is-or : (k ≡ kinds.NOT → ⊥) → (k ≡ kinds.AND → ⊥) → OR-table ≡ tableFor k
+  unfolding tableFor
+  is-or a b = rw (ne-eqb k kinds.NOT a, ne-eqb k kinds.AND b)
+
+-- a merge of one operand is one with the list that is always down
+abbrev OfOne : ℕ → Type 0
+OfOne k =
+    (n : ℕ) (a : List ℕ)
+    → (pairFault a none ≡ unaryFault (unaryOf k n) a)
+    × (exactOfTwo (merged (operationOf k) (tableFor k)) a none ≡ unaryExact (unaryOf k n) a)
+
+of-not : OfOne kinds.NOT
+unfolding unaryOf operationOf tableFor
+of-not n a = (pair-of-one a, exact-of-one NOT (merged Connective (tableFor kinds.NOT)) inverted a)
+
+of-rising : OfOne kinds.RISING
+unfolding unaryOf operationOf
+of-rising n a = (pair-of-one a, exact-of-one rising (merged Rising (tableFor kinds.RISING)) (λ f g t. refl) a)
+
+of-falling : OfOne kinds.FALLING
+unfolding unaryOf operationOf
+of-falling n a = (pair-of-one a, exact-of-one falling (merged Falling (tableFor kinds.FALLING)) (λ f g t. refl) a)
+
+-- NOT or an edge
+abbrev edged : ℕ → Bool
+edged k = (eqb k kinds.NOT || eqb k kinds.RISING) || eqb k kinds.FALLING
+
+of-one : (k : ℕ) → edged k ≡ true → OfOne k
+of-one k t = go (eqb k kinds.NOT) (eqb k kinds.RISING) (eqb k kinds.FALLING) refl refl refl t
+  where
+    go : (x y z : Bool) → eqb k kinds.NOT ≡ x → eqb k kinds.RISING ≡ y → eqb k kinds.FALLING ≡ z → ((x || y) || z) ≡ true → OfOne k
+    go true y z e f g h = rw (eqb-true k kinds.NOT e) of-not
+    go false true z e f g h = rw (eqb-true k kinds.RISING f) of-rising
+    go false false z e f g h = rw (eqb-true k kinds.FALLING (g ∙ h)) of-falling
+
+of-two : (k : ℕ) → kinds.AND ≤ k → (a b : List ℕ) → exactOfTwo (merged (operationOf k) (tableFor k)) a b ≡ binaryExact (binaryOf k) a b
+unfolding binaryOf operationOf tableFor
+of-two k l a b = go (eqb k kinds.AND) (eqb k kinds.OR) (eqb k kinds.SR) refl refl refl
+  where
+    go : (x y z : Bool) → eqb k kinds.AND ≡ x → eqb k kinds.OR ≡ y → eqb k kinds.SR ≡ z
+        → exactOfTwo (merged (operationOf k) (tableFor k)) a b ≡ binaryExact (binaryOf k) a b
+    go true y z e f g = rw (eqb-true k kinds.AND e)
+    go false true z e f g = rw (eqb-true k kinds.OR f)
+    go false false true e f g = rw (eqb-true k kinds.SR g)
+    go false false false e f g =
+        let d : k ≡ kinds.AND → ⊥ = eqb-false k kinds.AND e in
+        let o : k ≡ kinds.OR → ⊥ = eqb-false k kinds.OR f in
+        let w = is-reset-wins k (λ i. omega (arith, i, l)) (λ i. omega (arith, i, l)) (omega (arith, l, d, o)) (eqb-false k kinds.SR g) in
+        rw (sym w, e, f, g)
+
+-- the delays are the other operations of one operand
+of-delay : (k n : ℕ) → edged k ≡ false → unaryOf k n ≡ cond (eqb k kinds.TON) (ton n) (tof n)
+unfolding unaryOf
+of-delay k n t = go (eqb k kinds.NOT) (eqb k kinds.RISING) (eqb k kinds.FALLING) t
+  where
+    go : (x y z : Bool) → ((x || y) || z) ≡ false
+        → cond x invert (cond y rise (cond z fall (cond (eqb k kinds.TON) (ton n) (tof n)))) ≡ cond (eqb k kinds.TON) (ton n) (tof n)
+    go true y z h = not-both {b = true} refl h
+    go false true z h = not-both {b = true} refl h
+    go false false true h = not-both {b = true} refl h
+    go false false false h = refl
+
+delay-judged : (r : Bool) (n : ℕ) (a : List ℕ) → firstOf (listFault a) (lengthFault n) ≡ unaryFault (cond r (ton n) (tof n)) a
+delay-judged true n a = refl
+delay-judged false n a = refl
+
+delay-exact : (r : Bool) (n : ℕ) (a : List ℕ) → exactOfDelay (delayOf r r n) n a ≡ unaryExact (cond r (ton n) (tof n)) a
+delay-exact true n a = rw (ton-delay n)
+delay-exact false n a = rw (tof-delay n)
+
+-- the answer of a call, its fault and its exact answer under other names
+renamed : (f g : ℕ) (l m : List ℕ) (slot : List ℕ) (answer : Written) (after : List ℕ) → f ≡ g → l ≡ m
+    → NumberedInSlot f l slot answer after → NumberedInSlot g m slot answer after
+renamed f g l m slot answer after e i h = rw (e, i) at h
+
+module _ (w : ℕ) (a b : List ℕ) where
+  judged-one : ltb (w % 16) kinds.AND ≡ true → unaryFault (unaryIn w) a ≡ judgedFor w a b
+  unfolding judgedFor
+  judged-one e = rw e
+
+  exact-one : ltb (w % 16) kinds.AND ≡ true → unaryExact (unaryIn w) a ≡ exactFor w a b
+  unfolding exactFor
+  exact-one e = rw e
+
+  judged-two : ltb (w % 16) kinds.AND ≡ false → pairFault a b ≡ judgedFor w a b
+  unfolding judgedFor
+  judged-two e = rw e
+
+  exact-two : ltb (w % 16) kinds.AND ≡ false → binaryExact (binaryIn w) a b ≡ exactFor w a b
+  unfolding exactFor
+  exact-two e = rw e
+
+-- what the merge gives, numbered
+pub merge-numbered : (k : ℕ) (o : Operation) (table : Table) (a b slot : List ℕ) (given : SlotAnswer) (answer : Written) (after : List ℕ)
+    → o ≡ operationOf k → table ≡ tableFor k → SlotOfTwo (merged o table) a b slot given after → answer ≡ partAnswer given
+    → MergedInSlot k a b slot answer after
+merge-numbered k o table a b slot given answer after i j h e = rw (sym i, sym j) (e ∙ ap partAnswer (h .0), h .1)
 
 -- the call that the code word asks for
-module _ (w : ℕ) (a b slot : List ℕ) (given : SlotAnswer) (answer : Written) (after : List ℕ) (e : answer ≡ partAnswer given) where
-  pub asked-one : w % 16 < kinds.AND → CallInSlot (unaryFault (unaryIn w) a) (unaryExact (unaryIn w) a) slot given after
-      → PartInSlot w a b slot answer after
-  unfolding judgedFor exactFor
-  asked-one l h = rw (lt-ltb (w % 16) kinds.AND l) (e ∙ ap partAnswer (h .0), h .1)
+module _ (w : ℕ) (a b slot : List ℕ) (answer : Written) (after : List ℕ) where
+  pub asked-delay : (r : Bool) (given : SlotAnswer) → w % 16 < kinds.AND → edged (w % 16) ≡ false → r ≡ eqb (w % 16) kinds.TON
+      → SlotOfDelay (delayOf r r (w / 16 % 4294967296)) (w / 16 % 4294967296) a slot given after
+      → answer ≡ partAnswer given → PartInSlot w a b slot answer after
+  asked-delay r given l t q h e =
+      let n = w / 16 % 4294967296 in
+      let i = lt-ltb (w % 16) kinds.AND l in
+      let same : cond r (ton n) (tof n) ≡ unaryIn w = ap (λ s. cond s (ton n) (tof n)) q ∙ sym (of-delay (w % 16) n t) in
+      renamed _ _ _ _ slot answer after
+      (delay-judged r n a ∙ ap (λ o. unaryFault o a) same ∙ judged-one w a b i)
+      (delay-exact r n a ∙ ap (λ o. unaryExact o a) same ∙ exact-one w a b i)
+      (e ∙ ap partAnswer (h .0), h .1)
 
-  pub asked-two : kinds.AND ≤ w % 16 → CallInSlot (pairFault a b) (binaryExact (binaryIn w) a b) slot given after
+  pub asked-one : w % 16 < kinds.AND → edged (w % 16) ≡ true → MergedInSlot (w % 16) a none slot answer after
       → PartInSlot w a b slot answer after
-  unfolding judgedFor exactFor
-  asked-two l h = rw (le-ltb (w % 16) kinds.AND l) (e ∙ ap partAnswer (h .0), h .1)
+  asked-one l t h =
+      let o = of-one (w % 16) t (w / 16 % 4294967296) a in
+      let i = lt-ltb (w % 16) kinds.AND l in
+      renamed _ _ _ _ slot answer after (o .0 ∙ judged-one w a b i) (o .1 ∙ exact-one w a b i) h
+
+  pub asked-two : kinds.AND ≤ w % 16 → MergedInSlot (w % 16) a b slot answer after → PartInSlot w a b slot answer after
+  asked-two l h =
+      let i = le-ltb (w % 16) kinds.AND l in
+      renamed _ _ _ _ slot answer after (judged-two w a b i) (of-two (w % 16) l a b ∙ exact-two w a b i) h

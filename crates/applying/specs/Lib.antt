@@ -1,2 +1,3 @@
 -- A part's operation: definitions that mirror the code.
 pub mod PartCalls
+pub mod Merges

@@ -8,7 +8,7 @@ use lib.Dec.{leb, ltb, eqb}
 use lib.ListN.{length}
 use Rattle.signals.specs.Signal.{Signal}
 use Rattle.signals.specs.Answers.{firstOf}
-use Rattle.operations.specs.Calls.{changesAfterM, lengthFault, exactOfOne, exactOfTwo, exactOfDelay}
+use Rattle.operations.specs.Calls.{changesAfterM, lengthFault, exactOfTwo, exactOfDelay}
 use Rattle.signals.specs.Words.{mostWords, listFault, pairFault}
 use Rattle.building.specs.Building.{slotWith}
 use Rattle.building.specs.declared.Made.{Made}
@@ -40,9 +40,6 @@ CallInSlot judged exact slot answer after =
     (answer ≡ slotAnswer judged exact (length slot)) × (after ≡ slotAfter judged exact slot)
 
 -- by its operands
-abbrev pub SlotOfOne : (Signal → Signal) → List ℕ → List ℕ → SlotAnswer → List ℕ → Type 0
-SlotOfOne operation a slot answer after = CallInSlot (listFault a) (exactOfOne operation a) slot answer after
-
 abbrev pub SlotOfTwo : (Signal → Signal → Signal) → List ℕ → List ℕ → List ℕ → SlotAnswer → List ℕ → Type 0
 SlotOfTwo operation a b slot answer after = CallInSlot (pairFault a b) (exactOfTwo operation a b) slot answer after
 

@@ -93,8 +93,8 @@ fn delay(level: bool, waits: bool, d: Length, f: &[u32], out: &mut [u32]) -> Wri
     building::deliver(&slot, made, out)
 }
 
-// The same in a slot that is lent.
-fn delay_in(level: bool, waits: bool, d: Length, f: &[u32], slot: &mut [u32]) -> SlotAnswer
+// The same in a slot of 256 words or more that the evaluator lends: no entry point, since the slot is scratch.
+pub fn delay_in(level: bool, waits: bool, d: Length, f: &[u32], slot: &mut [u32]) -> SlotAnswer
     ensures { λ r. ⌜ SlotOfDelay (delayOf level waits (d .0)) (d .0) (now (f .entry)) (now (slot .entry)) r (now (slot .exit)) ⌝ }
 {
     let fault = delay_fault(d, f);
@@ -120,18 +120,4 @@ pub fn tof(d: Length, f: &[u32], out: &mut [u32]) -> Written
     ensures { λ r. ⌜ CallOfDelay (TOF (d .0)) (d .0) (now (f .entry)) (now (out .entry)) r (now (out .exit)) ⌝ }
 {
     delay(false, false, d, f, out)
-}
-
-// TON(d,f) in a slot that is lent.
-pub fn ton_in(d: Length, f: &[u32], slot: &mut [u32]) -> SlotAnswer
-    ensures { λ r. ⌜ SlotOfDelay (TON (d .0)) (d .0) (now (f .entry)) (now (slot .entry)) r (now (slot .exit)) ⌝ }
-{
-    delay_in(true, true, d, f, slot)
-}
-
-// TOF(d,f) in a slot that is lent.
-pub fn tof_in(d: Length, f: &[u32], slot: &mut [u32]) -> SlotAnswer
-    ensures { λ r. ⌜ SlotOfDelay (TOF (d .0)) (d .0) (now (f .entry)) (now (slot .entry)) r (now (slot .exit)) ⌝ }
-{
-    delay_in(false, false, d, f, slot)
 }

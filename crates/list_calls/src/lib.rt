@@ -7,6 +7,7 @@ use answers::written;
 use building::SlotAnswer;
 use fields::byte_at;
 use notation::head;
+use showing::Operation;
 use signals::Date;
 use signals::Length;
 use signals::Told;
@@ -68,15 +69,17 @@ fn operation_in(
     c: &[u32],
     out: &mut [u32],
 ) -> SlotAnswer {
+    let none = [0u32; 1];
+    let invert = [[true, true], [false, false]];
     match call {
-        15 => merging::not_in(a, out),
-        16 => merging::rising_in(a, out),
-        17 => merging::falling_in(a, out),
-        18 => merging::sr_in(a, b, out),
-        19 => merging::rs_in(a, b, out),
-        20 => delays::ton_in(Length(d), b, out),
-        21 => delays::tof_in(Length(d), b, out),
-        _ => merging::connective_in(t, b, c, out),
+        15 => merging::operate_in(Operation::Connective, invert, a, &none, out),
+        16 => merging::operate_in(Operation::Rising, invert, a, &none, out),
+        17 => merging::operate_in(Operation::Falling, invert, a, &none, out),
+        18 => merging::operate_in(Operation::SetWins, invert, a, b, out),
+        19 => merging::operate_in(Operation::ResetWins, invert, a, b, out),
+        20 => delays::delay_in(true, true, Length(d), b, out),
+        21 => delays::delay_in(false, false, Length(d), b, out),
+        _ => merging::operate_in(Operation::Connective, t, b, c, out),
     }
 }
 

@@ -12,12 +12,10 @@ use Rattle.signals.specs.declared.Written.{Written}
 use Rattle.signals.proofs.Scan.{listOf-ext}
 use Rattle.operations.specs.Calls.{exactOfOne, exactOfTwo, faultOfOne, faultOfTwo, CallOfOne, CallOfTwo}
 use Rattle.signals.specs.Words.{pairFault}
-use Rattle.building.specs.Slots.{CallInSlot}
-use Rattle.building.specs.declared.SlotAnswer.{SlotAnswer}
 use Rattle.signals.specs.Answers.{firstOf}
 use Rattle.signals.proofs.FirstFault.{first-with-none}
 
-abbrev none : List ℕ
+abbrev pub none : List ℕ
 none = 0 ∷ []
 
 none-accepted : listFault none ≡ 0
@@ -28,7 +26,7 @@ none-last : lastDate none ≡ 0
 unfolding lastDate lastFrom
 none-last = refl
 
-pair-of-one : (a : List ℕ) → pairFault a none ≡ listFault a
+pub pair-of-one : (a : List ℕ) → pairFault a none ≡ listFault a
 unfolding pairFault
 pair-of-one a = rw none-accepted (first-with-none (listFault a))
 
@@ -46,11 +44,6 @@ module _ (one : Signal → Signal) (two : Signal → Signal → Signal) (same : 
   pub call-of-one : (out : List ℕ) (answer : Written) (after : List ℕ) → CallOfTwo two a none out answer after
       → CallOfOne one a out answer after
   call-of-one out answer after h = rw (exact-of-one, fault-of-one (length out)) at h
-
-  pub slot-of-one : (slot : List ℕ) (answer : SlotAnswer) (after : List ℕ)
-      → CallInSlot (pairFault a none) (exactOfTwo two a none) slot answer after
-      → CallInSlot (listFault a) (exactOfOne one a) slot answer after
-  slot-of-one slot answer after h = rw (exact-of-one, pair-of-one a) at h
 
 pub inverted : (f g : Signal) (t : ℕ) → connective ((true ∷ true ∷ []) ∷ (false ∷ false ∷ []) ∷ []) f g t ≡ NOT f t
 unfolding connective NOT cell

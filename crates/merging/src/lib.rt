@@ -4,7 +4,7 @@ ghost use Rattle.signals.specs.Signal.{NOT, connective, rising, falling, SR, RS
 ghost use Rattle.signals.specs.Words.{listFault};
 ghost use Rattle.operations.specs.Calls.{exactOfTwo, CallOfOne, CallOfTwo};
 ghost use Rattle.building.specs.Building.{Built};
-ghost use Rattle.building.specs.Slots.{SlotOfOne, SlotOfTwo};
+ghost use Rattle.building.specs.Slots.{SlotOfTwo};
 ghost use Rattle.showing.specs.Showing.{merged};
 use building::Made;
 use building::SlotAnswer;
@@ -66,8 +66,8 @@ fn operate(
     building::deliver(&slot, made, out)
 }
 
-// The same in a slot that is lent.
-fn operate_in(
+// The same in a slot of 256 words or more that the evaluator lends: no entry point, since the slot is scratch.
+pub fn operate_in(
     operation: Operation,
     table: [[bool; 2]; 2],
     a: &[u32],
@@ -133,45 +133,4 @@ pub fn rs(s: &[u32], r: &[u32], out: &mut [u32]) -> Written
     ensures { λ v. ⌜ CallOfTwo RS (now (s .entry)) (now (r .entry)) (now (out .entry)) v (now (out .exit)) ⌝ }
 {
     operate(Operation::ResetWins, INVERT, s, r, out)
-}
-
-// The calls that the evaluator makes, in a slot of 256 words or more that it lends: no entry points, since the slot is scratch.
-
-pub fn not_in(a: &[u32], slot: &mut [u32]) -> SlotAnswer
-    ensures { λ r. ⌜ SlotOfOne NOT (now (a .entry)) (now (slot .entry)) r (now (slot .exit)) ⌝ }
-{
-    let none = [0u32; 1];
-    operate_in(Operation::Connective, INVERT, a, &none, slot)
-}
-
-pub fn connective_in(table: [[bool; 2]; 2], a: &[u32], b: &[u32], slot: &mut [u32]) -> SlotAnswer
-    ensures { λ r. ⌜ SlotOfTwo (connective table) (now (a .entry)) (now (b .entry)) (now (slot .entry)) r (now (slot .exit)) ⌝ }
-{
-    operate_in(Operation::Connective, table, a, b, slot)
-}
-
-pub fn rising_in(a: &[u32], slot: &mut [u32]) -> SlotAnswer
-    ensures { λ r. ⌜ SlotOfOne rising (now (a .entry)) (now (slot .entry)) r (now (slot .exit)) ⌝ }
-{
-    let none = [0u32; 1];
-    operate_in(Operation::Rising, INVERT, a, &none, slot)
-}
-
-pub fn falling_in(a: &[u32], slot: &mut [u32]) -> SlotAnswer
-    ensures { λ r. ⌜ SlotOfOne falling (now (a .entry)) (now (slot .entry)) r (now (slot .exit)) ⌝ }
-{
-    let none = [0u32; 1];
-    operate_in(Operation::Falling, INVERT, a, &none, slot)
-}
-
-pub fn sr_in(s: &[u32], r: &[u32], slot: &mut [u32]) -> SlotAnswer
-    ensures { λ v. ⌜ SlotOfTwo SR (now (s .entry)) (now (r .entry)) (now (slot .entry)) v (now (slot .exit)) ⌝ }
-{
-    operate_in(Operation::SetWins, INVERT, s, r, slot)
-}
-
-pub fn rs_in(s: &[u32], r: &[u32], slot: &mut [u32]) -> SlotAnswer
-    ensures { λ v. ⌜ SlotOfTwo RS (now (s .entry)) (now (r .entry)) (now (slot .entry)) v (now (slot .exit)) ⌝ }
-{
-    operate_in(Operation::ResetWins, INVERT, s, r, slot)
 }
