@@ -5,10 +5,10 @@ use mathlib.Core.Bool.{true, false, cond}
 use mathlib.Core.List.{List}
 use lib.Dec.{ltb, eqb}
 use lib.ListN.{length, take, set}
-use Rattle.grammar.specs.Kinds as kinds
-use Rattle.grammar.specs.Formula.{coded, nameWord}
+use Rattle.grammar.specs.Formula.{coded}
 use Rattle.grammar.specs.Reader.{State, leafAt, sumAt, sumsAt, productAt, productsAt, factorAt, latchAt, timerAt}
-use Rattle.marks.specs.Marks.{Mark, markOf, lent, nextMark, lengthEnd}
+use Rattle.marks.specs.Marks.{Mark, markOf, lent, nextMark}
+use Rattle.tokens.specs.Tokens.{lengthEnd}
 
 -- the words of a mark
 abbrev pub Marked : List ℕ → Mark → Type 0
@@ -38,10 +38,6 @@ expectMark text b m = cond (eqb (nextMark text m) b) (movedMark m (m .at + 1)) (
 
 unfoldable pub lengthMark : List ℕ → Mark → Mark
 lengthMark text m = cond (ltb 0 (lengthEnd text m)) (movedMark m (lengthEnd text m)) (badMark m)
-
--- the code word of a constant or name that has the first byte and the place and ends there
-unfoldable pub leafWord : ℕ → ℕ → ℕ → ℕ
-leafWord b at end = cond (eqb b 48) kinds.DOWN (cond (eqb b 49) kinds.UP (nameWord at (end - at)))
 
 unfoldable pub putMark : Mark → ℕ → ℕ → Mark
 putMark m deep ticks =

@@ -1,7 +1,7 @@
 // The steps of the reader of a formula that read no sum. Each leaves a bad mark as it is.
 ghost use mathlib.Core.Bool.{true};
 ghost use mathlib.Core.Path.{_≡_};
-ghost use Prim.Native.Nat.{_+_, _≤_, _<_};
+ghost use Prim.Native.Nat.{_+_, _≤_, _<_, max};
 ghost use lib.Dec.{eqb};
 ghost use lib.ListN.{length};
 ghost use Rattle.marks.specs.Marks.{markOf, lent, nextMark};
@@ -12,11 +12,10 @@ use marks::DEEPEST;
 use marks::LONGEST;
 use marks::OK;
 use marks::PARTS;
-use marks::larger;
-use marks::length_end;
 use marks::next;
 use openings::opening;
 use openings::opening_bytes;
+use tokens::length_end;
 
 // Makes a mark bad.
 pub(crate) fn fail(m: &mut [usize; 5])
@@ -81,6 +80,12 @@ pub(crate) fn pass_length(text: &[u8; 1024], bytes: usize, m: &mut [usize; 5])
         return;
     }
     fail(m);
+}
+
+fn larger(a: usize, b: usize) -> usize
+    ensures { λ r. ⌜ r ≡ max a b ⌝ }
+{
+    if a < b { b } else { a }
 }
 
 // Puts a part's code word out.

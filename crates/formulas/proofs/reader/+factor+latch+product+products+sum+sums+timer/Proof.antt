@@ -8,7 +8,7 @@ use lib.ListN.{length}
 use borrow.Author.Needs.{needs}
 use Rattle.texts.specs.Lengths.{capped}
 use Rattle.marks.specs.Marks.{Mark, markOf, lent}
-use Rattle.marks.proofs.Marking.{capped-most}
+use Rattle.tokens.proofs.Runs.{capped-most}
 use Rattle.formulas.proofs.Lending.{lent-on, text-long, number-lent}
 use Rattle.formulas.proofs.Doing.{pass-moves, pass-stays, passed, starting, turned, inner-needs}
 use Rattle.formulas.proofs.ReaderPaths as paths
@@ -42,7 +42,7 @@ use Rattle.formulas.proofs.mark.expect.Reads as expect-reads
 use Rattle.formulas.proofs.mark.pass.Reads as pass-reads
 use Rattle.formulas.proofs.mark.pass_length.Reads as pass-length-reads
 use Rattle.formulas.proofs.mark.put.Reads as put-reads
-use Rattle.marks.proofs.ticks.Reads as ticks-reads
+use Rattle.tokens.proofs.ticks.Reads as ticks-reads
 use Rattle.formulas.proofs.reader.leaf.Reads as leaf-reads
 use Rattle.formulas.proofs.reader.+factor+latch+product+products+sum+sums+timer.{statement}
 use Rattle.formulas.proofs.reader.+factor+latch+product+products+sum+sums+timer.Tie.{close}
