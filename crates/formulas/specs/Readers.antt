@@ -1,5 +1,5 @@
 -- Mirrored: The reader's steps on marks, as its private contracts cite them: they mirror the steps on states.
-use Prim.Native.Nat.{ℕ, _+_, _*_, _-_, _≤_, max}
+use Prim.Native.Nat.{ℕ, _+_, _*_, _-_, _≤_, min, max}
 use mathlib.Core.Path.{_≡_}
 use mathlib.Core.Bool.{true, false, cond}
 use mathlib.Core.List.{List}
@@ -7,8 +7,9 @@ use lib.Dec.{ltb, eqb}
 use lib.ListN.{length, take, set}
 use Rattle.grammar.specs.Formula.{coded}
 use Rattle.grammar.specs.Reader.{State, leafAt, sumAt, sumsAt, productAt, productsAt, factorAt, latchAt, timerAt}
+use Rattle.texts.specs.Lengths.{capped}
 use Rattle.marks.specs.Marks.{Mark, markOf, lent, nextMark}
-use Rattle.tokens.specs.Tokens.{lengthEnd}
+use Rattle.tokens.specs.Tokens.{lengthEnd, numberAt}
 
 -- the words of a mark
 abbrev pub Marked : List ℕ → Mark → Type 0
@@ -38,6 +39,10 @@ expectMark text b m = cond (eqb (nextMark text m) b) (movedMark m (m .at + 1)) (
 
 unfoldable pub lengthMark : List ℕ → Mark → Mark
 lengthMark text m = cond (ltb 0 (lengthEnd text m)) (movedMark m (lengthEnd text m)) (badMark m)
+
+-- the ticks that the bytes of a page from one mark up to another write
+abbrev pub ticksTo : List ℕ → Mark → Mark → ℕ
+ticksTo page m r = capped (numberAt page (m .at) (min (r .at) 1024 - m .at))
 
 unfoldable pub putMark : Mark → ℕ → ℕ → Mark
 putMark m deep ticks =

@@ -11,11 +11,9 @@ use crate::mark::move_to;
 use crate::mark::pass;
 use crate::mark::pass_length;
 use crate::mark::put;
-use marks::AT;
 use marks::kind;
 use tokens::leaf_end;
 use tokens::leaf_word;
-use tokens::ticks;
 
 // 0, 1 or a name.
 fn leaf(text: &[u8; 1024], bytes: usize, code: &mut [u64; 1024], m: &mut [usize; 5], deep: usize)
@@ -152,10 +150,7 @@ fn timer(
     ensures { λ _. ⌜ Left (TimerRead (lent (now (text .entry)) bytes) part deep) (now (m .entry))
         (now (code .entry)) (now (code .exit)) (now (m .exit)) ⌝ }
 {
-    let from = m[AT];
-    pass_length(text, bytes, m);
-    let to = m[AT];
-    let n = ticks(text, from, to);
+    let n = pass_length(text, bytes, m);
     expect(text, bytes, m, b',');
     sum(text, bytes, code, m, deep + 1);
     expect(text, bytes, m, b')');
