@@ -569,5 +569,6 @@ pub +factor+latch+product+products+sum+sums+timer-spec : {M : Type 1} → statem
     (λ t. sum-lts.spec (sum-calls t) (sum-at t) sum.Post (sum-product-requires t) (sum-sums-requires t) (sum-returns t))
     (λ t. sums-lts.spec (sums-calls t) (sums-at t) sums.Post (sums-pass-requires t) (sums-product-requires t) (sums-put-requires t)
     (sums-sums-requires t) (sums-returns t) (sums-returns-2 t))
-    (λ t. timer-lts.spec (timer-calls t) (timer-at t) timer.Post (timer-pass-length-requires t) (timer-expect-requires t) (timer-add-sum t) (timer-sum-requires t) (timer-expect-requires-2 t) (timer-mul-put t)
+    (λ t. timer-lts.spec (timer-calls t) (timer-at t) timer.Post (timer-pass-length-requires t) (timer-expect-requires t) (timer-add-sum t)
+    (timer-sum-requires t) (timer-expect-requires-2 t) (timer-mul-put t)
     (timer-add-put t) (timer-put-requires t) (timer-returns t))
