@@ -11,12 +11,14 @@ use lib.Seq.{take-suc-set}
 use borrow.Author.Tests.{eqb-true, ltb-true, lt-ltb}
 use Rattle.names.specs.Names.{digit}
 use Rattle.grammar.specs.Reader.{State, run, next, bad, stepped, expect, put, passLength}
-use Rattle.marks.specs.Marks.{Mark, nextMark, lengthEnd}
+use Rattle.marks.specs.Marks.{Mark, nextMark}
+use Rattle.tokens.specs.Tokens.{lengthEnd}
 use Rattle.formulas.specs.Readers.{viewOf, badMark, movedMark, passMark, expectMark, lengthMark, putMark, putCode, Ready, Done}
 use Rattle.grammar.proofs.Bytes.{by-cond, never}
 use Rattle.grammar.proofs.Standing.{state-eq}
 use Rattle.grammar.proofs.Carried.{both-ways}
-use Rattle.marks.proofs.Marking.{inside, run-some, run-most, none-at-0}
+use Rattle.marks.proofs.Marking.{inside}
+use Rattle.tokens.proofs.Runs.{run-some, run-most, none-at-0}
 
 pub view-next : (text : List ℕ) (m : Mark) (code : List ℕ) → next text (viewOf m code) ≡ nextMark text m
 unfolding next nextMark

@@ -1,5 +1,5 @@
 -- The paths through `leaf`, over plain values.
-use Prim.Native.Nat.{ℕ, _+_, _-_, _≤_, _<_}
+use Prim.Native.Nat.{ℕ, _+_, _-_, _≤_, _<_, min}
 use native.Mathlib.Omega.{arith}
 use mathlib.Core.Path.{_≡_, refl, sym, ap, _∙_, subst}
 use mathlib.Core.Bool.{Bool, true, false, cond}
@@ -10,9 +10,11 @@ use borrow.Author.Tests.{eqb-true, leb-true}
 use Rattle.names.specs.Names.{letter, nameByte}
 use Rattle.grammar.specs.Reader.{State, run, bad, stepped, put, leafAt}
 use Rattle.grammar.specs.Formula.{coded, nameWord}
-use Rattle.marks.specs.Marks.{Mark, nextMark, leafEnd}
-use Rattle.marks.proofs.Marking.{inside, run-some, run-most, none-at-0}
-use Rattle.formulas.specs.Readers.{viewOf, badMark, movedMark, leafWord, putMark, putCode, Ready, Done, LeafRead}
+use Rattle.marks.specs.Marks.{Mark, nextMark}
+use Rattle.tokens.specs.Tokens.{leafEnd, leafWord}
+use Rattle.marks.proofs.Marking.{inside}
+use Rattle.tokens.proofs.Runs.{run-some, run-most, none-at-0}
+use Rattle.formulas.specs.Readers.{viewOf, badMark, movedMark, putMark, putCode, Ready, Done, LeafRead}
 use Rattle.grammar.proofs.Bytes.{by-cond}
 use Rattle.formulas.proofs.Doing.{view-next, starting, moving-by, putting, becoming, turned, roomy}
 
@@ -26,14 +28,14 @@ unfolding nameByte
 letter-name b e = rw e refl
 
 -- a constant or name has a byte, and ends in the text
-pub record Leaf (text : List ℕ) (m : Mark) (n : ℕ) : Type 0 where
-  pub some : m .at < n
-  pub within : n ≤ length text
+record Leaf (text : List ℕ) (m : Mark) (n : ℕ) : Type 0 where
+  some : m .at < n
+  within : n ≤ length text
 
 abbrev Ends : List ℕ → Mark → ℕ → Type 0
 Ends text m n = 0 < n → Leaf text m n
 
-pub leaf-bounds : (text : List ℕ) (m : Mark) → m .at ≤ length text → 0 < leafEnd text m → Leaf text m (leafEnd text m)
+leaf-bounds : (text : List ℕ) (m : Mark) → m .at ≤ length text → 0 < leafEnd text m → Leaf text m (leafEnd text m)
 unfolding leafEnd
 leaf-bounds text m h =
     by-cond (Ends text m) (eqb (nextMark text m) 48) (λ e pos. one-byte 48 (eqb-true (nextMark text m) 48 e) (omega arith))
@@ -110,9 +112,12 @@ module _ (text old : List ℕ) (m : Mark) (deep : ℕ) (g : Ready text old m dee
     pub leaf-room : (x : Mark) → x ≡ movedMark m (leafEnd text m) → x .ok ≡ true → x .parts < 1024
     leaf-room x q = subst (λ (y : Mark). y .ok ≡ true → y .parts < 1024) (sym q) (roomy g past strict)
 
-    pub leaf-path : (w : ℕ) → w ≡ leafWord (nextMark text m) (m .at) (leafEnd text m) → (x r : Mark) (new : List ℕ) →
+    pub leaf-path : (w : ℕ) → w ≡ leafWord (nextMark text m) (min (m .at) 1024) (min (leafEnd text m) 1024) → (x r : Mark) (new : List ℕ) →
         x ≡ movedMark m (leafEnd text m) → r ≡ putMark x deep 0 → new ≡ putCode x w old → LeafRead text deep m old new r
     leaf-path w e x r new q qr qn =
+        let from : min (m .at) 1024 ≡ m .at = omega (arith, g .within, g .short) in
+        let to : min (leafEnd text m) 1024 ≡ leafEnd text m = omega (arith, ends .within, g .short) in
+        let e : w ≡ leafWord (nextMark text m) (m .at) (leafEnd text m) = rw (from, to) at e in
         let d = putting w deep 0 g past strict in
         turned (qn ∙ ap (λ (y : Mark). putCode y w old) q) (qr ∙ ap (λ (y : Mark). putMark y deep 0) q)
         (becoming d (λ n. leaf-put h ∙ ap (λ (v : ℕ). put v deep 0 (stepped (leafEnd text m - m .at) (viewOf m old))) (sym e)))

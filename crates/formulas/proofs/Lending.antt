@@ -7,8 +7,9 @@ use lib.ListN.{length, getD, set, take, drop}
 use lib.Seq.{take-take, length-take-le}
 use borrow.Author.Tests.{eq-eqb}
 use Rattle.grammar.specs.Reader.{valueBetween}
-use Rattle.marks.specs.Marks.{markOf, lent, numberAt}
-use Rattle.marks.proofs.Marking.{number-between}
+use Rattle.marks.specs.Marks.{markOf, lent}
+use Rattle.tokens.specs.Tokens.{numberAt}
+use Rattle.tokens.proofs.Runs.{number-between}
 use Rattle.formulas.specs.Readers.{Marked, Lent, badMark, movedMark, putMark}
 
 -- a list of five is five elements

@@ -2,13 +2,15 @@
 use Prim.Native.Nat.{ℕ, _+_, _*_, _≤_, _<_, min}
 use native.Mathlib.Omega.{arith}
 use native.Mathlib.Decide.{decLt}
-use mathlib.Core.Path.{_≡_, refl, sym, ap, _∙_, subst}
+use native.Mathlib.Nat.{zero-add}
+use mathlib.Core.Path.{_≡_, refl, sym, ap, _∙_}
 use mathlib.Core.Bool.{Bool, true, false, cond, not, _&&_, _||_}
-use mathlib.Core.List.{List, [], _∷_}
+use mathlib.Core.List.{List, [], _∷_, _++_}
 use lib.Dec.{ltb, eqb}
-use lib.ListN.{length, take, drop, length-map}
-use lib.Seq.{length-take-le, take-append-seam, sets, length-sets}
+use lib.ListN.{length, take, drop, length-map, length-append, length-drop, length-take}
+use lib.Seq.{length-take-le, take-append-seam, sets}
 use borrow.Author.Tests.{eq-eqb, ne-eqb, lt-ltb, le-ltb}
+use Rattle.slices.specs.Slices.{putAt}
 use Rattle.signals.specs.Moment.{M}
 use Rattle.signals.specs.Answers.{writtenOf}
 use Rattle.signals.specs.declared.Written.the-variants as written
@@ -18,40 +20,39 @@ use Rattle.grammar.specs.Formula.{spelled, coded, partOf, accepted, partsOf, de
 use Rattle.marks.specs.Marks.{Mark, markOf, markFault, lent}
 use Rattle.formulas.specs.Readers.{viewOf, Ready, SumRead, Begun}
 use Rattle.grammar.proofs.Coding.{coded-run, cutPart}
-use Rattle.grammar.proofs.Storing.{sets-front}
+use Rattle.marks.proofs.Marking.{lent-most}
+use Rattle.slices.proofs.Placing.{put-fits}
 
 abbrev pub first : Mark
 first = record { ok = true; at = 0; parts = 0; deepest = 0; longest = 0 }
 
-pub ready-first : (text old : List ℕ) → length text ≤ 1024 → length old ≡ 1024 → Ready text old first 0
+ready-first : (text old : List ℕ) → length text ≤ 1024 → length old ≡ 1024 → Ready text old first 0
 ready-first text old h r = record { short = h; room = r; within = omega arith; fewer = omega arith; opened = omega arith }
 
--- a text that was laid on a page is the page's front
-laid : (text blank : List ℕ) {page : List ℕ} → page ≡ sets blank 0 text → length text ≤ length blank → length text ≤ 1024 →
-    lent page (length text) ≡ text
+-- a text that was put on a blank page is the page's front
+pub laid : (text blank page : List ℕ) → page ≡ putAt blank 0 text → length blank ≡ 1024 → length text ≤ 1024 →
+    (length page ≡ 1024) × (lent page (length text) ≡ text)
 unfolding lent
-laid text blank e h k =
+laid text blank page e b h =
     let q : min (length text) 1024 ≡ length text = omega arith in
-    rw (q, e, sets-front text blank h) (take-append-seam text (drop (length text) blank))
+    let p : page ≡ text ++ drop (length text) blank = rw zero-add at (e ∙ put-fits blank 0 text (omega arith)) in (
+      ap length p ∙ length-append text (drop (length text) blank) ∙ omega (arith, length-drop (length text) blank),
+      rw (q, p) (take-append-seam text (drop (length text) blank)),
+    )
 
--- at the first byte, the words of the mark and a page with the text on it
-abbrev begin : List ℕ
+-- at the first byte, the words of the mark, and a page
+abbrev pub begin : List ℕ
 begin = 1 ∷ 0 ∷ 0 ∷ 0 ∷ 0 ∷ []
 
-pub begun : (text blank : List ℕ) {page words : List ℕ} → page ≡ sets blank 0 text → length blank ≡ 1024 → length text ≤ 1024 →
-    length words ≡ 1024 → Begun page (length text) words begin 0
+pub begun : (page : List ℕ) (bytes : ℕ) {words : List ℕ} → length page ≡ 1024 → bytes ≤ 1024 → length words ≡ 1024 →
+    Begun page bytes words begin 0
 unfolding markOf
-begun text blank {page} {words} e b h w = (
-  record { whole = ap length e ∙ length-sets blank 0 text ∙ b; first = h; five = refl },
-  subst (λ (t : List ℕ). Ready t words first 0) (sym (laid text blank e (omega arith) h)) (ready-first text words h w),
-)
+begun page bytes {words} p h w =
+    (record { whole = p; first = h; five = refl }, ready-first (lent page bytes) words (omega (arith, lent-most page bytes)) w)
 
-pub as-laid : (text blank : List ℕ) {page old new : List ℕ} {m : Mark} → page ≡ sets blank 0 text → length blank ≡ 1024 →
-    length text ≤ 1024 →
-    SumRead (lent page (length text)) 0 (markOf begin) old new m → SumRead text 0 first old new m
-unfolding markOf
-as-laid text blank {page} {old} {new} {m} e b h d =
-    subst (λ (t : List ℕ). SumRead t 0 first old new m) (laid text blank e (omega arith) h) d
+pub lent-all : (page : List ℕ) (bytes : ℕ) → length page ≡ 1024 → bytes ≤ 1024 → length (lent page bytes) ≡ bytes
+unfolding lent
+lent-all page bytes p h = length-take (min bytes 1024) page ∙ omega arith
 
 capped-over : (n : ℕ) → ltb M (capped n) ≡ ltb M n
 unfolding capped

@@ -1,14 +1,15 @@
 -- Mirrored: The reader's steps on marks, as its private contracts cite them: they mirror the steps on states.
-use Prim.Native.Nat.{ℕ, _+_, _*_, _-_, _≤_, max}
+use Prim.Native.Nat.{ℕ, _+_, _*_, _-_, _≤_, min, max}
 use mathlib.Core.Path.{_≡_}
 use mathlib.Core.Bool.{true, false, cond}
 use mathlib.Core.List.{List}
 use lib.Dec.{ltb, eqb}
 use lib.ListN.{length, take, set}
-use Rattle.grammar.specs.Kinds as kinds
-use Rattle.grammar.specs.Formula.{coded, nameWord}
+use Rattle.grammar.specs.Formula.{coded}
 use Rattle.grammar.specs.Reader.{State, leafAt, sumAt, sumsAt, productAt, productsAt, factorAt, latchAt, timerAt}
-use Rattle.marks.specs.Marks.{Mark, markOf, lent, nextMark, lengthEnd}
+use Rattle.texts.specs.Lengths.{capped}
+use Rattle.marks.specs.Marks.{Mark, markOf, lent, nextMark}
+use Rattle.tokens.specs.Tokens.{lengthEnd, numberAt}
 
 -- the words of a mark
 abbrev pub Marked : List ℕ → Mark → Type 0
@@ -39,9 +40,9 @@ expectMark text b m = cond (eqb (nextMark text m) b) (movedMark m (m .at + 1)) (
 unfoldable pub lengthMark : List ℕ → Mark → Mark
 lengthMark text m = cond (ltb 0 (lengthEnd text m)) (movedMark m (lengthEnd text m)) (badMark m)
 
--- the code word of a constant or name that has the first byte and the place and ends there
-unfoldable pub leafWord : ℕ → ℕ → ℕ → ℕ
-leafWord b at end = cond (eqb b 48) kinds.DOWN (cond (eqb b 49) kinds.UP (nameWord at (end - at)))
+-- the ticks that the bytes of a page from one mark up to another write
+abbrev pub ticksTo : List ℕ → Mark → Mark → ℕ
+ticksTo page m r = capped (numberAt page (m .at) (min (r .at) 1024 - m .at))
 
 unfoldable pub putMark : Mark → ℕ → ℕ → Mark
 putMark m deep ticks =

@@ -3,29 +3,19 @@ mod mark;
 mod reader;
 
 ghost use mathlib.Core.Path.{_≡_};
-ghost use Prim.Native.Nat.{_≤_};
+ghost use Prim.Native.Nat.{_≤_, _<_};
 ghost use lib.ListN.{length, take};
 ghost use lib.Seq.{sets};
+ghost use Rattle.marks.specs.Marks.{lent};
 ghost use Rattle.formulas.specs.Calls.{CallOfRead};
 use marks::OK;
 use marks::PARTS;
 use marks::fault_of;
 use signals::Written;
+use slices::put;
 
 // The most bytes that a formula has.
 const MOST_BYTES: usize = 1024;
-
-// Copies the text to the front of the page.
-fn lay(text: &[u8], page: &mut [u8; 1024])
-    requires { ⌜ length (now text) ≤ 1024 ⌝ }
-    ensures { λ _. ⌜ now (page .exit) ≡ sets (now (page .entry)) 0 (now (text .entry)) ⌝ }
-{
-    let mut i = 0;
-    while i < text.len() {
-        page[i] = text[i];
-        i += 1;
-    }
-}
 
 // Copies the first words.
 fn copy(words: &[u64], count: usize, code: &mut [u64; 32])
@@ -37,6 +27,24 @@ fn copy(words: &[u64], count: usize, code: &mut [u64; 32])
         code[i] = words[i];
         i += 1;
     }
+}
+
+// Reads the text that is the first bytes of a page, 1 to 1,024.
+fn read_page(page: &[u8; 1024], bytes: usize, code: &mut [u64; 32]) -> Written
+    requires { ⌜ (length (now page) ≡ 1024) × (0 < bytes) × (bytes ≤ 1024) ⌝ }
+    ensures { λ r. ⌜ CallOfRead (lent (now (page .entry)) bytes) (now (code .entry)) r (now (code .exit)) ⌝ }
+{
+    let mut words = [0u64; 1024];
+    let mut m = [0usize; 5];
+    m[OK] = 1;
+    reader::sum(page, bytes, &mut words, &mut m, 0);
+    let fault = fault_of(&m, bytes);
+    if fault == 0 {
+        let parts = m[PARTS];
+        copy(&words, parts, code);
+        return Written::Count(parts);
+    }
+    Written::Refused(fault)
 }
 
 // Reads a formula: faults 10, 11, 8, 12; else how many code words it wrote, one for each part in working-out order.
@@ -51,16 +59,6 @@ pub fn read(text: &[u8], code: &mut [u64; 32]) -> Written
         return Written::Refused(10);
     }
     let mut page = [0u8; 1024];
-    lay(text, &mut page);
-    let mut words = [0u64; 1024];
-    let mut m = [0usize; 5];
-    m[OK] = 1;
-    reader::sum(&page, bytes, &mut words, &mut m, 0);
-    let fault = fault_of(&m, bytes);
-    if fault == 0 {
-        let parts = m[PARTS];
-        copy(&words, parts, code);
-        return Written::Count(parts);
-    }
-    Written::Refused(fault)
+    put(&mut page, 0, text);
+    read_page(&page, bytes, code)
 }

@@ -1,22 +1,23 @@
 // The steps of the reader of a formula that read no sum. Each leaves a bad mark as it is.
 ghost use mathlib.Core.Bool.{true};
 ghost use mathlib.Core.Path.{_≡_};
-ghost use Prim.Native.Nat.{_+_, _≤_, _<_};
+ghost use Prim.Native.Nat.{_+_, _≤_, _<_, max};
 ghost use lib.Dec.{eqb};
 ghost use lib.ListN.{length};
 ghost use Rattle.marks.specs.Marks.{markOf, lent, nextMark};
 ghost use Rattle.openings.specs.Opening.{openKind, openBytes};
-ghost use Rattle.formulas.specs.Readers.{Lent, Marked, badMark, movedMark, passMark, expectMark, lengthMark, putMark, putCode};
+ghost use Rattle.formulas.specs.Readers.{Lent, Marked, badMark, movedMark, passMark, expectMark, lengthMark, ticksTo};
+ghost use Rattle.formulas.specs.Readers.{putMark, putCode};
 use marks::AT;
 use marks::DEEPEST;
 use marks::LONGEST;
 use marks::OK;
 use marks::PARTS;
-use marks::larger;
-use marks::length_end;
 use marks::next;
 use openings::opening;
 use openings::opening_bytes;
+use tokens::length_end;
+use tokens::ticks;
 
 // Makes a mark bad.
 pub(crate) fn fail(m: &mut [usize; 5])
@@ -70,17 +71,26 @@ pub(crate) fn expect(text: &[u8; 1024], bytes: usize, m: &mut [usize; 5], b: u8)
     fail(m);
 }
 
-// Passes a length.
-pub(crate) fn pass_length(text: &[u8; 1024], bytes: usize, m: &mut [usize; 5])
+// Passes a length, and gives its ticks; 0 where none is next.
+pub(crate) fn pass_length(text: &[u8; 1024], bytes: usize, m: &mut [usize; 5]) -> usize
     requires { ⌜ length (now m) ≡ 5 ⌝ }
-    ensures { λ _. ⌜ Marked (now (m .exit)) (lengthMark (lent (now (text .entry)) bytes) (markOf (now (m .entry)))) ⌝ }
+    ensures { λ r. ⌜ (Marked (now (m .exit)) (lengthMark (lent (now (text .entry)) bytes) (markOf (now (m .entry)))))
+        × (r ≡ ticksTo (now (text .entry)) (markOf (now (m .entry))) (markOf (now (m .exit)))) ⌝ }
 {
     let end = length_end(text, bytes, m);
     if 0 < end {
+        let n = ticks(text, m[AT], end);
         move_to(m, end);
-        return;
+        return n;
     }
     fail(m);
+    0
+}
+
+fn larger(a: usize, b: usize) -> usize
+    ensures { λ r. ⌜ r ≡ max a b ⌝ }
+{
+    if a < b { b } else { a }
 }
 
 // Puts a part's code word out.

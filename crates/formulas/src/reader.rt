@@ -2,7 +2,7 @@
 ghost use mathlib.Core.Path.{_≡_};
 ghost use Prim.Native.Nat.{_+_, _≤_, _<_};
 ghost use Rattle.marks.specs.Marks.{lent};
-ghost use Rattle.formulas.specs.Readers.{Begun, Left, leafWord, LeafRead, SumRead, SumsRead, ProductRead, ProductsRead};
+ghost use Rattle.formulas.specs.Readers.{Begun, Left, LeafRead, SumRead, SumsRead, ProductRead, ProductsRead};
 ghost use Rattle.formulas.specs.Readers.{FactorRead, LatchRead, TimerRead};
 use crate::mark::begin;
 use crate::mark::expect;
@@ -11,25 +11,9 @@ use crate::mark::move_to;
 use crate::mark::pass;
 use crate::mark::pass_length;
 use crate::mark::put;
-use marks::AT;
 use marks::kind;
-use marks::leaf_end;
-use marks::next;
-use marks::ticks;
-
-// The code word of a constant or name from `at` up to `end`, of which `b` is the first byte.
-fn leaf_word(b: u8, at: usize, end: usize) -> u64
-    requires { ⌜ (at ≤ end) × (end ≤ 1024) ⌝ }
-    ensures { λ r. ⌜ r ≡ leafWord b at end ⌝ }
-{
-    if b == b'0' {
-        return kind::DOWN;
-    }
-    if b == b'1' {
-        return kind::UP;
-    }
-    (at as u64 * 16 + (end - at) as u64) * 16 + kind::NAME
-}
+use tokens::leaf_end;
+use tokens::leaf_word;
 
 // 0, 1 or a name.
 fn leaf(text: &[u8; 1024], bytes: usize, code: &mut [u64; 1024], m: &mut [usize; 5], deep: usize)
@@ -39,7 +23,7 @@ fn leaf(text: &[u8; 1024], bytes: usize, code: &mut [u64; 1024], m: &mut [usize;
 {
     let end = leaf_end(text, bytes, m);
     if 0 < end {
-        let word = leaf_word(next(text, bytes, m), m[AT], end);
+        let word = leaf_word(text, bytes, m, end);
         move_to(m, end);
         put(code, m, word, deep, 0);
         return;
@@ -166,10 +150,7 @@ fn timer(
     ensures { λ _. ⌜ Left (TimerRead (lent (now (text .entry)) bytes) part deep) (now (m .entry))
         (now (code .entry)) (now (code .exit)) (now (m .exit)) ⌝ }
 {
-    let from = m[AT];
-    pass_length(text, bytes, m);
-    let to = m[AT];
-    let n = ticks(text, from, to);
+    let n = pass_length(text, bytes, m);
     expect(text, bytes, m, b',');
     sum(text, bytes, code, m, deep + 1);
     expect(text, bytes, m, b')');

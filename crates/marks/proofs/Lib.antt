@@ -1,2 +1,2 @@
--- Lemmas on marks, runs of bytes and lengths.
+-- Lemmas on marks.
 pub mod Marking

@@ -1,2 +1,2 @@
--- Marks, and what stands at them.
+-- Marks, and the text that is lent.
 pub mod Marks

@@ -1,11 +1,11 @@
 // What begins a factor of a formula at a mark of its text: a prefix, an open bracket, or a block's word with its bracket.
+ghost use mathlib.Core.Bool.{cond};
 ghost use mathlib.Core.Path.{_≡_};
 ghost use lib.ListN.{getD, drop};
 ghost use Rattle.grammar.specs.Reader.{prefixKind, starts, blockKind};
-ghost use Rattle.marks.specs.Marks.{markOf, lent};
+ghost use Rattle.marks.specs.Marks.{markOf, lent, nextMark};
 ghost use Rattle.openings.specs.Opening.{openKind, openBytes};
 use marks::AT;
-use marks::OK;
 use marks::kind;
 use marks::next;
 
@@ -57,21 +57,32 @@ fn stands(text: &[u8; 1024], bytes: usize, at: usize, word: &[u8]) -> bool
     true
 }
 
-// The kind of the block whose word and bracket stand at the place; 0 where none do.
-fn block_kind(text: &[u8; 1024], bytes: usize, at: usize) -> u64
-    ensures { λ r. ⌜ r ≡ blockKind (drop at (lent (now (text .entry)) bytes)) ⌝ }
+// The kind of the block whose word and bracket are next, of which `first` is the first byte; 0 where none are.
+fn block_kind(text: &[u8; 1024], bytes: usize, m: &[usize; 5], first: u8) -> u64
+    requires { ⌜ nextMark (lent (now text) bytes) (markOf (now m)) ≡ first ⌝ }
+    ensures { λ r. ⌜ r ≡ cond (markOf (now (m .entry)) .ok)
+        (blockKind (drop (markOf (now (m .entry)) .at) (lent (now (text .entry)) bytes))) 0 ⌝ }
 {
-    if stands(text, bytes, at, b"SR(") {
-        return kind::SR;
+    let at = m[AT];
+    if first == b'S' {
+        if stands(text, bytes, at, b"SR(") {
+            return kind::SR;
+        }
+        return 0;
     }
-    if stands(text, bytes, at, b"RS(") {
-        return kind::RS;
+    if first == b'R' {
+        if stands(text, bytes, at, b"RS(") {
+            return kind::RS;
+        }
+        return 0;
     }
-    if stands(text, bytes, at, b"TON(") {
-        return kind::TON;
-    }
-    if stands(text, bytes, at, b"TOF(") {
-        return kind::TOF;
+    if first == b'T' {
+        if stands(text, bytes, at, b"TON(") {
+            return kind::TON;
+        }
+        if stands(text, bytes, at, b"TOF(") {
+            return kind::TOF;
+        }
     }
     0
 }
@@ -88,13 +99,7 @@ pub fn opening(text: &[u8; 1024], bytes: usize, m: &[usize; 5]) -> u64
     if b == b'(' {
         return kind::BRACKET;
     }
-    if b'T' < b {
-        return 0;
-    }
-    if m[OK] == 1 {
-        return block_kind(text, bytes, m[AT]);
-    }
-    0
+    block_kind(text, bytes, m, b)
 }
 
 // How many bytes such an opening has.

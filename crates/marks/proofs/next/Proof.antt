@@ -11,36 +11,40 @@ use Rattle.marks.proofs.next.Tie as tie
 element-copy-out-at : tie.Need-element-copy-out-at
 element-copy-out-at c = search needs
 
-within-requires : tie.Need-within-requires
-within-requires c κs = search needs
-
 element-copy-out-if1 : tie.Need-element-copy-out-if1
 element-copy-out-if1 c = search needs
 
 element-copy-out-result : tie.Need-element-copy-out-result
-element-copy-out-result c = omega (arith, c .if2 .taken, c .before .before .before .within .ensures)
+element-copy-out-result c = search needs
 
 returns : tie.Need-returns
 unfolding nextMark markOf
 returns c =
-    let w = c .before .before .before .before in
-    let a = w .before .before .args in
-    rw (eq-eqb _ _ (c .before .before .if1 .taken))
-    (sym (lent-byte (a .text .now) (a .bytes) _ (omega (arith, c .before .if2 .taken, w .within .ensures))))
+    let t = c .before in
+    let i = t .before .before in
+    let a = i .before .before .before .args in
+    rw (eq-eqb _ _ (i .if1 .taken))
+    (sym (lent-byte (a .text .now) (a .bytes) _ (omega (arith, t .if3 .taken, t .before .if2 .taken))))
 
 returns-2 : tie.Need-returns-2
 unfolding nextMark markOf
 returns-2 c =
-    let w = c .before .before .before in
-    let a = w .before .before .args in
-    rw (eq-eqb _ _ (c .before .if1 .taken))
-    (sym (lent-end (a .text .now) (a .bytes) _ (omega (arith, c .if2 .left, w .within .ensures))))
+    let i = c .before .before in
+    let a = i .before .before .before .args in
+    rw (eq-eqb _ _ (i .if1 .taken)) (sym (lent-end (a .text .now) (a .bytes) _ (omega (arith, c .if3 .left))))
 
 returns-3 : tie.Need-returns-3
 unfolding nextMark markOf
-returns-3 c = rw (ne-eqb _ _ (c .if1 .left)) refl
+returns-3 c =
+    let i = c .before in
+    let a = i .before .before .before .args in
+    rw (eq-eqb _ _ (i .if1 .taken)) (sym (lent-end (a .text .now) (a .bytes) _ (omega (arith, c .if2 .left))))
+
+returns-4 : tie.Need-returns-4
+unfolding nextMark markOf
+returns-4 c = rw (ne-eqb _ _ (c .if1 .left)) refl
 
 pub next-spec : {M : Type 1} → statement M
 next-spec =
     tie.close
-    (tie.spec element-copy-out-at within-requires element-copy-out-if1 element-copy-out-result returns returns-2 returns-3)
+    (tie.spec element-copy-out-at element-copy-out-if1 element-copy-out-result returns returns-2 returns-3 returns-4)

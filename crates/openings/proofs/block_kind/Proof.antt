@@ -1,62 +1,79 @@
--- `openings::block_kind` meets its contract.
+-- `openings::block_kind` meets its contract: the first byte says which words can stand.
 use borrow.Author.Needs.{needs}
 use mathlib.Core.Path.{refl, sym, _∙_}
-use Rattle.grammar.specs.Reader.{blockKind}
+use Rattle.marks.specs.Marks.{markOf, lent}
+use Rattle.openings.proofs.Words.{first-s, first-r, first-t, no-block}
 use Rattle.openings.proofs.block_kind.Statement.{statement}
 use Rattle.openings.proofs.block_kind.Tie as tie
 
 returns : tie.Need-returns
-unfolding blockKind
-returns c = rw (sym (c .before .stands .ensures) ∙ c .if1 .taken) refl
+unfolding markOf
+returns c =
+    let i = c .before .before .before in
+    let s = i .before .before in
+    let e = first-s (lent (s .args .text .now) (s .args .bytes)) (markOf (s .args .m .now)) (s .pre ∙ i .if1 .taken) in
+    sym (e ∙ rw (sym (c .before .stands .ensures) ∙ c .if2 .taken) refl)
 
 returns-2 : tie.Need-returns-2
-unfolding blockKind
+unfolding markOf
 returns-2 c =
-    let e1 = c .before .before .before in
-    rw (
-      sym (e1 .before .stands .ensures) ∙ e1 .if1 .left,
-      sym (c .before .stands2 .ensures) ∙ c .if2 .taken,
-    ) refl
+    let i = c .before .before .before in
+    let s = i .before .before in
+    let e = first-s (lent (s .args .text .now) (s .args .bytes)) (markOf (s .args .m .now)) (s .pre ∙ i .if1 .taken) in
+    sym (e ∙ rw (sym (c .before .stands .ensures) ∙ c .if2 .left) refl)
 
 returns-3 : tie.Need-returns-3
-unfolding blockKind
+unfolding markOf
 returns-3 c =
-    let e2 = c .before .before .before in
-    let e1 = e2 .before .before .before in
-    rw (
-      sym (e1 .before .stands .ensures) ∙ e1 .if1 .left,
-      sym (e2 .before .stands2 .ensures) ∙ e2 .if2 .left,
-      sym (c .before .stands3 .ensures) ∙ c .if3 .taken,
-    ) refl
+    let i = c .before .before .before in
+    let s = i .before .before .before in
+    let e = first-r (lent (s .args .text .now) (s .args .bytes)) (markOf (s .args .m .now)) (s .pre ∙ i .if3 .taken) in
+    sym (e ∙ rw (sym (c .before .stands2 .ensures) ∙ c .if4 .taken) refl)
 
 returns-4 : tie.Need-returns-4
-unfolding blockKind
+unfolding markOf
 returns-4 c =
-    let e3 = c .before .before .before in
-    let e2 = e3 .before .before .before in
-    let e1 = e2 .before .before .before in
-    rw (
-      sym (e1 .before .stands .ensures) ∙ e1 .if1 .left,
-      sym (e2 .before .stands2 .ensures) ∙ e2 .if2 .left,
-      sym (e3 .before .stands3 .ensures) ∙ e3 .if3 .left,
-      sym (c .before .stands4 .ensures) ∙ c .if4 .taken,
-    ) refl
+    let i = c .before .before .before in
+    let s = i .before .before .before in
+    let e = first-r (lent (s .args .text .now) (s .args .bytes)) (markOf (s .args .m .now)) (s .pre ∙ i .if3 .taken) in
+    sym (e ∙ rw (sym (c .before .stands2 .ensures) ∙ c .if4 .left) refl)
 
 returns-5 : tie.Need-returns-5
-unfolding blockKind
+unfolding markOf
 returns-5 c =
-    let e3 = c .before .before .before in
-    let e2 = e3 .before .before .before in
-    let e1 = e2 .before .before .before in
-    rw (
-      sym (e1 .before .stands .ensures) ∙ e1 .if1 .left,
-      sym (e2 .before .stands2 .ensures) ∙ e2 .if2 .left,
-      sym (e3 .before .stands3 .ensures) ∙ e3 .if3 .left,
-      sym (c .before .stands4 .ensures) ∙ c .if4 .left,
-    ) refl
+    let i = c .before .before .before in
+    let s = i .before .before .before .before in
+    let e = first-t (lent (s .args .text .now) (s .args .bytes)) (markOf (s .args .m .now)) (s .pre ∙ i .if5 .taken) in
+    sym (e ∙ rw (sym (c .before .stands3 .ensures) ∙ c .if6 .taken) refl)
+
+returns-6 : tie.Need-returns-6
+unfolding markOf
+returns-6 c =
+    let n = c .before .before .before in
+    let i = n .before .before .before in
+    let s = i .before .before .before .before in
+    let e = first-t (lent (s .args .text .now) (s .args .bytes)) (markOf (s .args .m .now)) (s .pre ∙ i .if5 .taken) in
+    sym (e ∙ rw (sym (n .before .stands3 .ensures) ∙ n .if6 .left, sym (c .before .stands4 .ensures) ∙ c .if7 .taken) refl)
+
+returns-7 : tie.Need-returns-7
+unfolding markOf
+returns-7 c =
+    let n = c .before .before .before in
+    let i = n .before .before .before in
+    let s = i .before .before .before .before in
+    let e = first-t (lent (s .args .text .now) (s .args .bytes)) (markOf (s .args .m .now)) (s .pre ∙ i .if5 .taken) in
+    sym (e ∙ rw (sym (n .before .stands3 .ensures) ∙ n .if6 .left, sym (c .before .stands4 .ensures) ∙ c .if7 .left) refl)
+
+returns-8 : tie.Need-returns-8
+returns-8 c =
+    let s = c .before .before .before .before in
+    sym
+    (no-block (lent (s .args .text .now) (s .args .bytes)) (markOf (s .args .m .now)) (s .args .first) (s .pre)
+    (c .before .before .if1 .left) (c .before .if3 .left) (c .if5 .left))
 
 pub block-kind-spec : {M : Type 1} → statement M
 block-kind-spec =
     tie.close
-    (tie.spec (λ c. search needs) (λ c κs. search needs) returns (λ c. search needs) (λ c κs. search needs) returns-2 (λ c. search needs)
-    (λ c κs. search needs) returns-3 (λ c. search needs) (λ c κs. search needs) returns-4 returns-5)
+    (tie.spec (λ c. search needs) (λ c. search needs) (λ c κs. search needs) returns returns-2 (λ c. search needs) (λ c κs. search needs)
+    returns-3 returns-4 (λ c. search needs) (λ c κs. search needs) returns-5 (λ c. search needs) (λ c κs. search needs) returns-6
+    returns-7 returns-8)

@@ -8,7 +8,7 @@ use lib.ListN.{length}
 use borrow.Author.Needs.{needs}
 use Rattle.texts.specs.Lengths.{capped}
 use Rattle.marks.specs.Marks.{Mark, markOf, lent}
-use Rattle.marks.proofs.Marking.{capped-most}
+use Rattle.tokens.proofs.Runs.{capped-most}
 use Rattle.formulas.proofs.Lending.{lent-on, text-long, number-lent}
 use Rattle.formulas.proofs.Doing.{pass-moves, pass-stays, passed, starting, turned, inner-needs}
 use Rattle.formulas.proofs.ReaderPaths as paths
@@ -42,7 +42,6 @@ use Rattle.formulas.proofs.mark.expect.Reads as expect-reads
 use Rattle.formulas.proofs.mark.pass.Reads as pass-reads
 use Rattle.formulas.proofs.mark.pass_length.Reads as pass-length-reads
 use Rattle.formulas.proofs.mark.put.Reads as put-reads
-use Rattle.marks.proofs.ticks.Reads as ticks-reads
 use Rattle.formulas.proofs.reader.leaf.Reads as leaf-reads
 use Rattle.formulas.proofs.reader.+factor+latch+product+products+sum+sums+timer.{statement}
 use Rattle.formulas.proofs.reader.+factor+latch+product+products+sum+sums+timer.Tie.{close}
@@ -152,8 +151,6 @@ abbrev timer-calls : ℕ → timer-lts.Claims
 timer-calls t = (
   pass-length-reads.Asked,
   pass-length-reads.Learnt,
-  ticks-reads.Asked,
-  ticks-reads.Learnt,
   expect-reads.Asked,
   expect-reads.Learnt,
   sum-below t,
@@ -479,81 +476,79 @@ sums-returns-2 t c =
     (pass′ .ensures .0 .0, turned refl (pass′ .ensures .0 .1 ∙ pass-stays _ 43 _ e) (chains.rest-end plus (s .pre .1 .1) e))
 
 timer-pass-length-requires : (t : ℕ) → timer-lts.Need-pass-length-requires (timer-calls t) (timer-at t) timer.Post
-timer-pass-length-requires t c κs = c .before .before .pre .1 .0 .0 .five
+timer-pass-length-requires t c κs = c .before .pre .1 .0 .0 .five
 
 timer-expect-requires : (t : ℕ) → timer-lts.Need-expect-requires (timer-calls t) (timer-at t) timer.Post
 timer-expect-requires t c κs = (
-  lent-on (c .before .before .before .before .before .before .pre .1 .0 .0) (c .before .before .before .pass-length .ensures .0),
+  lent-on (c .before .before .before .pre .1 .0 .0) (c .before .pass-length .ensures .0 .0),
   omega arith,
 )
 
 timer-add-sum : (t : ℕ) → timer-lts.Need-add-sum (timer-calls t) (timer-at t) timer.Post
 timer-add-sum t c =
-    let g = c .before .before .before .before .before .before .before .before .before .pre .1 .0 .1 in omega
+    let g = c .before .before .before .before .before .before .pre .1 .0 .1 in omega
     (arith, g .opened, g .within, g .short)
 
 timer-sum-requires : (t : ℕ) → timer-lts.Need-sum-requires (timer-calls t) (timer-at t) timer.Post
 timer-sum-requires t c κs =
-    let s = c .before .before .before .before .before .before .before .before .before in
+    let s = c .before .before .before .before .before .before in
     let expect′ = c .before .before .expect in
     let g = s .pre .1 .0 .1 in
     let n = inner-needs (s .args .deep) g
-    (paths.timer-parted (s .args .deep) g (c .before .before .before .before .before .before .pass-length .ensures .1)
+    (paths.timer-parted (s .args .deep) g (c .before .before .before .before .pass-length .ensures .0 .1)
     (expect′ .ensures .1)) (s .pre .0) in
     (n .0, (lent-on (s .pre .1 .0 .0) (expect′ .ensures .0), n .1))
 
 timer-expect-requires-2 : (t : ℕ) → timer-lts.Need-expect-requires-2 (timer-calls t) (timer-at t) timer.Post
 timer-expect-requires-2 t c κs = (
-  lent-on (c .before .before .before .before .before .before .before .before .before .before .before .pre .1 .0 .0)
+  lent-on (c .before .before .before .before .before .before .before .before .pre .1 .0 .0)
       (c .before .sum .ensures .0),
   omega arith,
 )
 
 timer-mul-put : (t : ℕ) → timer-lts.Need-mul-put (timer-calls t) (timer-at t) timer.Post
 timer-mul-put t c =
-    let ticks′ = c .before .before .before .before .before .before .before .before .before .ticks in omega
-    (arith, capped-most _ _ (ticks′ .ensures))
+    let length′ = c .before .before .before .before .before .before .before .before .before .pass-length in omega
+    (arith, capped-most _ _ (length′ .ensures .1))
 
 timer-add-put : (t : ℕ) → timer-lts.Need-add-put (timer-calls t) (timer-at t) timer.Post
 timer-add-put t c =
-    let ticks′ = c .before .before .before .before .before .before .before .before .before .ticks in omega (
+    let length′ = c .before .before .before .before .before .before .before .before .before .pass-length in omega (
       arith,
-      capped-most _ _ (ticks′ .ensures),
-      c .before .before .before .before .before .before .before .before .before .before
-          .before .before .before .before .pre .1 .1,
+      capped-most _ _ (length′ .ensures .1),
+      c .before .before .before .before .before .before .before .before .before .before .before .pre .1 .1,
     )
 
 timer-put-requires : (t : ℕ) → timer-lts.Need-put-requires (timer-calls t) (timer-at t) timer.Post
 timer-put-requires t c κs =
-    let s = c .before .before .before .before .before .before .before .before .before .before .before .before .before .before in
-    let pass-length′ = c .before .before .before .before .before .before .before .before .before .before .before .pass-length in
+    let s = c .before .before .before .before .before .before .before .before .before .before .before in
+    let pass-length′ = c .before .before .before .before .before .before .before .before .before .pass-length in
     let expect′ = c .before .before .before .before .before .before .before .expect in
     let sum′ = c .before .before .before .before .sum in
     let expect2′ = c .before .before .expect2 in
-    let n = paths.timer-needs (s .args .deep) (s .pre .1 .0 .1) (pass-length′ .ensures .1) (expect′ .ensures .1) (sum′ .ensures .1)
+    let n = paths.timer-needs (s .args .deep) (s .pre .1 .0 .1) (pass-length′ .ensures .0 .1) (expect′ .ensures .1) (sum′ .ensures .1)
     (expect2′ .ensures .1) in
     (expect2′ .ensures .0, n .0, n .1)
 
 timer-returns : (t : ℕ) → timer-lts.Need-returns (timer-calls t) (timer-at t) timer.Post
 unfolding markOf
 timer-returns t c =
-    let s = c .before .before .before .before .before .before .before .before .before .before .before .before .before .before .before in
-    let pass-length′ = c .before .before .before .before .before .before .before .before .before .before .before .before .pass-length in
+    let s = c .before .before .before .before .before .before .before .before .before .before .before .before in
+    let pass-length′ = c .before .before .before .before .before .before .before .before .before .before .pass-length in
     let expect′ = c .before .before .before .before .before .before .before .before .expect in
     let sum′ = c .before .before .before .before .before .sum in
     let expect2′ = c .before .before .before .expect2 in
-    let ticks′ = c .before .before .before .before .before .before .before .before .before .before .ticks in
     let put′ = c .put in
     let a = s .args in
     let g = s .pre .1 .0 .1 in
     let p = passed (lent (a .text .now) (a .bytes)) (markOf (a .m .now)) (g .within) in
-    let q = ap (λ (j : Mark). j .at) (pass-length′ .ensures .1) in
+    let q = ap (λ (j : Mark). j .at) (pass-length′ .ensures .0 .1) in
     let v = number-lent (s .pre .1 .0 .0) (markOf (a .m .now) .at) (markOf (pass-length′ .last .1 .1 .0) .at) (omega (arith, p .on, q))
     (omega (arith, p .within, q, text-long (s .pre .1 .0 .0))) in (
       put′ .ensures .0 .0,
-      paths.timer-path (a .deep) g (pass-length′ .ensures .1) (expect′ .ensures .1) (sum′ .ensures .1) (expect2′ .ensures .1)
+      paths.timer-path (a .deep) g (pass-length′ .ensures .0 .1) (expect′ .ensures .1) (sum′ .ensures .1) (expect2′ .ensures .1)
           (a .part) _
-          (ticks′ .ensures ∙ ap capped v) (put′ .ensures .1) (put′ .ensures .0 .1),
+          (pass-length′ .ensures .1 ∙ ap capped v) (put′ .ensures .1) (put′ .ensures .0 .1),
     )
 
 pub +factor+latch+product+products+sum+sums+timer-spec : {M : Type 1} → statement M
@@ -574,6 +569,6 @@ pub +factor+latch+product+products+sum+sums+timer-spec : {M : Type 1} → statem
     (λ t. sum-lts.spec (sum-calls t) (sum-at t) sum.Post (sum-product-requires t) (sum-sums-requires t) (sum-returns t))
     (λ t. sums-lts.spec (sums-calls t) (sums-at t) sums.Post (sums-pass-requires t) (sums-product-requires t) (sums-put-requires t)
     (sums-sums-requires t) (sums-returns t) (sums-returns-2 t))
-    (λ t. timer-lts.spec (timer-calls t) (timer-at t) timer.Post (λ c. search needs) (timer-pass-length-requires t) (λ c. search needs)
-    (λ c κs. search needs) (timer-expect-requires t) (timer-add-sum t) (timer-sum-requires t) (timer-expect-requires-2 t) (timer-mul-put t)
+    (λ t. timer-lts.spec (timer-calls t) (timer-at t) timer.Post (timer-pass-length-requires t) (timer-expect-requires t) (timer-add-sum t)
+    (timer-sum-requires t) (timer-expect-requires-2 t) (timer-mul-put t)
     (timer-add-put t) (timer-put-requires t) (timer-returns t))

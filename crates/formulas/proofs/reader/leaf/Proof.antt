@@ -1,22 +1,16 @@
 -- `formulas::reader::leaf` meets its contract: each path is one of `LeafPaths`.
 use borrow.Author.Needs.{needs}
-use Prim.Native.Nat.{ℕ, _≤_, _<_}
-use native.Mathlib.Omega.{arith}
+use Prim.Native.Nat.{ℕ, _≤_, _<_, min}
 use mathlib.Core.Path.{ap, _∙_, subst}
-use Rattle.marks.specs.Marks.{markOf, lent, nextMark, leafEnd}
-use Rattle.formulas.specs.Readers.{movedMark, leafWord}
-use Rattle.formulas.proofs.LeafPaths.{leaf-bounds, leaf-room, leaf-path, bad-path}
+use Rattle.marks.specs.Marks.{markOf, lent, nextMark}
+use Rattle.tokens.specs.Tokens.{leafEnd, leafWord}
+use Rattle.formulas.specs.Readers.{movedMark}
+use Rattle.formulas.proofs.LeafPaths.{leaf-room, leaf-path, bad-path}
 use Rattle.formulas.proofs.reader.leaf.Statement.{statement}
 use Rattle.formulas.proofs.reader.leaf.Tie as tie
 
 leaf-end-requires : tie.Need-leaf-end-requires
 leaf-end-requires c κs = search needs
-
-next-requires : tie.Need-next-requires
-next-requires c κs = search needs
-
-element-copy-out-leaf-word : tie.Need-element-copy-out-leaf-word
-element-copy-out-leaf-word c = search needs
 
 -- a constant or name is next
 some : (c : tie.Then1) →
@@ -24,12 +18,7 @@ some : (c : tie.Then1) →
 some c = subst (λ (n : ℕ). 0 < n) (c .before .leaf-end .ensures) (c .if1 .taken)
 
 leaf-word-requires : tie.Need-leaf-word-requires
-unfolding markOf
-leaf-word-requires c κs =
-    let t = c .before .before .before in
-    let g = t .before .before .before .pre .1 in
-    let b = leaf-bounds _ _ (g .within) (some t) in
-    (omega (arith, t .before .leaf-end .ensures, b .some), omega (arith, t .before .leaf-end .ensures, b .within, g .short))
+leaf-word-requires c κs = search needs
 
 move-to-requires : tie.Need-move-to-requires
 move-to-requires c κs = search needs
@@ -38,7 +27,7 @@ put-requires : tie.Need-put-requires
 unfolding markOf
 put-requires c κs =
     let m = c .before .before in
-    let t = m .before .before .before .before .before .before in
+    let t = m .before .before .before .before in
     let s = t .before .before .before in (
       m .move-to .ensures .0,
       s .pre .1 .room,
@@ -51,18 +40,15 @@ unfolding markOf
 returns c =
     let m = c .before .before .before in
     let w = m .before .before in
-    let n = w .before .before in
-    let t = n .before .before in
+    let t = w .before .before in
     let s = t .before .before .before in
-    let end = t .before .leaf-end in
-    let at = markOf (s .args .m .now) .at in
-    let b = nextMark (lent (s .args .text .now) (s .args .bytes)) (markOf (s .args .m .now)) in
-    let word = w .leaf-word .ensures ∙ ap (λ (x : ℕ). leafWord x at (end .result)) (n .next .ensures)
-    ∙ ap (leafWord b at) (end .ensures) in (
+    let end = t .before .leaf-end .ensures in
+    let text = lent (s .args .text .now) (s .args .bytes) in
+    let x = markOf (s .args .m .now) in
+    let word = w .leaf-word .ensures ∙ ap (λ (n : ℕ). leafWord (nextMark text x) (min (x .at) 1024) (min n 1024)) end in (
       c .put .ensures .0 .0,
-      leaf-path _ _ _ _ (s .pre .1) (some t) _ word _ _ _ (m .move-to .ensures .1
-          ∙ ap (movedMark (markOf (s .args .m .now))) (end .ensures))
-          (c .put .ensures .0 .1) (c .put .ensures .1),
+      leaf-path _ _ _ _ (s .pre .1) (some t) _ word _ _ _ (m .move-to .ensures .1 ∙ ap (movedMark x) end) (c .put .ensures .0 .1)
+          (c .put .ensures .1),
     )
 
 fail-requires : tie.Need-fail-requires
@@ -78,6 +64,6 @@ returns-2 c =
 pub leaf-spec : {M : Type 1} → statement M
 leaf-spec =
     tie.close
-    (tie.spec leaf-end-requires next-requires element-copy-out-leaf-word leaf-word-requires move-to-requires put-requires returns
+    (tie.spec leaf-end-requires leaf-word-requires move-to-requires put-requires returns
     fail-requires
     returns-2)

@@ -1,4 +1,4 @@
--- `marks::leaf_end` meets its contract.
+-- `tokens::leaf_end` meets its contract.
 use borrow.Author.Needs.{needs}
 use borrow.Author.Tests.{eq-eqb, ne-eqb, le-leb, lt-leb}
 use native.Mathlib.Omega.{arith}
@@ -7,10 +7,11 @@ use mathlib.Core.Path.{refl, sym, ap, _∙_}
 use lib.ListN.{drop}
 use Rattle.names.specs.Names.{letter, nameByte}
 use Rattle.grammar.specs.Reader.{run}
-use Rattle.marks.specs.Marks.{markOf, lent, leafEnd}
+use Rattle.marks.specs.Marks.{markOf, lent}
+use Rattle.tokens.specs.Tokens.{leafEnd}
 use Rattle.marks.proofs.Marking.{inside, lent-most}
-use Rattle.marks.proofs.leaf_end.Statement.{statement}
-use Rattle.marks.proofs.leaf_end.Tie as tie
+use Rattle.tokens.proofs.leaf_end.Statement.{statement}
+use Rattle.tokens.proofs.leaf_end.Tie as tie
 
 element-copy-out-at : tie.Need-element-copy-out-at
 element-copy-out-at c = search needs

@@ -1,14 +1,14 @@
--- `marks::ticks` meets its contract.
+-- `tokens::ticks` meets its contract.
 use Prim.Native.Nat.{ℕ, _+_, _*_, _-_, _≤_, max}
 use native.Mathlib.Omega.{arith}
 use borrow.Author.Needs.{needs}
 use mathlib.Core.Path.{_≡_, sym, ap, _∙_}
 use mathlib.Core.Logic.{⊎-elim}
 use Rattle.texts.specs.Lengths.{capped}
-use Rattle.marks.specs.Marks.{numberAt}
-use Rattle.marks.proofs.Marking.{number-next, number-none, capped-next, capped-over, capped-under, capped-most}
-use Rattle.marks.proofs.ticks.Statement.{statement}
-use Rattle.marks.proofs.ticks.Tie as tie
+use Rattle.tokens.specs.Tokens.{numberAt}
+use Rattle.tokens.proofs.Runs.{number-next, number-none, capped-next, capped-over, capped-under, capped-most}
+use Rattle.tokens.proofs.ticks.Statement.{statement}
+use Rattle.tokens.proofs.ticks.Tie as tie
 
 abbrev Inv-loop : tie.InvT-loop
 Inv-loop text from to end n₀ i₀ n i = (from ≤ i) × (i ≤ max from end) × (n ≡ capped (numberAt text from (i - from)))

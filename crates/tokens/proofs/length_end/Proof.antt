@@ -1,13 +1,14 @@
--- `marks::length_end` meets its contract.
+-- `tokens::length_end` meets its contract.
 use borrow.Author.Needs.{needs}
 use borrow.Author.Tests.{eq-eqb, ne-eqb}
 use native.Mathlib.Omega.{arith}
 use mathlib.Core.Path.{refl, sym, ap, _∙_}
 use Rattle.names.specs.Names.{digit}
-use Rattle.marks.specs.Marks.{markOf, lent, lengthEnd}
+use Rattle.marks.specs.Marks.{markOf, lent}
+use Rattle.tokens.specs.Tokens.{lengthEnd}
 use Rattle.marks.proofs.Marking.{inside, lent-most}
-use Rattle.marks.proofs.length_end.Statement.{statement}
-use Rattle.marks.proofs.length_end.Tie as tie
+use Rattle.tokens.proofs.length_end.Statement.{statement}
+use Rattle.tokens.proofs.length_end.Tie as tie
 
 element-copy-out-at : tie.Need-element-copy-out-at
 element-copy-out-at c = search needs

@@ -1,9 +1,9 @@
--- `marks::belongs` meets its contract.
+-- `tokens::belongs` meets its contract.
 use borrow.Author.Needs.{needs}
 use mathlib.Core.Path.{refl}
 use Rattle.names.specs.Names.{nameByte}
-use Rattle.marks.proofs.belongs.Statement.{statement}
-use Rattle.marks.proofs.belongs.Tie as tie
+use Rattle.tokens.proofs.belongs.Statement.{statement}
+use Rattle.tokens.proofs.belongs.Tie as tie
 
 is-letter-requires : tie.Need-is-letter-requires
 is-letter-requires c κs = search needs

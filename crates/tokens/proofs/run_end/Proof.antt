@@ -1,4 +1,4 @@
--- `marks::run_end` meets its contract.
+-- `tokens::run_end` meets its contract.
 use Prim.Native.Nat.{ℕ, _+_, _-_, _<_, min}
 use native.Mathlib.Omega.{arith}
 use borrow.Author.Needs.{needs}
@@ -7,10 +7,12 @@ use mathlib.Core.Bool.{Bool}
 use mathlib.Core.List.{List}
 use lib.ListN.{getD, drop}
 use Rattle.grammar.specs.Reader.{run}
-use Rattle.marks.specs.Marks.{lent, classOf}
-use Rattle.marks.proofs.Marking.{run-more, run-stop, run-end, none-at-0, lent-most, lent-byte}
-use Rattle.marks.proofs.run_end.Statement.{statement}
-use Rattle.marks.proofs.run_end.Tie as tie
+use Rattle.marks.specs.Marks.{lent}
+use Rattle.tokens.specs.Tokens.{classOf}
+use Rattle.marks.proofs.Marking.{lent-most, lent-byte}
+use Rattle.tokens.proofs.Runs.{run-more, run-stop, run-end, none-at-0}
+use Rattle.tokens.proofs.run_end.Statement.{statement}
+use Rattle.tokens.proofs.run_end.Tie as tie
 
 -- a byte before the end of the text
 held : (page : List ℕ) (bytes i : ℕ) (p : ℕ → Bool) (v : Bool) → i < min bytes 1024 → p (getD page i 0) ≡ v →

@@ -1,0 +1,86 @@
+-- `formulas::read_page` meets its contract: each path is one of `WholeRead`.
+use borrow.Author.Needs.{needs}
+use Prim.Native.Nat.{ℕ, _≤_}
+use native.Mathlib.Omega.{arith}
+use mathlib.Core.Path.{_≡_, sym, ap, _∙_}
+use mathlib.Core.List.{List}
+use lib.ListN.{length, replicate, length-replicate}
+use lib.Seq.{sets}
+use Rattle.marks.specs.Marks.{markOf, markFault, lent}
+use Rattle.formulas.specs.Readers.{SumRead}
+use Rattle.formulas.proofs.WholeRead.{first, begun, lent-all, refused-is, written-is}
+use Rattle.formulas.proofs.WholeRead.{few-words, few-parts, words-are, words-length, fault-is}
+use Rattle.formulas.proofs.read_page.Statement.{statement}
+use Rattle.formulas.proofs.read_page.Tie as tie
+
+array-write-m : tie.Need-array-write-m
+array-write-m c = search needs
+
+sum-requires : tie.Need-sum-requires
+sum-requires c κs =
+    let s = c .before .before in
+    begun (s .args .page .now) (s .args .bytes) (s .pre .0) (s .pre .2) (length-replicate {A = ℕ} 1024 0)
+
+-- the text is read to the mark that its words hold
+read-to : (c : tie.After-sum) →
+    let a = c .before .before .before .args in
+    SumRead (lent (a .page .now) (a .bytes)) 0 first (replicate 1024 0) (c .sum .last .1 .1 .0) (markOf (c .sum .last .1 .1 .1 .0))
+unfolding markOf
+read-to c = c .sum .ensures .1
+
+-- the text has so many bytes, some and at most 1,024
+all : (s : tie.Start) → length (lent (s .args .page .now) (s .args .bytes)) ≡ s .args .bytes
+all s = lent-all (s .args .page .now) (s .args .bytes) (s .pre .0) (s .pre .2)
+
+some : (s : tie.Start) → length (lent (s .args .page .now) (s .args .bytes)) ≡ 0 → ⊥
+some s e = absurd (omega (arith, all s, s .pre .1))
+
+short : (s : tie.Start) → length (lent (s .args .page .now) (s .args .bytes)) ≤ 1024
+short s = omega (arith, all s, s .pre .2)
+
+fault-of-requires : tie.Need-fault-of-requires
+fault-of-requires c κs = search needs
+
+array-read-parts : tie.Need-array-read-parts
+array-read-parts c = search needs
+
+slice-aggregate-copy : tie.Need-slice-aggregate-copy
+slice-aggregate-copy c = search needs
+
+copy-requires : tie.Need-copy-requires
+unfolding markOf
+copy-requires c κs =
+    let t = c .before .before in
+    let u = t .before .before .before in
+    let s = u .before .before .before in (
+      few-parts _ _ _ _ (read-to u) (some s) (short s),
+      few-words _ (s .args .bytes) (sym (t .before .fault-of .ensures) ∙ t .if1 .taken),
+    )
+
+returns : tie.Need-returns
+unfolding markOf
+returns c =
+    let t = c .before .before .before in
+    let u = t .before .before .before in
+    let s = u .before .before .before in
+    let a = s .args in
+    let text = lent (a .page .now) (a .bytes) in
+    let d = read-to u in
+    let f = fault-is text _ _ _ d (some s) (short s) ∙ ap (markFault _) (all s) in
+    written-is text (a .code .now) (c .copy .last .1 .1 .0) _ (f ∙ sym (t .before .fault-of .ensures) ∙ t .if1 .taken)
+    (sym (words-length text _ _ _ d (some s) (short s)))
+    (c .copy .ensures ∙ ap (sets (a .code .now) 0) (words-are text _ _ _ d (some s) (short s)))
+
+returns-2 : tie.Need-returns-2
+returns-2 c =
+    let u = c .before .before .before in
+    let s = u .before .before .before in
+    let a = s .args in
+    let f = fault-is (lent (a .page .now) (a .bytes)) _ _ _ (read-to u) (some s) (short s) ∙ ap (markFault _) (all s) in
+    refused-is (lent (a .page .now) (a .bytes)) (a .code .now) (c .before .fault-of .result) (f ∙ sym (c .before .fault-of .ensures))
+    (c .if1 .left)
+
+pub read-page-spec : {M : Type 1} → statement M
+read-page-spec =
+    tie.close
+    (tie.spec array-write-m sum-requires fault-of-requires array-read-parts slice-aggregate-copy copy-requires returns returns-2)

@@ -1,0 +1,2 @@
+-- Lemmas on runs of bytes and lengths.
+pub mod Runs
