@@ -121,7 +121,7 @@ delay-judged : (r : Bool) (n : ℕ) (a : List ℕ) → firstOf (listFault a) (le
 delay-judged true n a = refl
 delay-judged false n a = refl
 
-delay-exact : (r : Bool) (n : ℕ) (a : List ℕ) → exactOfDelay (delayOf r r n) n a ≡ unaryExact (cond r (ton n) (tof n)) a
+delay-exact : (r : Bool) (n : ℕ) (a : List ℕ) → exactOfDelay (delayOf r n) n a ≡ unaryExact (cond r (ton n) (tof n)) a
 delay-exact true n a = rw (ton-delay n)
 delay-exact false n a = rw (tof-delay n)
 
@@ -156,7 +156,7 @@ merge-numbered k o table a b slot given answer after i j h e = rw (sym i, sym j)
 -- the call that the code word asks for
 module _ (w : ℕ) (a b slot : List ℕ) (answer : Written) (after : List ℕ) where
   pub asked-delay : (r : Bool) (given : SlotAnswer) → w % 16 < kinds.AND → edged (w % 16) ≡ false → r ≡ eqb (w % 16) kinds.TON
-      → SlotOfDelay (delayOf r r (w / 16 % 4294967296)) (w / 16 % 4294967296) a slot given after
+      → SlotOfDelay (delayOf r (w / 16 % 4294967296)) (w / 16 % 4294967296) a slot given after
       → answer ≡ partAnswer given → PartInSlot w a b slot answer after
   asked-delay r given l t q h e =
       let n = w / 16 % 4294967296 in

@@ -80,5 +80,5 @@ pub fn apply(code: u64, a: &[u32], b: &[u32], slot: &mut [u32]) -> Written
     }
     let ticks = (code / 16 % 4294967296) as u32;
     let on_delay = kind == kind::TON;
-    part_answer(delays::delay_in(on_delay, on_delay, Length(ticks), a, slot))
+    part_answer(delays::delay_in(on_delay, Length(ticks), a, slot))
 }

@@ -31,15 +31,15 @@ use Rattle.delays.proofs.DelayUpcoming.{Upcoming, upcoming-is}
 use Rattle.timing.proofs.DelayTurn.{timed-after, delay-held}
 
 -- the answer up to date k is in the slot, k's word is passed, and the delay's state is that in gap k
-pub record Delaying (level waits : Bool) (d : ℕ) (l old slot : List ℕ) (passed : ℕ) (s : Timer) (made : Made) (date : ℕ) : Type 0 where
+pub record Delaying (level : Bool) (d : ℕ) (l old slot : List ℕ) (passed : ℕ) (s : Timer) (made : Made) (date : ℕ) : Type 0 where
   pub accepted : listFault l ≡ 0
   pub short : d ≤ M
   pub early : lastDate l ≤ M
   pub k : ℕ
   pub within : k ≤ lastDate l + d
-  pub scanning : Scanning (delayOf level waits d (signalOf l)) (lastDate l + d) k old slot made
+  pub scanning : Scanning (delayOf level d (signalOf l)) (lastDate l + d) k old slot made
   pub at : At (signalOf l) l passed k
-  pub timed : Timed (levelOf level (signalOf l)) (delayed waits d (levelOf level (signalOf l))) (lastDate l + d) s (gap k)
+  pub timed : Timed (levelOf level (signalOf l)) (delayed level d (levelOf level (signalOf l))) (lastDate l + d) s (gap k)
   pub date-is : date ≡ upcomingDate l passed s
 
 -- one level of a signal stands still with it; and back
@@ -54,10 +54,10 @@ held-on level f k e v a b h =
       after = ap (onLevel level) (h .after);
     }
 
-held-out : (level waits : Bool) (d : ℕ) (f : Signal) (k e : ℕ) (v a b : Bool) → Held (delayed waits d (levelOf level f)) k e v a b
-    → Held (delayOf level waits d f) k e (onLevel level v) (onLevel level a) (onLevel level b)
+held-out : (level : Bool) (d : ℕ) (f : Signal) (k e : ℕ) (v a b : Bool) → Held (delayed level d (levelOf level f)) k e v a b
+    → Held (delayOf level d f) k e (onLevel level v) (onLevel level a) (onLevel level b)
 unfolding delayOf
-held-out level waits d f k e v a b h =
+held-out level d f k e v a b h =
     record {
       later = h .later;
       still = λ t l u. ap (onLevel level) (h .still t l u);
@@ -76,12 +76,12 @@ first-value level l h =
     let a : At (signalOf l) l 1 0 = accepted-start l h in
     ap (onLevel level) (a .ahead .says 0 (omega arith) ∙ value-held (heldValue l 1) 0 (drop 1 l) 0 (a .ahead .rises) (omega arith))
 
-module _ (level waits : Bool) (d : ℕ) (l old : List ℕ) where
+module _ (level : Bool) (d : ℕ) (l old : List ℕ) where
   pub delaying-begin : listFault l ≡ 0 → d ≤ M → lastDate l ≤ M
-      → (value : Bool) → value ≡ onLevel level (heldValue l 1) → (s : Timer) → s ≡ firstTimer waits d value
+      → (value : Bool) → value ≡ onLevel level (heldValue l 1) → (s : Timer) → s ≡ firstTimer level d value
       → (shown : Bool) → shown ≡ onLevel level (s .level) → (slot : List ℕ) → slot ≡ set old 0 (num shown) → (made : Made)
       → made ≡ begun shown
-      → (date : ℕ) → date ≡ upcomingDate l 1 s → Delaying level waits d l old slot 1 s made date
+      → (date : ℕ) → date ≡ upcomingDate l 1 s → Delaying level d l old slot 1 s made date
   unfolding delayOf
   delaying-begin accepted short early value ve s se shown he slot le made me date de =
       record {
@@ -90,28 +90,28 @@ module _ (level waits : Bool) (d : ℕ) (l old : List ℕ) where
         early = early;
         k = 0;
         within = omega arith;
-        scanning = rw (le, me) (scanning-begin (delayOf level waits d (signalOf l)) (lastDate l + d) old shown shows);
+        scanning = rw (le, me) (scanning-begin (delayOf level d (signalOf l)) (lastDate l + d) old shown shows);
         at = accepted-start l accepted;
         timed = timed;
         date-is = de;
       }
     where
-      timed : Timed (levelOf level (signalOf l)) (delayed waits d (levelOf level (signalOf l))) (lastDate l + d) s 0
+      timed : Timed (levelOf level (signalOf l)) (delayed level d (levelOf level (signalOf l))) (lastDate l + d) s 0
       timed =
           subst
-          (λ (x : Timer). Timed (levelOf level (signalOf l)) (delayed waits d (levelOf level (signalOf l))) (lastDate l + d) x 0)
+          (λ (x : Timer). Timed (levelOf level (signalOf l)) (delayed level d (levelOf level (signalOf l))) (lastDate l + d) x 0)
           (sym se)
-          (timed-first waits d (levelOf level (signalOf l)) (lastDate l + d) short (omega arith) value
+          (timed-first level d (levelOf level (signalOf l)) (lastDate l + d) short (omega arith) value
           (first-value level l accepted ∙ sym ve))
 
-      shows : shown ≡ delayOf level waits d (signalOf l) 0
+      shows : shown ≡ delayOf level d (signalOf l) 0
       shows =
           he
           ∙ ap (onLevel level)
-          (sym (timed-value (levelOf level (signalOf l)) (delayed waits d (levelOf level (signalOf l))) (lastDate l + d)
-          (delayed-down waits d (levelOf level (signalOf l))) s 0 timed))
+          (sym (timed-value (levelOf level (signalOf l)) (delayed level d (levelOf level (signalOf l))) (lastDate l + d)
+          (delayed-down level d (levelOf level (signalOf l))) s 0 timed))
 
-  module _ (slot : List ℕ) (passed : ℕ) (s : Timer) (made : Made) (date : ℕ) (i : Delaying level waits d l old slot passed s made date)
+  module _ (slot : List ℕ) (passed : ℕ) (s : Timer) (made : Made) (date : ℕ) (i : Delaying level d l old slot passed s made date)
     where
       pub next : Upcoming l passed s (i .k) (lastDate l + d) date
       next =
@@ -121,7 +121,7 @@ module _ (level waits : Bool) (d : ℕ) (l old : List ℕ) where
           (upcoming-is
           (signalOf l)
           (levelOf level (signalOf l))
-          (delayed waits d (levelOf level (signalOf l)))
+          (delayed level d (levelOf level (signalOf l)))
           l
           passed
           (i .k)
@@ -135,10 +135,10 @@ module _ (level waits : Bool) (d : ℕ) (l old : List ℕ) where
           (omega (arith, i .early, i .short)))
 
       -- no word is left and nothing is pending: the answer is whole
-      pub delaying-done : NEVER ≤ date → Built (exactOfDelay (delayOf level waits d) d l) old slot made
+      pub delaying-done : NEVER ≤ date → Built (exactOfDelay (delayOf level d) d l) old slot made
       unfolding exactOfDelay delayOf levelOf
       delaying-done h =
-          scanning-done (delayOf level waits d (signalOf l)) (lastDate l + d) old (i .k) slot made (i .scanning) still
+          scanning-done (delayOf level d (signalOf l)) (lastDate l + d) old (i .k) slot made (i .scanning) still
         where
           none : (length l ≤ passed) × Down (s .waiting)
           none = next .none h
@@ -147,11 +147,11 @@ module _ (level waits : Bool) (d : ℕ) (l old : List ℕ) where
           stands t le = ap (onLevel level) (at-end (signalOf l) l passed (i .k) (i .at) (none .0) t le)
 
           timed : (t : ℕ) → gap (i .k) ≤ t
-              → Timed (levelOf level (signalOf l)) (delayed waits d (levelOf level (signalOf l))) (lastDate l + d) s t
+              → Timed (levelOf level (signalOf l)) (delayed level d (levelOf level (signalOf l))) (lastDate l + d) s t
           timed t le =
               timed-still
               (levelOf level (signalOf l))
-              (delayed waits d (levelOf level (signalOf l)))
+              (delayed level d (levelOf level (signalOf l)))
               (lastDate l + d)
               s
               (gap (i .k))
@@ -161,12 +161,12 @@ module _ (level waits : Bool) (d : ℕ) (l old : List ℕ) where
               (λ w. not-both w (none .1))
               (i .timed)
 
-          value : (t : ℕ) → gap (i .k) ≤ t → delayed waits d (levelOf level (signalOf l)) t ≡ s .level
+          value : (t : ℕ) → gap (i .k) ≤ t → delayed level d (levelOf level (signalOf l)) t ≡ s .level
           value t le =
-              timed-value (levelOf level (signalOf l)) (delayed waits d (levelOf level (signalOf l))) (lastDate l + d)
-              (delayed-down waits d (levelOf level (signalOf l))) s t (timed t le)
+              timed-value (levelOf level (signalOf l)) (delayed level d (levelOf level (signalOf l))) (lastDate l + d)
+              (delayed-down level d (levelOf level (signalOf l))) s t (timed t le)
 
-          still : (t : ℕ) → gap (i .k) ≤ t → delayOf level waits d (signalOf l) t ≡ delayOf level waits d (signalOf l) (gap (i .k))
+          still : (t : ℕ) → gap (i .k) ≤ t → delayOf level d (signalOf l) t ≡ delayOf level d (signalOf l) (gap (i .k))
           still t le = ap (onLevel level) (value t le ∙ sym (value (gap (i .k)) (omega arith)))
 
       -- one turn: the date's word is passed, the delay follows, and what it shows is put into the slot
@@ -176,7 +176,7 @@ module _ (level waits : Bool) (d : ℕ) (l old : List ℕ) where
           → (x : Bool) → x ≡ onLevel level (s1 .level) → (y : Bool) → y ≡ onLevel level (s2 .level)
           → (slot' : List ℕ) → slot' ≡ emittedIn slot made date x y → (made' : Made) → made' ≡ emitted made date x y
           → (date' : ℕ) → date' ≡ upcomingDate l (step .passed) s2
-          → (j : Delaying level waits d l old slot' (step .passed) s2 made' date') × (j .k ≡ date)
+          → (j : Delaying level d l old slot' (step .passed) s2 made' date') × (j .k ≡ date)
       delaying-turn h step e0 a e1 s1 e2 b e3 s2 e4 x e5 y e6 slot' e7 made' e8 date' e9 = (
         record {
           accepted = i .accepted;
@@ -186,7 +186,7 @@ module _ (level waits : Bool) (d : ℕ) (l old : List ℕ) where
           within = next .within h;
           scanning =
               rw (e7, e8, e5, e6)
-              (scanning-emit (delayOf level waits d (signalOf l)) (lastDate l + d) old (i .k) date (onLevel level (s .level))
+              (scanning-emit (delayOf level d (signalOf l)) (lastDate l + d) old (i .k) date (onLevel level (s .level))
               (onLevel level (s1 .level)) (onLevel level (s2 .level)) slot made (i .scanning) out (next .within h)
               (omega (arith, i .early, i .short)));
           at = rw e0 (pass .on);
@@ -205,19 +205,18 @@ module _ (level waits : Bool) (d : ℕ) (l old : List ℕ) where
               (e1, e3, e0)
               (held-on level (signalOf l) (i .k) date (heldValue l passed) (atDate l passed date) (afterDate l passed date) (pass .held))
 
-          timed : Timed (levelOf level (signalOf l)) (delayed waits d (levelOf level (signalOf l))) (lastDate l + d) s2 (gap date)
+          timed : Timed (levelOf level (signalOf l)) (delayed level d (levelOf level (signalOf l))) (lastDate l + d) s2 (gap date)
           timed =
               rw
               (e4, e2)
-              (timed-after waits d (levelOf level (signalOf l)) (lastDate l) (lastDate l + d) (i .short) (i .early) (omega arith)
+              (timed-after level d (levelOf level (signalOf l)) (lastDate l) (lastDate l + d) (i .short) (i .early) (omega arith)
               (level-settled level l (i .accepted)) s (i .k) date (onLevel level (heldValue l passed)) a b inward (next .by-due) (i .timed))
 
-          out : Held (delayOf level waits d (signalOf l)) (i .k) date (onLevel level (s .level)) (onLevel level (s1 .level))
+          out : Held (delayOf level d (signalOf l)) (i .k) date (onLevel level (s .level)) (onLevel level (s1 .level))
               (onLevel level (s2 .level))
           out =
               held-out
               level
-              waits
               d
               (signalOf l)
               (i .k)
@@ -227,7 +226,7 @@ module _ (level waits : Bool) (d : ℕ) (l old : List ℕ) where
               (s2 .level)
               (rw
               (e4, e2)
-              (delay-held waits d (levelOf level (signalOf l)) (lastDate l) (lastDate l + d) (i .short) (i .early) (omega arith)
+              (delay-held level d (levelOf level (signalOf l)) (lastDate l) (lastDate l + d) (i .short) (i .early) (omega arith)
               (level-settled level l (i .accepted)) s (i .k) date (onLevel level (heldValue l passed)) a b inward (next .by-due)
               (i .timed)))
 
@@ -235,10 +234,10 @@ module _ (level waits : Bool) (d : ℕ) (l old : List ℕ) where
 pub first-word : (entry slot : List ℕ) (x : ℕ) → slot ≡ set entry 0 x → slot ≡ set slot 0 x
 first-word entry slot x e = e ∙ sym (ap (λ (l : List ℕ). set l 0 x) e ∙ set-set entry 0 x x)
 
-pub delaying-end : (level waits : Bool) (d : ℕ) (l entry start slot : List ℕ) (x passed : ℕ) (s : Timer) (made : Made) (date : ℕ)
-    → start ≡ set entry 0 x → Delaying level waits d l start slot passed s made date → NEVER ≤ date
-    → Built (exactOfDelay (delayOf level waits d) d l) entry slot made
+pub delaying-end : (level : Bool) (d : ℕ) (l entry start slot : List ℕ) (x passed : ℕ) (s : Timer) (made : Made) (date : ℕ)
+    → start ≡ set entry 0 x → Delaying level d l start slot passed s made date → NEVER ≤ date
+    → Built (exactOfDelay (delayOf level d) d l) entry slot made
 unfolding exactOfDelay
-delaying-end level waits d l entry start slot x passed s made date e i h =
-    built-over (delayOf level waits d (signalOf l)) (lastDate l + d) entry slot made x
-    (rw e at (delaying-done level waits d l start slot passed s made date i h))
+delaying-end level d l entry start slot x passed s made date e i h =
+    built-over (delayOf level d (signalOf l)) (lastDate l + d) entry slot made x
+    (rw e at (delaying-done level d l start slot passed s made date i h))

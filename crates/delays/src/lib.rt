@@ -34,15 +34,15 @@ fn upcoming(words: &[u32], passed: usize, timer: Timer) -> Date
 }
 
 // The delay of one level of an accepted list, built in a slot.
-fn run(level: bool, waits: bool, d: Length, words: &[u32], slot: &mut [u32]) -> Made
+fn run(level: bool, d: Length, words: &[u32], slot: &mut [u32]) -> Made
     requires { ⌜ (listFault (now words) ≡ 0) × (d .0 ≤ M) ⌝ }
     ensures { λ r.
-        ⌜ Built (exactOfDelay (delayOf level waits (d .0)) (d .0) (now (words .entry))) (now (slot .entry)) (now (slot .exit)) r ⌝ }
+        ⌜ Built (exactOfDelay (delayOf level (d .0)) (d .0) (now (words .entry))) (now (slot .entry)) (now (slot .exit)) r ⌝ }
 {
     let mut passed: usize = 1;
     let mut timer = timing::first(
         d,
-        waits,
+        level,
         timing::on_level(level, reading::held_value(words, 1)),
     );
     let mut made = building::begin(slot, timing::on_level(level, timer.level));
@@ -81,21 +81,21 @@ fn delay_fault(d: Length, words: &[u32]) -> u32
 }
 
 // A delay of a list that is judged first, its answer delivered to an output.
-fn delay(level: bool, waits: bool, d: Length, f: &[u32], out: &mut [u32]) -> Written
-    ensures { λ r. ⌜ CallOfDelay (delayOf level waits (d .0)) (d .0) (now (f .entry)) (now (out .entry)) r (now (out .exit)) ⌝ }
+fn delay(level: bool, d: Length, f: &[u32], out: &mut [u32]) -> Written
+    ensures { λ r. ⌜ CallOfDelay (delayOf level (d .0)) (d .0) (now (f .entry)) (now (out .entry)) r (now (out .exit)) ⌝ }
 {
     let fault = delay_fault(d, f);
     if fault != 0 {
         return Written::Refused(fault);
     }
     let mut slot = [0u32; WORDS];
-    let made = run(level, waits, d, f, &mut slot);
+    let made = run(level, d, f, &mut slot);
     building::deliver(&slot, made, out)
 }
 
 // The same in a slot of 256 words or more that the evaluator lends: no entry point, since the slot is scratch.
-pub fn delay_in(level: bool, waits: bool, d: Length, f: &[u32], slot: &mut [u32]) -> SlotAnswer
-    ensures { λ r. ⌜ SlotOfDelay (delayOf level waits (d .0)) (d .0) (now (f .entry)) (now (slot .entry)) r (now (slot .exit)) ⌝ }
+pub fn delay_in(level: bool, d: Length, f: &[u32], slot: &mut [u32]) -> SlotAnswer
+    ensures { λ r. ⌜ SlotOfDelay (delayOf level (d .0)) (d .0) (now (f .entry)) (now (slot .entry)) r (now (slot .exit)) ⌝ }
 {
     let fault = delay_fault(d, f);
     if fault != 0 {
@@ -104,7 +104,7 @@ pub fn delay_in(level: bool, waits: bool, d: Length, f: &[u32], slot: &mut [u32]
     if slot.len() < WORDS {
         return SlotAnswer::NotBegun;
     }
-    let made = run(level, waits, d, f, slot);
+    let made = run(level, d, f, slot);
     building::finish(made)
 }
 
@@ -112,12 +112,12 @@ pub fn delay_in(level: bool, waits: bool, d: Length, f: &[u32], slot: &mut [u32]
 pub fn ton(d: Length, f: &[u32], out: &mut [u32]) -> Written
     ensures { λ r. ⌜ CallOfDelay (TON (d .0)) (d .0) (now (f .entry)) (now (out .entry)) r (now (out .exit)) ⌝ }
 {
-    delay(true, true, d, f, out)
+    delay(true, d, f, out)
 }
 
 // TOF(d,f), the off-delay: faults list, 8, 5, 6, 7. The engine follows the level down, and a run from gap 0 on does not wait.
 pub fn tof(d: Length, f: &[u32], out: &mut [u32]) -> Written
     ensures { λ r. ⌜ CallOfDelay (TOF (d .0)) (d .0) (now (f .entry)) (now (out .entry)) r (now (out .exit)) ⌝ }
 {
-    delay(false, false, d, f, out)
+    delay(false, d, f, out)
 }

@@ -77,8 +77,8 @@ fn operation_in(
         17 => merging::operate_in(Operation::Falling, invert, a, &none, out),
         18 => merging::operate_in(Operation::SetWins, invert, a, b, out),
         19 => merging::operate_in(Operation::ResetWins, invert, a, b, out),
-        20 => delays::delay_in(true, true, Length(d), b, out),
-        21 => delays::delay_in(false, false, Length(d), b, out),
+        20 => delays::delay_in(true, Length(d), b, out),
+        21 => delays::delay_in(false, Length(d), b, out),
         _ => merging::operate_in(Operation::Connective, t, b, c, out),
     }
 }

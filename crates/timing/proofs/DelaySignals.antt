@@ -95,7 +95,7 @@ pub run-up : (g E : Signal) (from m : ℕ) → from ≤ m → Run g E from m →
 run-up g E from m l run n h up = run n h up ∙ le-leb from n (omega arith) ∙ sym (le-leb m n h)
 
 -- TON is the delay of the level up that waits from gap 0
-pub ton-delay : (d : ℕ) → TON d ≡ delayOf true true d
+pub ton-delay : (d : ℕ) → TON d ≡ delayOf true d
 unfolding TON delayOf delayed throughout levelOf
 ton-delay d = refl
 
@@ -121,6 +121,6 @@ tof-dual d f t = bool-ext (TOF d f t) (not (delayed false d (NOT f) t)) there ba
             (λ w. not-both w refl, λ t1 i. not-of (down-of (f t1) (λ v. not-both (TOF-of d f t (t1, i, v)) e))))
             (not-up (delayed false d (NOT f) t) u)
 
-pub tof-delay : (d : ℕ) → TOF d ≡ delayOf false false d
+pub tof-delay : (d : ℕ) → TOF d ≡ delayOf false d
 unfolding delayOf levelOf NOT
 tof-delay d = fun-ext (λ f. fun-ext (λ t. tof-dual d f t))

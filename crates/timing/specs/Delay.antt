@@ -55,9 +55,10 @@ throughout d f t = every (λ t1. implied (fromTo d t t1) (f t1)) t
 unfoldable pub delayed : Bool → ℕ → Signal → Signal
 delayed waits d f t = (not waits || started d t) && throughout d f t
 
--- one level of a signal as a signal; the delay of one level: TON of the level up, TOF of the level down without the wait
+-- one level of a signal as a signal; the delay of one level: TON of the level up, which waits from gap 0, TOF of the level down, which
+-- does not
 unfoldable pub levelOf : Bool → Signal → Signal
 levelOf level f t = onLevel level (f t)
 
-unfoldable pub delayOf : Bool → Bool → ℕ → Signal → Signal
-delayOf level waits d f t = onLevel level (delayed waits d (levelOf level f) t)
+unfoldable pub delayOf : Bool → ℕ → Signal → Signal
+delayOf level d f t = onLevel level (delayed level d (levelOf level f) t)

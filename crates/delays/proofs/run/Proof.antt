@@ -12,11 +12,11 @@ use Rattle.delays.proofs.run.Statement.{statement}
 use Rattle.delays.proofs.run.Tie as tie
 
 abbrev Inv-loop : tie.InvT-loop
-Inv-loop level waits d words slot₀ passed₀ timer₀ made₀ date₀ slot passed timer made date =
-    (length slot ≡ length slot₀) × Delaying level waits (d .0) words slot₀ slot passed timer made (date .0)
+Inv-loop level d words slot₀ passed₀ timer₀ made₀ date₀ slot passed timer made date =
+    (length slot ≡ length slot₀) × Delaying level (d .0) words slot₀ slot passed timer made (date .0)
 
 abbrev μ-loop : tie.MeasureT-loop
-μ-loop level waits d words slot₀ passed₀ timer₀ made₀ date₀ slot passed timer made date = NEVER - date .0
+μ-loop level d words slot₀ passed₀ timer₀ made₀ date₀ slot passed timer made date = NEVER - date .0
 
 held-value-requires : tie.Need-held-value-requires Inv-loop μ-loop
 held-value-requires c κs = search needs
@@ -39,7 +39,7 @@ upcoming-requires c κs = search needs
 loop-holds : tie.Need-loop-holds Inv-loop μ-loop
 loop-holds c = (
   refl,
-  delaying-begin _ _ _ _ _ (c .before .before .before .before .before .before .before .before .before .before .before .pre .0)
+  delaying-begin _ _ _ _ (c .before .before .before .before .before .before .before .before .before .before .before .pre .0)
       (c .before .before .before .before .before .before .before .before .before .before .before .pre .1)
       (last-32 _
       (λ i u. c .before .before .before .before .before .before .before .before .before .before .shared-slice-known .given i .fits)) _
@@ -81,7 +81,7 @@ upcoming-requires-2 c κs = search needs
 loop-less : tie.Need-loop-less Inv-loop μ-loop
 loop-less c =
     let turn =
-    delaying-turn _ _ _ _ _ _ _ _ _ _
+    delaying-turn _ _ _ _ _ _ _ _ _
     (c .before .before .before .before .before .before .before .before .before .before .before .before .before .before .loop .inv .1)
     (c .before .before .before .before .before .before .before .before .before .before .before .before .if1 .taken) _
     (c .before .before .before .before .before .before .before .before .before .before .before .past .ensures) _
@@ -93,7 +93,7 @@ loop-less c =
     (c .before .before .before .emit .ensures .1) _ (c .before .before .before .emit .ensures .0) _ (c .upcoming2 .ensures) in
     omega (
       arith,
-      next _ _ _ _ _ _ _ _ _ _ (turn .0) .later,
+      next _ _ _ _ _ _ _ _ _ (turn .0) .later,
       turn .1,
       c .before .before .before .before .before .before .before .before .before .before .before .before .if1 .taken,
     )
@@ -102,7 +102,7 @@ loop-again : tie.Need-loop-again Inv-loop μ-loop
 loop-again c = (
   c .before .before .before .emit .kept .0 ∙
       c .before .before .before .before .before .before .before .before .before .before .before .before .before .before .loop .inv .0,
-  (delaying-turn _ _ _ _ _ _ _ _ _ _
+  (delaying-turn _ _ _ _ _ _ _ _ _
       (c .before .before .before .before .before .before .before .before .before .before .before .before .before .before .loop .inv .1)
       (c .before .before .before .before .before .before .before .before .before .before .before .before .if1 .taken) _
       (c .before .before .before .before .before .before .before .before .before .before .before .past .ensures) _
@@ -119,7 +119,7 @@ same-length c = c .before .before .loop .inv .0 ∙ c .before .before .before .b
 
 returns : tie.Need-returns Inv-loop μ-loop
 returns c =
-    delaying-end _ _ _ _ _ _ _ _ _ _ _ _ (c .before .before .before .before .before .before .begin .ensures .1)
+    delaying-end _ _ _ _ _ _ _ _ _ _ _ (c .before .before .before .before .before .before .begin .ensures .1)
     (c .before .before .loop .inv .1) (c .if1 .left)
 
 pub run-spec : {M : Type 1} → statement M
