@@ -17,7 +17,7 @@ ghost use Rattle.calls.specs.Calls.{workWords, partsFault, workingFault, wordsO
 ghost use Rattle.calls.specs.Work.{CallOfFormula, CallOfClaim};
 ghost use Rattle.code_words.specs.CodeWords.{operandsOf};
 ghost use Rattle.machine.specs.Machine.{leafOf, leafKnown, Known, Loaded, Room, Ready, Steps, Plan, partsIn, WorkedOut};
-ghost use Rattle.machine.specs.Machine.{partFound, allFound, Prepared, Coded, runFault, judgeFault, InSlot, ClaimOn};
+ghost use Rattle.machine.specs.Machine.{Coded, runFault, judgeFault, InSlot, ClaimOn};
 use machine::Next;
 use signals::Verdict;
 use signals::Written;
@@ -173,7 +173,7 @@ fn step(
 fn work_out(
     sheet: &[u8],
     text: &[u8],
-    codes: &[u64],
+    codes: &[u64; 32],
     n: usize,
     work: &mut [u32],
     base: usize,
@@ -211,57 +211,11 @@ fn work_out(
     Written::Count(counts[0])
 }
 
-// The sheet has the part's name, if it is one.
-fn found(sheet: &[u8], text: &[u8], code: u64) -> bool
-    requires { ⌜ sheetFault (now sheet) ≡ 0 ⌝ }
-    ensures { λ r. ⌜ r ≡ partFound (now (sheet .entry)) (partOf (now (text .entry)) code) ⌝ }
-{
-    if code % 16 == marks::kind::NAME {
-        let name = code_words::name_in(text, code);
-        return lookups::lookup_fault(sheet, name) == 0;
-    }
-    true
-}
-
-// The sheet has the names of all the parts.
-fn names_found(sheet: &[u8], text: &[u8], codes: &[u64], n: usize) -> bool
-    requires { ⌜ (n ≤ length (now codes)) × (sheetFault (now sheet) ≡ 0) ⌝ }
-    ensures { λ r. ⌜ r ≡ allFound (now (sheet .entry)) (partsIn (now (text .entry)) (now (codes .entry)) n) ⌝ }
-{
-    let mut i: usize = 0;
-    while i < n {
-        if found(sheet, text, codes[i]) {
-            i += 1;
-        } else {
-            return false;
-        }
-    }
-    true
-}
-
-// A formula read for a sheet: 10, 11, 8, 12, 13, or how many code words stand for its parts.
-fn prepare(sheet: &[u8], text: &[u8], codes: &mut [u64; 32]) -> Written
-    requires { ⌜ (length (now codes) ≡ 32) × (sheetFault (now sheet) ≡ 0) ⌝ }
-    ensures { λ r. ⌜ Prepared (now (sheet .entry)) (now (text .entry)) (now (codes .exit)) r × (length (now (codes .exit)) ≡ 32) ⌝ }
-{
-    let answer = formulas::read(text, codes);
-    match answer {
-        Written::Count(n) => {
-            if names_found(sheet, text, codes, n) {
-                Written::Count(n)
-            } else {
-                Written::Refused(13)
-            }
-        }
-        Written::Refused(fault) => Written::Refused(fault),
-    }
-}
-
 // A formula whose code words are read, worked out in a work area that is long enough.
 fn run_formula(
     sheet: &[u8],
     text: &[u8],
-    codes: &[u64],
+    codes: &[u64; 32],
     n: usize,
     work: &mut [u32],
     out: &mut [u32],
@@ -284,12 +238,8 @@ pub fn evaluate(sheet: &[u8], formula: &[u8], work: &mut [u32], out: &mut [u32])
     ensures { λ r. ⌜ CallOfFormula (now (sheet .entry)) (now (formula .entry)) (now (work .entry)) (now (out .entry))
         r (now (out .exit)) (now (work .exit)) ⌝ }
 {
-    let fault = sheets::sheet_fault(sheet);
-    if fault != 0 {
-        return Written::Refused(fault);
-    }
     let mut codes = [0u64; 32];
-    let parts = prepare(sheet, formula, &mut codes);
+    let parts = preparing::judge_and_prepare(sheet, formula, &mut codes);
     match parts {
         Written::Count(n) => {
             if work.len() < WORK_WORDS {
@@ -306,7 +256,7 @@ fn compare(
     sheet: &[u8],
     f_count: usize,
     g: &[u8],
-    codes: &[u64],
+    codes: &[u64; 32],
     n: usize,
     work: &mut [u32],
 ) -> Verdict
@@ -331,10 +281,10 @@ fn compare(
 fn judge(
     sheet: &[u8],
     f: &[u8],
-    f_codes: &[u64],
+    f_codes: &[u64; 32],
     f_n: usize,
     g: &[u8],
-    g_codes: &[u64],
+    g_codes: &[u64; 32],
     g_n: usize,
     work: &mut [u32],
 ) -> Verdict
@@ -354,7 +304,7 @@ fn judge(
 fn claim_on(
     sheet: &[u8],
     f: &[u8],
-    f_codes: &[u64],
+    f_codes: &[u64; 32],
     f_n: usize,
     g: &[u8],
     work: &mut [u32],
@@ -363,7 +313,7 @@ fn claim_on(
     ensures { λ r. ⌜ ClaimOn (now (sheet .entry)) (now (f .entry)) (now (g .entry)) (now (work .entry)) r (now (work .exit)) ⌝ }
 {
     let mut g_codes = [0u64; 32];
-    let parts = prepare(sheet, g, &mut g_codes);
+    let parts = preparing::prepare(sheet, g, &mut g_codes);
     match parts {
         Written::Count(g_n) => {
             if work.len() < WORK_WORDS {
@@ -379,12 +329,8 @@ fn claim_on(
 pub fn claim(sheet: &[u8], f: &[u8], g: &[u8], work: &mut [u32]) -> Verdict
     ensures { λ r. ⌜ CallOfClaim (now (sheet .entry)) (now (f .entry)) (now (g .entry)) (now (work .entry)) r (now (work .exit)) ⌝ }
 {
-    let fault = sheets::sheet_fault(sheet);
-    if fault != 0 {
-        return Verdict::Refused(fault);
-    }
     let mut f_codes = [0u64; 32];
-    let parts = prepare(sheet, f, &mut f_codes);
+    let parts = preparing::judge_and_prepare(sheet, f, &mut f_codes);
     match parts {
         Written::Count(f_n) => claim_on(sheet, f, &f_codes, f_n, g, work),
         Written::Refused(refusal) => Verdict::Refused(refusal),
