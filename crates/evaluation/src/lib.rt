@@ -17,7 +17,7 @@ ghost use Rattle.calls.specs.Calls.{workWords, partsFault, workingFault, wordsO
 ghost use Rattle.calls.specs.Work.{CallOfFormula, CallOfClaim};
 ghost use Rattle.code_words.specs.CodeWords.{operandsOf};
 ghost use Rattle.machine.specs.Machine.{leafOf, leafKnown, Known, Loaded, Room, Ready, Steps, Plan, partsIn, WorkedOut};
-ghost use Rattle.machine.specs.Machine.{Coded, runFault, judgeFault, InSlot, ClaimOn};
+ghost use Rattle.machine.specs.Machine.{nextOf, placedIn, Fits, Coded, runFault, judgeFault, InSlot, ClaimOn};
 use machine::Next;
 use signals::Verdict;
 use signals::Written;
@@ -104,13 +104,35 @@ fn push_leaf(
     }
 }
 
+// What a part's answer makes of the stack, which is then so high: its list, if it has one, put into the work area at a place.
+fn place(work: &mut [u32], at: usize, words: &[u32], answer: Written, height: usize) -> Next
+    requires { ⌜ Fits (now work) at (now words) answer ⌝ }
+    ensures { λ r. ⌜ (r ≡ nextOf height answer) × (now (work .exit) ≡ placedIn (now (work .entry)) at (now (words .entry)) answer) ⌝ }
+{
+    match answer {
+        Written::Count(count) => {
+            put_list(work, at, words, count);
+            Next {
+                fault: 0,
+                height,
+                count,
+            }
+        }
+        Written::Refused(fault) => Next {
+            fault,
+            height,
+            count: 0,
+        },
+    }
+}
+
 // A part with operands, so many: its list in the place of its first operand's.
 fn operate(
     code: u64,
     taken: usize,
     work: &mut [u32],
     buffer: &mut [u32],
-    counts: &[usize],
+    counts: &[usize; 32],
     height: usize,
     base: usize,
 ) -> Next
@@ -128,21 +150,7 @@ fn operate(
     let last = above + counts[second];
     let w = &work[..];
     let answer = applying::apply(code, &w[at..end], &w[above..last], buffer);
-    match answer {
-        Written::Count(count) => {
-            put_list(work, at, buffer, count);
-            Next {
-                fault: 0,
-                height: first + 1,
-                count,
-            }
-        }
-        Written::Refused(fault) => Next {
-            fault,
-            height: first + 1,
-            count: 0,
-        },
-    }
+    place(work, at, buffer, answer, first + 1)
 }
 
 // One part worked out, by the number of its operands.
@@ -152,7 +160,7 @@ fn step(
     code: u64,
     work: &mut [u32],
     buffer: &mut [u32],
-    counts: &[usize],
+    counts: &[usize; 32],
     height: usize,
     base: usize,
 ) -> Next

@@ -8,6 +8,7 @@ use lib.ListN.{length, take, drop, getD, set}
 use lib.Seq.{paste}
 use Rattle.signals.specs.Answers.{writtenOf, verdictFor}
 use Rattle.signals.specs.declared.Written.{Written}
+use Rattle.signals.specs.declared.Written.the-variants.{Count, Refused}
 use Rattle.signals.specs.declared.Verdict.{Verdict}
 use Rattle.signals.specs.Moment.{M}
 use Rattle.signals.specs.Words.{mostWords, listFault}
@@ -80,6 +81,20 @@ pub record Stepped (sheet before work counts : List ℕ) (base : ℕ) (p : Part)
   -- the slots below base are as they were
   pub kept : take (mostWords * base) work ≡ take (mostWords * base) before
   pub stacked : next .fault ≡ 0 → Stacked sheet work (set counts (next .height - 1) (next .count)) base (worked p st)
+
+-- what a step's answer says of the part's answer, and the work area with its list put there
+abbrev pub nextOf : ℕ → Written → Next
+nextOf height (Count n) = record { fault = 0; height = height; count = n }
+nextOf height (Refused f) = record { fault = f; height = height; count = 0 }
+
+abbrev pub placedIn : List ℕ → ℕ → List ℕ → Written → List ℕ
+placedIn work at words (Count n) = paste work at words n
+placedIn work at words (Refused f) = work
+
+-- the list fits
+abbrev pub Fits : List ℕ → ℕ → List ℕ → Written → Type 0
+Fits work at words (Count n) = (at + n ≤ length work) × (n ≤ length words)
+Fits work at words (Refused f) = Unit {0}
 
 -- the trees that parts make, one after the other
 unfoldable pub trace : List Part → List Tree → List Tree

@@ -41,9 +41,6 @@ element-copy-out-step c = search needs
 slice-aggregate-step : tie.Need-slice-aggregate-step Inv-loop μ-loop
 slice-aggregate-step c = search needs
 
-slice-aggregate-step-2 : tie.Need-slice-aggregate-step-2 Inv-loop μ-loop
-slice-aggregate-step-2 c = search needs
-
 step-requires : tie.Need-step-requires Inv-loop μ-loop
 step-requires c κs =
     let at = c .before .before .before .before .before .loop in (
@@ -139,8 +136,8 @@ loop-again c =
       ),
     )
 
-array-read-t29 : tie.Need-array-read-t29 Inv-loop μ-loop
-array-read-t29 c = search needs
+array-read-t28 : tie.Need-array-read-t28 Inv-loop μ-loop
+array-read-t28 c = search needs
 
 same-length-2 : tie.Need-same-length-2 Inv-loop μ-loop
 same-length-2 c = c .before .loop .inv .0
@@ -159,7 +156,6 @@ work-out-spec =
     mul-step
     element-copy-out-step
     slice-aggregate-step
-    slice-aggregate-step-2
     step-requires
     same-length
     returns
@@ -169,6 +165,6 @@ work-out-spec =
     add-i
     loop-less
     loop-again
-    array-read-t29
+    array-read-t28
     same-length-2
     returns-2)
