@@ -17,7 +17,7 @@ ghost use Rattle.calls.specs.Calls.{workWords, partsFault, workingFault, wordsO
 ghost use Rattle.calls.specs.Work.{CallOfFormula, CallOfClaim};
 ghost use Rattle.code_words.specs.CodeWords.{operandsOf};
 ghost use Rattle.machine.specs.Machine.{leafOf, leafKnown, Known, Loaded, Room, Ready, Steps, Plan, partsIn, WorkedOut};
-ghost use Rattle.machine.specs.Machine.{partFound, allFound, Prepared, Coded, runFault, judgeFault, InSlot, ClaimOn};
+ghost use Rattle.machine.specs.Machine.{nextOf, placedIn, Fits, Coded, runFault, judgeFault, InSlot, ClaimOn};
 use machine::Next;
 use signals::Verdict;
 use signals::Written;
@@ -104,13 +104,35 @@ fn push_leaf(
     }
 }
 
+// What a part's answer makes of the stack, which is then so high: its list, if it has one, put into the work area at a place.
+fn place(work: &mut [u32], at: usize, words: &[u32], answer: Written, height: usize) -> Next
+    requires { ⌜ Fits (now work) at (now words) answer ⌝ }
+    ensures { λ r. ⌜ (r ≡ nextOf height answer) × (now (work .exit) ≡ placedIn (now (work .entry)) at (now (words .entry)) answer) ⌝ }
+{
+    match answer {
+        Written::Count(count) => {
+            put_list(work, at, words, count);
+            Next {
+                fault: 0,
+                height,
+                count,
+            }
+        }
+        Written::Refused(fault) => Next {
+            fault,
+            height,
+            count: 0,
+        },
+    }
+}
+
 // A part with operands, so many: its list in the place of its first operand's.
 fn operate(
     code: u64,
     taken: usize,
     work: &mut [u32],
     buffer: &mut [u32],
-    counts: &[usize],
+    counts: &[usize; 32],
     height: usize,
     base: usize,
 ) -> Next
@@ -128,21 +150,7 @@ fn operate(
     let last = above + counts[second];
     let w = &work[..];
     let answer = applying::apply(code, &w[at..end], &w[above..last], buffer);
-    match answer {
-        Written::Count(count) => {
-            put_list(work, at, buffer, count);
-            Next {
-                fault: 0,
-                height: first + 1,
-                count,
-            }
-        }
-        Written::Refused(fault) => Next {
-            fault,
-            height: first + 1,
-            count: 0,
-        },
-    }
+    place(work, at, buffer, answer, first + 1)
 }
 
 // One part worked out, by the number of its operands.
@@ -152,7 +160,7 @@ fn step(
     code: u64,
     work: &mut [u32],
     buffer: &mut [u32],
-    counts: &[usize],
+    counts: &[usize; 32],
     height: usize,
     base: usize,
 ) -> Next
@@ -173,7 +181,7 @@ fn step(
 fn work_out(
     sheet: &[u8],
     text: &[u8],
-    codes: &[u64],
+    codes: &[u64; 32],
     n: usize,
     work: &mut [u32],
     base: usize,
@@ -211,57 +219,11 @@ fn work_out(
     Written::Count(counts[0])
 }
 
-// The sheet has the part's name, if it is one.
-fn found(sheet: &[u8], text: &[u8], code: u64) -> bool
-    requires { ⌜ sheetFault (now sheet) ≡ 0 ⌝ }
-    ensures { λ r. ⌜ r ≡ partFound (now (sheet .entry)) (partOf (now (text .entry)) code) ⌝ }
-{
-    if code % 16 == marks::kind::NAME {
-        let name = code_words::name_in(text, code);
-        return lookups::lookup_fault(sheet, name) == 0;
-    }
-    true
-}
-
-// The sheet has the names of all the parts.
-fn names_found(sheet: &[u8], text: &[u8], codes: &[u64], n: usize) -> bool
-    requires { ⌜ (n ≤ length (now codes)) × (sheetFault (now sheet) ≡ 0) ⌝ }
-    ensures { λ r. ⌜ r ≡ allFound (now (sheet .entry)) (partsIn (now (text .entry)) (now (codes .entry)) n) ⌝ }
-{
-    let mut i: usize = 0;
-    while i < n {
-        if found(sheet, text, codes[i]) {
-            i += 1;
-        } else {
-            return false;
-        }
-    }
-    true
-}
-
-// A formula read for a sheet: 10, 11, 8, 12, 13, or how many code words stand for its parts.
-fn prepare(sheet: &[u8], text: &[u8], codes: &mut [u64; 32]) -> Written
-    requires { ⌜ (length (now codes) ≡ 32) × (sheetFault (now sheet) ≡ 0) ⌝ }
-    ensures { λ r. ⌜ Prepared (now (sheet .entry)) (now (text .entry)) (now (codes .exit)) r × (length (now (codes .exit)) ≡ 32) ⌝ }
-{
-    let answer = formulas::read(text, codes);
-    match answer {
-        Written::Count(n) => {
-            if names_found(sheet, text, codes, n) {
-                Written::Count(n)
-            } else {
-                Written::Refused(13)
-            }
-        }
-        Written::Refused(fault) => Written::Refused(fault),
-    }
-}
-
 // A formula whose code words are read, worked out in a work area that is long enough.
 fn run_formula(
     sheet: &[u8],
     text: &[u8],
-    codes: &[u64],
+    codes: &[u64; 32],
     n: usize,
     work: &mut [u32],
     out: &mut [u32],
@@ -284,12 +246,8 @@ pub fn evaluate(sheet: &[u8], formula: &[u8], work: &mut [u32], out: &mut [u32])
     ensures { λ r. ⌜ CallOfFormula (now (sheet .entry)) (now (formula .entry)) (now (work .entry)) (now (out .entry))
         r (now (out .exit)) (now (work .exit)) ⌝ }
 {
-    let fault = sheets::sheet_fault(sheet);
-    if fault != 0 {
-        return Written::Refused(fault);
-    }
     let mut codes = [0u64; 32];
-    let parts = prepare(sheet, formula, &mut codes);
+    let parts = preparing::judge_and_prepare(sheet, formula, &mut codes);
     match parts {
         Written::Count(n) => {
             if work.len() < WORK_WORDS {
@@ -306,7 +264,7 @@ fn compare(
     sheet: &[u8],
     f_count: usize,
     g: &[u8],
-    codes: &[u64],
+    codes: &[u64; 32],
     n: usize,
     work: &mut [u32],
 ) -> Verdict
@@ -331,10 +289,10 @@ fn compare(
 fn judge(
     sheet: &[u8],
     f: &[u8],
-    f_codes: &[u64],
+    f_codes: &[u64; 32],
     f_n: usize,
     g: &[u8],
-    g_codes: &[u64],
+    g_codes: &[u64; 32],
     g_n: usize,
     work: &mut [u32],
 ) -> Verdict
@@ -354,7 +312,7 @@ fn judge(
 fn claim_on(
     sheet: &[u8],
     f: &[u8],
-    f_codes: &[u64],
+    f_codes: &[u64; 32],
     f_n: usize,
     g: &[u8],
     work: &mut [u32],
@@ -363,7 +321,7 @@ fn claim_on(
     ensures { λ r. ⌜ ClaimOn (now (sheet .entry)) (now (f .entry)) (now (g .entry)) (now (work .entry)) r (now (work .exit)) ⌝ }
 {
     let mut g_codes = [0u64; 32];
-    let parts = prepare(sheet, g, &mut g_codes);
+    let parts = preparing::prepare(sheet, g, &mut g_codes);
     match parts {
         Written::Count(g_n) => {
             if work.len() < WORK_WORDS {
@@ -379,12 +337,8 @@ fn claim_on(
 pub fn claim(sheet: &[u8], f: &[u8], g: &[u8], work: &mut [u32]) -> Verdict
     ensures { λ r. ⌜ CallOfClaim (now (sheet .entry)) (now (f .entry)) (now (g .entry)) (now (work .entry)) r (now (work .exit)) ⌝ }
 {
-    let fault = sheets::sheet_fault(sheet);
-    if fault != 0 {
-        return Verdict::Refused(fault);
-    }
     let mut f_codes = [0u64; 32];
-    let parts = prepare(sheet, f, &mut f_codes);
+    let parts = preparing::judge_and_prepare(sheet, f, &mut f_codes);
     match parts {
         Written::Count(f_n) => claim_on(sheet, f, &f_codes, f_n, g, work),
         Written::Refused(refusal) => Verdict::Refused(refusal),

@@ -1,7 +1,7 @@
 -- The formula call and the claim from their pieces: the faults in document 01's order, the words, the verdict.
 use Prim.Native.Nat.{ℕ, _≤_, _<_}
 use native.Mathlib.Omega.{arith}
-use mathlib.Core.Path.{_≡_, refl, sym, _∙_}
+use mathlib.Core.Path.{_≡_, refl, sym, _∙_, ap}
 use mathlib.Core.List.{List}
 use lib.ListN.{length, take}
 use Rattle.signals.specs.Answers.{writtenOf, outputOf}
@@ -9,19 +9,19 @@ use Rattle.signals.specs.declared.Written.{Written}
 use Rattle.signals.specs.declared.Written.the-variants as written
 use Rattle.building.specs.Building.{HandsOver}
 use Rattle.operations.proofs.JudgedCalls.{refused, passes-on}
-use Rattle.grammar.specs.Formula.{codeOf, formulaTree}
+use Rattle.grammar.specs.Formula.{formulaTree}
 use Rattle.format.specs.Reading.{sheetFault}
 use Rattle.calls.specs.OnSheet.{exactOn}
 use Rattle.calls.specs.Calls.{workWords, readingFault, workFault, neededWork, workingFault, wordsOn, callFault, callAnswer, callOutput}
 use Rattle.signals.specs.Words.{mostWords}
 use Rattle.operations.specs.Calls.{roomFault}
 use Rattle.calls.proofs.NotRefused.{work-ok, work-short}
-use Rattle.machine.specs.Machine.{WorkedOut, Prepared, Coded, runFault}
+use Rattle.machine.specs.Machine.{WorkedOut, runFault}
 use Rattle.calls.specs.Work.{firstFault}
 use Rattle.machine.proofs.Stepping.{counted, refused-by}
 use Rattle.machine.proofs.SlotFacts.{short}
 use Rattle.signals.specs.Answers.{firstOf}
-use Rattle.signals.proofs.FirstFault.{next-is}
+use Rattle.signals.proofs.FirstFault.{next-is, first-assoc}
 
 -- a formula that was worked out
 module _ (sheet text before after : List ℕ) (answer : Written) (w : WorkedOut sheet before after 0 (formulaTree text) answer) where
@@ -61,27 +61,6 @@ module _ (sheet text before after : List ℕ) (answer : Written) (w : WorkedOut 
         passes-on (workingFault sheet text) (roomFault (wordsOn sheet text) (length out)) (wordsOn sheet text) out r out′ (q .0)
         (rw run-words at h)
 
--- the code words that preparing left
-pub coded : (sheet text codes : List ℕ) (n : ℕ) (answer : Written) → Prepared sheet text codes answer → answer ≡ written.Count n
-    → length codes ≡ 32 → Coded sheet text codes n
-coded sheet text codes n answer p e l =
-    let q = counted (readingFault sheet text) (codeOf text) n (sym (p .answer-is) ∙ e) in
-    let f = p .few (q .0) in
-    record {
-      few = omega (arith, q .1);
-      enough = omega (arith, q .1);
-      parts-are = rw (q .1) (p .parts-are (q .0));
-      known = p .known (q .0);
-    }
-
-pub read-fine : (sheet text codes : List ℕ) (n : ℕ) (answer : Written) → Prepared sheet text codes answer → answer ≡ written.Count n
-    → readingFault sheet text ≡ 0
-read-fine sheet text codes n answer p e = counted (readingFault sheet text) (codeOf text) n (sym (p .answer-is) ∙ e) .0
-
-pub read-refused : (sheet text codes : List ℕ) (f : ℕ) (answer : Written) → Prepared sheet text codes answer → answer ≡ written.Refused f →
-    (readingFault sheet text ≡ f) × (f ≡ 0 → ⊥)
-read-refused sheet text codes f answer p e = refused-by (readingFault sheet text) (codeOf text) f (sym (p .answer-is) ∙ e)
-
 -- the call
 module _ (sheet formula work out : List ℕ) where
   abbrev pub Called : Written → List ℕ → List ℕ → Type 0
@@ -93,19 +72,20 @@ module _ (sheet formula work out : List ℕ) where
   abbrev pub Answers : ℕ → Written → List ℕ → Type 0
   Answers fault r out′ = (r ≡ writtenOf fault (wordsOn sheet formula)) × (out′ ≡ outputOf fault (wordsOn sheet formula) out)
 
-  pub call-sheet : (f : ℕ) → f ≡ sheetFault sheet → (f ≡ 0 → ⊥) → Called (written.Refused f) out work
+  -- a fault of the sheet or of the reading
+  pub call-refused : (f : ℕ) → firstOf (sheetFault sheet) (readingFault sheet formula) ≡ f → (f ≡ 0 → ⊥) → Called (written.Refused f) out work
   unfolding callAnswer callOutput callFault
-  call-sheet f e n = let a = refused (sheetFault sheet) _ (wordsOn sheet formula) out f e n in (a .0, a .1, λ x. refl)
+  call-refused f e n =
+      let a = refused (firstOf (sheetFault sheet) (readingFault sheet formula)) _ (wordsOn sheet formula) out f (sym e) n in
+      let s = first-assoc (sheetFault sheet) (readingFault sheet formula) _ in (
+        a .0 ∙ ap (λ k. writtenOf k (wordsOn sheet formula)) s,
+        a .1 ∙ ap (λ k. outputOf k (wordsOn sheet formula) out) s,
+        λ x. refl,
+      )
 
   module _ (ok : sheetFault sheet ≡ 0) where
     from-sheet : (rest : ℕ) (r : Written) (out′ : List ℕ) → Answers rest r out′ → Answers (firstOf (sheetFault sheet) rest) r out′
     from-sheet rest r out′ h = passes-on (sheetFault sheet) rest (wordsOn sheet formula) out r out′ ok h
-
-    pub call-reading : (f : ℕ) → readingFault sheet formula ≡ f → (f ≡ 0 → ⊥) → Called (written.Refused f) out work
-    unfolding callAnswer callOutput callFault
-    call-reading f e n =
-        let a = from-sheet _ _ out (refused (readingFault sheet formula) _ (wordsOn sheet formula) out f (sym e) n) in
-        (a .0, a .1, λ x. refl)
 
     module _ (read : readingFault sheet formula ≡ 0) where
       from-reading : (rest : ℕ) (r : Written) (out′ : List ℕ) → Answers rest r out′ → Answers

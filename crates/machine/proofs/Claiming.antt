@@ -31,7 +31,7 @@ use Rattle.machine.proofs.Exact.{signal-is, settled-at}
 use Rattle.machine.proofs.Stepping.{counted, refused-by}
 use Rattle.machine.proofs.SlotFacts.{short}
 use Rattle.signals.specs.Answers.{firstOf, judgedBy, verdictFor}
-use Rattle.signals.proofs.FirstFault.{first-is, next-is}
+use Rattle.signals.proofs.FirstFault.{first-is, next-is, first-assoc}
 
 -- faults in their order
 pub by-first : (f g rest : ℕ) (v : Option ℕ) → g ≡ f → (f ≡ 0 → ⊥) → Refused f ≡ verdictFor (firstOf g rest) v
@@ -145,15 +145,16 @@ module _ (sheet F G work : List ℕ) where
   abbrev pub Claimed : Verdict → List ℕ → Type 0
   Claimed r after = (r ≡ claimAnswer sheet F G (length work)) × ((firstClaimFault sheet F G (length work) ≡ 0 → ⊥) → after ≡ work)
 
-  pub claim-sheet : (f : ℕ) → f ≡ sheetFault sheet → (f ≡ 0 → ⊥) → Claimed (Refused f) work
+  -- a fault of the sheet or of F's reading
+  pub claim-refused : (f : ℕ) → firstOf (sheetFault sheet) (readingFault sheet F) ≡ f → (f ≡ 0 → ⊥) → Claimed (Refused f) work
   unfolding claimAnswer claimFault
-  claim-sheet f e n = (by-first f (sheetFault sheet) _ _ (sym e) n, λ x. refl)
+  claim-refused f e n = (
+    by-first f (firstOf (sheetFault sheet) (readingFault sheet F)) _ _ e n
+        ∙ ap (λ k. verdictFor k (claimFails sheet (formulaTree F) (formulaTree G))) (first-assoc (sheetFault sheet) (readingFault sheet F) _),
+    λ x. refl,
+  )
 
   module _ (ok : sheetFault sheet ≡ 0) where
-    pub claim-reading : (f : ℕ) → readingFault sheet F ≡ f → (f ≡ 0 → ⊥) → Claimed (Refused f) work
-    unfolding claimAnswer claimFault
-    claim-reading f e n = (by-next (sheetFault sheet) _ _ (Refused f) ok (by-first f (readingFault sheet F) _ _ e n), λ x. refl)
-
     pub claim-goes-on : readingFault sheet F ≡ 0 → (r : Verdict) (after : List ℕ) → ClaimOn sheet F G work r after → Claimed r after
     unfolding claimAnswer claimFault claimOnFault judgeFault firstClaimFault
     claim-goes-on read r after c = (

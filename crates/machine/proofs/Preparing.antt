@@ -10,9 +10,6 @@ use lib.ListN.{length, drop, getD, length-map}
 use lib.Seq.{take-at}
 use borrow.Author.Tests.{ltb-false}
 use Rattle.signals.specs.Moment.{M}
-use Rattle.signals.specs.Answers.{writtenOf}
-use Rattle.signals.specs.declared.Written.{Written}
-use Rattle.signals.specs.declared.Written.the-variants.{Count, Refused}
 use Rattle.signals.proofs.Truth.{and-left, and-right}
 use Rattle.grammar.specs.Kinds as kinds
 use Rattle.grammar.specs.Tree.{Tree, Leaf, Unary, Binary, leaf, unary, binary, down, up, name}
@@ -28,18 +25,15 @@ use Rattle.format.specs.Reading.{sheetFault, signalsOn, names, Entry, nameOf}
 use Rattle.format.specs.Calls.{lookupFault}
 use Rattle.format.proofs.Steps.{same-equal}
 use Rattle.calls.specs.OnSheet.{namesFound, leafFound}
-use Rattle.calls.specs.Calls.{readingFault}
 use Rattle.calls.proofs.FirstFault.{passed}
 use Rattle.calls.proofs.ReadingFaults.{derived}
 use Rattle.format.proofs.SheetLists.{Sound, AllSound, sheet-sound}
 use Rattle.code_words.specs.CodeWords.{operandsOf}
-use Rattle.machine.specs.Machine.{leafOf, AllKnown, partsIn, partFound, allFound, Prepared}
+use Rattle.machine.specs.Machine.{leafOf, leafLooked, partLooked, allLooked, AllKnown, partsIn}
 use Rattle.machine.proofs.Leaves.{leaf-name, leaf-up, leaf-down}
 use Rattle.machine.proofs.PartCodes.{part-leaf, part-one, part-two, name-none, arity-small}
-use Rattle.machine.proofs.Stepping.{counted, refused-by}
 use Rattle.machine.proofs.Looping.{rest, rest-next, rest-none}
 use Rattle.signals.specs.Answers.{firstOf}
-use Rattle.signals.proofs.FirstFault.{first-is, next-is}
 
 -- names on an accepted sheet are names
 named-well : (n : List ℕ) (es : List Entry) → AllSound es → among n (names es) ≡ true → wellNamed n ≡ true
@@ -66,21 +60,26 @@ looked sheet n ok = go (among n (names (signalsOn sheet))) (wellNamed n) refl re
     go false false p q = rw (ok, q, p)
 
 -- the parts of a tree and their names
-found-append : (sheet : List ℕ) (ps qs : List Part) → allFound sheet (ps ++ qs) ≡ (allFound sheet ps && allFound sheet qs)
-unfolding allFound
-found-append sheet [] qs = refl
-found-append sheet (p ∷ ps) qs = ap (λ b. partFound sheet p && b) (found-append sheet ps qs) ∙ sym
-    (and-assoc (partFound sheet p) (allFound sheet ps) (allFound sheet qs))
+looked-append : (sheet : List ℕ) (ps qs : List Part) → allLooked sheet (ps ++ qs) ≡ (allLooked sheet ps && allLooked sheet qs)
+unfolding allLooked
+looked-append sheet [] qs = refl
+looked-append sheet (p ∷ ps) qs = ap (λ b. partLooked sheet p && b) (looked-append sheet ps qs) ∙ sym
+    (and-assoc (partLooked sheet p) (allLooked sheet ps) (allLooked sheet qs))
 
-pub found-tree : (sheet : List ℕ) (t : Tree) → allFound sheet (code t) ≡ namesFound sheet t
-unfolding allFound code namesFound
-found-tree sheet (leaf l) = and-true (leafFound sheet l)
-found-tree sheet (unary o t) = found-append sheet (code t) (one o ∷ []) ∙ ap (λ b. b && true) (found-tree sheet t) ∙ and-true
+looked-leaf : (sheet : List ℕ) → sheetFault sheet ≡ 0 → (l : Leaf) → leafLooked sheet l ≡ leafFound sheet l
+looked-leaf sheet ok down = refl
+looked-leaf sheet ok up = refl
+looked-leaf sheet ok (name n) = looked sheet n ok
+
+pub looked-tree : (sheet : List ℕ) → sheetFault sheet ≡ 0 → (t : Tree) → allLooked sheet (code t) ≡ namesFound sheet t
+unfolding allLooked code namesFound
+looked-tree sheet ok (leaf l) = and-true (leafLooked sheet l) ∙ looked-leaf sheet ok l
+looked-tree sheet ok (unary o t) = looked-append sheet (code t) (one o ∷ []) ∙ ap (λ b. b && true) (looked-tree sheet ok t) ∙ and-true
     (namesFound sheet t)
-found-tree sheet (binary o t u) =
-    found-append sheet (code t) (code u ++ (two o ∷ []))
-    ∙ ap (λ b. allFound sheet (code t) && b) (found-append sheet (code u) (two o ∷ []) ∙ and-true (allFound sheet (code u)))
-    ∙ rw (found-tree sheet t, found-tree sheet u)
+looked-tree sheet ok (binary o t u) =
+    looked-append sheet (code t) (code u ++ (two o ∷ []))
+    ∙ ap (λ b. allLooked sheet (code t) && b) (looked-append sheet (code u) (two o ∷ []) ∙ and-true (allLooked sheet (code u)))
+    ∙ rw (looked-tree sheet ok t, looked-tree sheet ok u)
 
 known-append : (sheet : List ℕ) (ps qs : List Part) → AllKnown sheet ps → AllKnown sheet qs → AllKnown sheet (ps ++ qs)
 known-append sheet [] qs a b = b
@@ -150,104 +149,38 @@ module _ (text : List ℕ) (fine : formulaFault text ≡ 0) where
       ) code-is
 
 -- one code word's name
-pub found-name : (sheet text : List ℕ) (w : ℕ) (n : List ℕ) (fault : ℕ) → sheetFault sheet ≡ 0 → w % 16 ≡ kinds.NAME
-    → n ≡ nameAt text (w / 256)
-    (w / 16 % 16) → fault ≡ lookupFault sheet n
-    → eqb fault 0 ≡ partFound sheet (partOf text w)
-found-name sheet text w n fault ok e en ef =
-    rw (part-leaf text w (name-none (w % 16) e), leaf-name text w e, ef, en) (looked sheet (nameAt text (w / 256) (w / 16 % 16)) ok)
+pub looked-name : (sheet text : List ℕ) (w : ℕ) (n : List ℕ) (fault : ℕ) → w % 16 ≡ kinds.NAME → n ≡ nameAt text (w / 256) (w / 16 % 16)
+    → fault ≡ lookupFault sheet n → eqb fault 0 ≡ partLooked sheet (partOf text w)
+looked-name sheet text w n fault e en ef = rw (part-leaf text w (name-none (w % 16) e), leaf-name text w e, ef, en)
 
-pub found-other : (sheet text : List ℕ) (w : ℕ) → (w % 16 ≡ kinds.NAME → ⊥) → true ≡ partFound sheet (partOf text w)
-found-other sheet text w ne = go (operandsOf w) refl (arity-small (w % 16))
+pub looked-other : (sheet text : List ℕ) (w : ℕ) → (w % 16 ≡ kinds.NAME → ⊥) → true ≡ partLooked sheet (partOf text w)
+looked-other sheet text w ne = go (operandsOf w) refl (arity-small (w % 16))
   where
-    leafy : Dec (w % 16 ≡ kinds.UP) → true ≡ leafFound sheet (leafOf text w)
+    leafy : Dec (w % 16 ≡ kinds.UP) → true ≡ leafLooked sheet (leafOf text w)
     leafy (yes e) = rw (leaf-up text w e)
     leafy (no x) = rw (leaf-down text w ne x)
 
-    go : (k : ℕ) → operandsOf w ≡ k → k ≤ 2 → true ≡ partFound sheet (partOf text w)
+    go : (k : ℕ) → operandsOf w ≡ k → k ≤ 2 → true ≡ partLooked sheet (partOf text w)
     go zero e h = rw (part-leaf text w e) (leafy (ℕ-discrete (w % 16) kinds.UP))
     go (suc zero) e h = rw (part-one text w e)
     go (suc (suc zero)) e h = rw (part-two text w e)
     go (suc (suc (suc k))) e h = absurd (omega arith)
 
 -- the loop over all of them
-pub all-of : (sheet text codes : List ℕ) (n : ℕ) → allFound sheet (partsIn text codes n) ≡ allFound sheet (rest text codes n 0)
-unfolding partsIn rest
-all-of sheet text codes n = refl
+module _ (sheet text codes : List ℕ) (n : ℕ) where
+  pub all-of : allLooked sheet (partsIn text codes n) ≡ allLooked sheet (rest text codes n 0)
+  unfolding partsIn rest
+  all-of = refl
 
-pub next-found : (sheet text codes : List ℕ) (n i : ℕ) → n ≤ length codes → i < n → (b : Bool) → b ≡ partFound sheet
-    (partOf text (getD codes i 0))
-    → allFound sheet (rest text codes n i) ≡ (b && allFound sheet (rest text codes n (i + 1)))
-unfolding allFound
-next-found sheet text codes n i h l b e = rw (rest-next text codes n i h l, e)
+  pub none-left : (i : ℕ) → n ≤ length codes → n ≤ i → allLooked sheet (rest text codes n i) ≡ true
+  unfolding allLooked
+  none-left i h l = rw (rest-none text codes n i h l)
 
-pub none-left : (sheet text codes : List ℕ) (n i : ℕ) → n ≤ length codes → n ≤ i → allFound sheet (rest text codes n i) ≡ true
-unfolding allFound
-none-left sheet text codes n i h l = rw (rest-none text codes n i h l)
+  module _ (i : ℕ) (h : n ≤ length codes) (l : i < n) (b : Bool) (e : b ≡ partLooked sheet (partOf text (getD codes i 0))) where
+    pub next-true : b ≡ true → allLooked sheet (rest text codes n i) ≡ allLooked sheet (rest text codes n (i + 1))
+    unfolding allLooked
+    next-true t = rw (rest-next text codes n i h l, ← e, t)
 
--- the outcomes of preparing
-module _ (sheet text codes old : List ℕ) (answer : Written) (ok : sheetFault sheet ≡ 0) (long : length old ≡ 32)
-    (a : answer ≡ writtenOf (formulaFault text) (codeOf text)) (e : codes ≡ codeAfter text old) where
-  pub prepare-refused : (f : ℕ) → answer ≡ Refused f → Prepared sheet text codes (Refused f)
-  unfolding readingFault
-  prepare-refused f r =
-      let q = refused-by (formulaFault text) (codeOf text) f (sym a ∙ r) in
-      let x : formulaFault text ≡ 0 → ⊥ = λ z. q .1 (sym (q .0) ∙ z) in
-      let s : readingFault sheet text ≡ formulaFault text = first-is (formulaFault text) _ x in
-      record {
-        answer-is = sym r ∙ a ∙ rw s refl;
-        few = λ z. absurd (x (sym s ∙ z));
-        parts-are = λ z. absurd (x (sym s ∙ z));
-        known = λ z. absurd (x (sym s ∙ z));
-      }
-
-  module _ (n : ℕ) (r : answer ≡ Count n) where
-    fine-text : formulaFault text ≡ 0
-    fine-text = counted (formulaFault text) (codeOf text) n (sym a ∙ r) .0
-
-    pub count-is : n ≡ length (codeOf text)
-    count-is = counted (formulaFault text) (codeOf text) n (sym a ∙ r) .1
-
-    pub count-short : n ≤ 32
-    count-short = let s = code-short text fine-text in let k = count-is in omega arith
-
-    there : partsIn text codes (length (codeOf text)) ≡ code (formulaTree text)
-    there = parts-there text fine-text codes old e (omega arith)
-
-    names-are : (b : Bool) → b ≡ allFound sheet (partsIn text codes n) → b ≡ namesFound sheet (formulaTree text)
-    names-are b h = h ∙ ap (λ k. allFound sheet (partsIn text codes k)) count-is ∙ ap (allFound sheet) there ∙ found-tree sheet
-        (formulaTree text)
-
-    pub prepare-found : (b : Bool) → b ≡ allFound sheet (partsIn text codes n) → b ≡ true → Prepared sheet text codes (Count n)
-    unfolding readingFault
-    prepare-found b h t =
-        let f : namesFound sheet (formulaTree text) ≡ true = sym (names-are b h) ∙ t in
-        let s : readingFault sheet text ≡ 0 = next-is (formulaFault text) _ fine-text ∙ rw f refl in
-        record {
-          answer-is = sym r ∙ a ∙ rw (s, fine-text) refl;
-          few = λ z. code-short text fine-text;
-          parts-are = λ z. there;
-          known = λ z. known-tree sheet ok (formulaTree text) f (lengths-small text fine-text);
-        }
-
-    pub prepare-lacking : (b : Bool) → b ≡ allFound sheet (partsIn text codes n) → b ≡ false → Prepared sheet text codes (Refused 13)
-    unfolding readingFault writtenOf
-    prepare-lacking b h t =
-        let f : namesFound sheet (formulaTree text) ≡ false = sym (names-are b h) ∙ t in
-        let s : readingFault sheet text ≡ 13 = next-is (formulaFault text) _ fine-text ∙ rw f refl in
-        record {
-          answer-is = rw s refl;
-          few = λ z. absurd (let q : _≡_ {A = ℕ} 13 0 = sym s ∙ z in omega arith);
-          parts-are = λ z. absurd (let q : _≡_ {A = ℕ} 13 0 = sym s ∙ z in omega arith);
-          known = λ z. absurd (let q : _≡_ {A = ℕ} 13 0 = sym s ∙ z in omega arith);
-        }
-
-pub next-true : (sheet text codes : List ℕ) (n i : ℕ) → n ≤ length codes → i < n → (b : Bool) → b ≡ partFound sheet
-    (partOf text (getD codes i 0)) → b ≡ true
-    → allFound sheet (rest text codes n i) ≡ allFound sheet (rest text codes n (i + 1))
-next-true sheet text codes n i h l b e t = next-found sheet text codes n i h l b e ∙ rw t
-
-pub next-false : (sheet text codes : List ℕ) (n i : ℕ) → n ≤ length codes → i < n → (b : Bool) → b ≡ partFound sheet
-    (partOf text (getD codes i 0)) → b ≡ false
-    → allFound sheet (rest text codes n i) ≡ false
-next-false sheet text codes n i h l b e t = next-found sheet text codes n i h l b e ∙ rw t
+    pub next-false : b ≡ false → allLooked sheet (rest text codes n i) ≡ false
+    unfolding allLooked
+    next-false t = rw (rest-next text codes n i h l, ← e, t)

@@ -23,6 +23,7 @@ use Rattle.code_words.specs.CodeWords.{operandsOf}
 use Rattle.applying.specs.PartCalls.{unaryOf, binaryOf, judgedFor, exactFor, PartInSlot}
 use Rattle.machine.specs.declared.Next.{Next}
 use Rattle.machine.specs.Machine.{InSlot, Stacked, Enough, Known, Stepped, Ready, Room, Loaded, worked, leafOf, leafKnown}
+use Rattle.machine.specs.Machine.{nextOf, placedIn, Fits}
 use Rattle.machine.proofs.SlotFacts.{short, push-slot, below}
 use Rattle.machine.proofs.Exact.{unary-exact, binary-exact, accepted-part}
 use Rattle.machine.proofs.PartCodes.{part-leaf, part-one, part-two, arity-small}
@@ -156,13 +157,13 @@ module _ (sheet text : List ℕ) (w : ℕ) (work buffer counts : List ℕ) (base
         rw (t .exact) at
         (applied w (exactOn sheet (t .first)) (exactOn sheet (t .second)) buffer answer buffer′ (t .judged) (r .wide) (rw (v, u) at h))
 
-    pub operated-short : (n : ℕ) → answer ≡ Count n → n ≤ mostWords
+    operated-short : (n : ℕ) → answer ≡ Count n → n ≤ mostWords
     operated-short n e =
         let q = counted (partFault (exactOn sheet (t .made))) (exactOn sheet (t .made)) n (sym (did .answer-is) ∙ e) in
         let s = part-none (exactOn sheet (t .made)) (q .0) in
         omega (arith, q .1, s .0)
 
-    pub operated-refused : (f : ℕ) → answer ≡ Refused f → (after : List ℕ) → after ≡ work
+    operated-refused : (f : ℕ) → answer ≡ Refused f → (after : List ℕ) → after ≡ work
         → Stepped sheet work after counts base (partOf text w) st (record { fault = f; height = height - taken + 1; count = 0 })
     operated-refused f e after ea =
         let q = refused-by (partFault (exactOn sheet (t .made))) _ f (sym (did .answer-is) ∙ e) in
@@ -174,7 +175,7 @@ module _ (sheet text : List ℕ) (w : ℕ) (work buffer counts : List ℕ) (base
           stacked = λ z. absurd (q .1 z);
         }
 
-    pub operated : (n : ℕ) → answer ≡ Count n → (after : List ℕ) → after ≡ paste work at buffer′ n
+    operated : (n : ℕ) → answer ≡ Count n → (after : List ℕ) → after ≡ paste work at buffer′ n
         → Stepped sheet work after counts base (partOf text w) st (record { fault = 0; height = height - taken + 1; count = n })
     operated n e after ea =
         let made = exactOn sheet (t .made) in
@@ -192,6 +193,26 @@ module _ (sheet text : List ℕ) (w : ℕ) (work buffer counts : List ℕ) (base
               (omega (arith, r .low, r .few, t .tall)) (r .slots) (r .counted) (t .below) n at (rw k at-is) (q .0) (q .1) f
               (omega (arith, r .wide)));
         }
+
+    -- as the code goes on, by the answer
+    pub operated-fits : Fits work at buffer′ answer
+    operated-fits = go answer refl
+      where
+        go : (x : Written) → answer ≡ x → Fits work at buffer′ x
+        go (Count n) e =
+            let s = operated-short n e in
+            let f = operands-fit in
+            (omega (arith, r .low, r .few, r .slots), omega (arith, r .wide))
+        go (Refused f) e = tt
+
+    pub operated-next : (after : List ℕ) → after ≡ placedIn work at buffer′ answer
+        → Stepped sheet work after counts base (partOf text w) st (nextOf (height - taken + 1) answer)
+    operated-next = go answer refl
+      where
+        go : (x : Written) → answer ≡ x → (after : List ℕ) → after ≡ placedIn work at buffer′ x
+            → Stepped sheet work after counts base (partOf text w) st (nextOf (height - taken + 1) x)
+        go (Count n) e = operated n e
+        go (Refused f) e = operated-refused f e
 
 -- a leaf
 pub leaf-pushed : (sheet : List ℕ) → sheetFault sheet ≡ 0 → (work after counts : List ℕ) (base height : ℕ) (l : Leaf) (n at : ℕ) → base ≤ 1

@@ -8,17 +8,19 @@ use lib.ListN.{length, take, drop, getD, set}
 use lib.Seq.{paste}
 use Rattle.signals.specs.Answers.{writtenOf, verdictFor}
 use Rattle.signals.specs.declared.Written.{Written}
+use Rattle.signals.specs.declared.Written.the-variants.{Count, Refused}
 use Rattle.signals.specs.declared.Verdict.{Verdict}
 use Rattle.signals.specs.Moment.{M}
 use Rattle.signals.specs.Words.{mostWords, listFault}
 use Rattle.grammar.specs.Kinds as kinds
 use Rattle.grammar.specs.Tree.{Tree, Leaf, leaf, unary, binary, down, up, name}
 use Rattle.grammar.specs.Code.{Part, operand, one, two, ticksOf, top, code}
-use Rattle.grammar.specs.Formula.{nameAt, partOf, codeOf, formulaTree}
+use Rattle.grammar.specs.Formula.{nameAt, partOf, formulaTree}
 use Rattle.names.specs.Names.{wellNamed}
 use Rattle.format.specs.Names.{among}
 use Rattle.format.specs.Reading.{signalsOn, names}
-use Rattle.calls.specs.OnSheet.{exactOn, leafFound}
+use Rattle.format.specs.Calls.{lookupFault}
+use Rattle.calls.specs.OnSheet.{exactOn}
 use Rattle.calls.specs.Calls.{workWords, partsFault, readingFault, workFault, workingFault, wordsOn, claimFails}
 use Rattle.grammar.specs.Parts.{parts}
 use Rattle.operations.specs.Calls.{roomFault, partFault}
@@ -80,6 +82,20 @@ pub record Stepped (sheet before work counts : List ℕ) (base : ℕ) (p : Part)
   pub kept : take (mostWords * base) work ≡ take (mostWords * base) before
   pub stacked : next .fault ≡ 0 → Stacked sheet work (set counts (next .height - 1) (next .count)) base (worked p st)
 
+-- what a step's answer says of the part's answer, and the work area with its list put there
+abbrev pub nextOf : ℕ → Written → Next
+nextOf height (Count n) = record { fault = 0; height = height; count = n }
+nextOf height (Refused f) = record { fault = f; height = height; count = 0 }
+
+abbrev pub placedIn : List ℕ → ℕ → List ℕ → Written → List ℕ
+placedIn work at words (Count n) = paste work at words n
+placedIn work at words (Refused f) = work
+
+-- the list fits
+abbrev pub Fits : List ℕ → ℕ → List ℕ → Written → Type 0
+Fits work at words (Count n) = (at + n ≤ length work) × (n ≤ length words)
+Fits work at words (Refused f) = Unit {0}
+
 -- the trees that parts make, one after the other
 unfoldable pub trace : List Part → List Tree → List Tree
 trace [] st = []
@@ -132,22 +148,20 @@ pub record WorkedOut (sheet before after : List ℕ) (base : ℕ) (t : Tree) (an
   pub stands : partsFault sheet (parts t) ≡ 0 → InSlot after base (length (exactOn sheet t)) (exactOn sheet t)
   pub kept : take (mostWords * base) after ≡ take (mostWords * base) before
 
--- the sheet has the names of the parts
-abbrev pub partFound : List ℕ → Part → Bool
-partFound sheet (operand l) = leafFound sheet l
-partFound sheet (one o) = true
-partFound sheet (two o) = true
+-- a lookup of the part's name, if it is one, has no fault
+abbrev pub leafLooked : List ℕ → Leaf → Bool
+leafLooked sheet down = true
+leafLooked sheet up = true
+leafLooked sheet (name n) = eqb (lookupFault sheet n) 0
 
-unfoldable pub allFound : List ℕ → List Part → Bool
-allFound sheet [] = true
-allFound sheet (p ∷ ps) = partFound sheet p && allFound sheet ps
+abbrev pub partLooked : List ℕ → Part → Bool
+partLooked sheet (operand l) = leafLooked sheet l
+partLooked sheet (one o) = true
+partLooked sheet (two o) = true
 
--- what reading a formula for a sheet says: 10, 11, 8, 12 or 13, or how many code words stand for its parts
-pub record Prepared (sheet text codes : List ℕ) (answer : Written) : Type 0 where
-  pub answer-is : answer ≡ writtenOf (readingFault sheet text) (codeOf text)
-  pub few : readingFault sheet text ≡ 0 → length (codeOf text) ≤ 32
-  pub parts-are : readingFault sheet text ≡ 0 → partsIn text codes (length (codeOf text)) ≡ code (formulaTree text)
-  pub known : readingFault sheet text ≡ 0 → AllKnown sheet (code (formulaTree text))
+unfoldable pub allLooked : List ℕ → List Part → Bool
+allLooked sheet [] = true
+allLooked sheet (p ∷ ps) = partLooked sheet p && allLooked sheet ps
 
 -- n code words stand for the parts of the formula that the text is
 pub record Coded (sheet text codes : List ℕ) (n : ℕ) : Type 0 where

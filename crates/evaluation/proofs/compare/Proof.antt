@@ -17,11 +17,11 @@ add-end : tie.Need-add-end
 add-end c = omega (
   arith,
   compare-short
-      (c .before .before .before .before .before .before .before .before .before .before .before .before .args .sheet .now)
-      (c .before .before .before .before .before .before .before .before .before .before .before .before .args .g .now)
-      (c .before .before .before .before .before .before .before .before .before .before .before .before .args .work .now) _ _
+      (c .before .before .before .before .before .before .before .before .before .before .before .args .sheet .now)
+      (c .before .before .before .before .before .before .before .before .before .before .before .args .g .now)
+      (c .before .before .before .before .before .before .before .before .before .before .before .args .work .now) _ _
       (c .before .before .before .before .before .before .work-out .ensures _
-      (c .before .before .before .before .before .before .before .before .before .before .before .before .pre .2 .parts-are)) _
+      (c .before .before .before .before .before .before .before .before .before .before .before .pre .2 .parts-are)) _
       (c .before .before .answer .given .1),
 )
 
@@ -31,8 +31,8 @@ slice-aggregate-implies c =
     sym (length-take-le _ _
     (omega (
       arith,
-      c .before .before .before .before .before .before .before .before .before .before .before .before .before .pre .0,
-      c .before .before .before .before .before .before .before .before .before .before .before .before .before .pre .3,
+      c .before .before .before .before .before .before .before .before .before .before .before .before .pre .0,
+      c .before .before .before .before .before .before .before .before .before .before .before .before .pre .3,
     )))
 
 sub-implies : tie.Need-sub-implies
@@ -45,13 +45,13 @@ part-implies-end : tie.Need-part-implies-end
 part-implies-end c = omega (
   arith,
   compare-short
-      (c .before .before .before .before .before .before .before .before .before .before .before .before .before .args .sheet .now)
-      (c .before .before .before .before .before .before .before .before .before .before .before .before .before .args .g .now)
-      (c .before .before .before .before .before .before .before .before .before .before .before .before .before .args .work .now) _ _
+      (c .before .before .before .before .before .before .before .before .before .before .before .before .args .sheet .now)
+      (c .before .before .before .before .before .before .before .before .before .before .before .before .args .g .now)
+      (c .before .before .before .before .before .before .before .before .before .before .before .before .args .work .now) _ _
       (c .before .before .before .before .before .before .before .work-out .ensures _
-      (c .before .before .before .before .before .before .before .before .before .before .before .before .before .pre .2 .parts-are)) _
+      (c .before .before .before .before .before .before .before .before .before .before .before .before .pre .2 .parts-are)) _
       (c .before .before .before .answer .given .1),
-  c .before .before .before .before .before .before .before .before .before .before .before .before .before .pre .0,
+  c .before .before .before .before .before .before .before .before .before .before .before .before .pre .0,
   c .before .before .before .before .before .before .before .work-out .kept .1 .1 .1 .1 .0,
 )
 
@@ -67,21 +67,21 @@ same-length c = search needs
 returns : tie.Need-returns
 returns c =
     let back9 = c .before .before .before .before .before .before .before .before .before in
-    let back15 = back9 .before .before .before .before .before .before in
-    λ t fault slot. compare-done (back15 .args .sheet .now) (back15 .args .g .now) (back15 .args .work .now) _ _
-    (back9 .work-out .ensures _ (back15 .pre .2 .parts-are)) _ (c .before .before .before .before .before .answer .given .1)
-    (back15 .pre .1) t _ (back15 .pre .3) slot _ (c .implies .ensures)
+    let back14 = back9 .before .before .before .before .before in
+    λ t fault slot. compare-done (back14 .args .sheet .now) (back14 .args .g .now) (back14 .args .work .now) _ _
+    (back9 .work-out .ensures _ (back14 .pre .2 .parts-are)) _ (c .before .before .before .before .before .answer .given .1)
+    (back14 .pre .1) t _ (back14 .pre .3) slot _ (c .implies .ensures)
 
 same-length-2 : tie.Need-same-length-2
 same-length-2 c = search needs
 
 returns-2 : tie.Need-returns-2
 returns-2 c = λ t fault slot. compare-refused
-    (c .before .before .before .before .before .before .before .before .before .before .before .args .sheet .now)
-    (c .before .before .before .before .before .before .before .before .before .before .before .args .g .now)
-    (c .before .before .before .before .before .before .before .before .before .before .before .args .work .now) _ _
+    (c .before .before .before .before .before .before .before .before .before .before .args .sheet .now)
+    (c .before .before .before .before .before .before .before .before .before .before .args .g .now)
+    (c .before .before .before .before .before .before .before .before .before .before .args .work .now) _ _
     (c .before .before .before .before .before .work-out .ensures _
-    (c .before .before .before .before .before .before .before .before .before .before .before .pre .2 .parts-are)) _ _
+    (c .before .before .before .before .before .before .before .before .before .before .pre .2 .parts-are)) _ _
     (c .before .answer2 .given .1)
 
 pub compare-spec : {M : Type 1} → statement M

@@ -16,7 +16,7 @@ enum-known-answer c = search needs
 slice-reshare-prefix-hand-over : tie.Need-slice-reshare-prefix-hand-over
 slice-reshare-prefix-hand-over c =
     let out = c .before .before .before .before .before in
-    let start = out .before .before .before .before .before .before .before in
+    let start = out .before .before .before .before .before .before in
     run-fits (start .args .sheet .now) (start .args .text .now) (start .args .work .now) _ _
     (out .work-out .ensures _ (start .pre .2 .parts-are))
     _ (c .before .answer .given .1) (omega (arith, start .pre .0, out .work-out .kept .1 .1 .1 .1 .0))
@@ -40,9 +40,9 @@ returns : tie.Need-returns
 returns c =
     let back6 = c .before .before .before .before .before .before in
     let back10 = back6 .before .before .before .before in
-    let back17 = back10 .before .before .before .before .before .before .before in
-    run-counted (back17 .args .sheet .now) (back17 .args .text .now) (back17 .args .work .now) _ _
-    (back10 .work-out .ensures _ (back17 .pre .2 .parts-are)) _ (back6 .answer .given .1) (back17 .args .out .now) _ _
+    let back16 = back10 .before .before .before .before .before .before in
+    run-counted (back16 .args .sheet .now) (back16 .args .text .now) (back16 .args .work .now) _ _
+    (back10 .work-out .ensures _ (back16 .pre .2 .parts-are)) _ (back6 .answer .given .1) (back16 .args .out .now) _ _
     (c .before .before .hand-over .ensures)
 
 same-length-3 : tie.Need-same-length-3
@@ -50,13 +50,13 @@ same-length-3 c = search needs
 
 returns-2 : tie.Need-returns-2
 returns-2 c = run-refused
-    (c .before .before .before .before .before .before .before .before .before .before .before .before .args .sheet .now)
-    (c .before .before .before .before .before .before .before .before .before .before .before .before .args .text .now)
-    (c .before .before .before .before .before .before .before .before .before .before .before .before .args .work .now) _ _
+    (c .before .before .before .before .before .before .before .before .before .before .before .args .sheet .now)
+    (c .before .before .before .before .before .before .before .before .before .before .before .args .text .now)
+    (c .before .before .before .before .before .before .before .before .before .before .before .args .work .now) _ _
     (c .before .before .before .before .before .work-out .ensures _
-    (c .before .before .before .before .before .before .before .before .before .before .before .before .pre .2 .parts-are)) _
+    (c .before .before .before .before .before .before .before .before .before .before .before .pre .2 .parts-are)) _
     (c .before .answer2 .given .1)
-    (c .before .before .before .before .before .before .before .before .before .before .before .before .args .out .now)
+    (c .before .before .before .before .before .before .before .before .before .before .before .args .out .now)
 
 pub run-formula-spec : {M : Type 1} → statement M
 run-formula-spec =

@@ -15,12 +15,12 @@ same-length c = search needs
 
 returns : tie.Need-returns
 returns c = c .before .before .push-leaf .ensures _
-    (c .before .before .before .before .before .before .before .before .before .before .before .pre .0 .counted)
+    (c .before .before .before .before .before .before .before .before .before .before .pre .0 .counted)
 
 operate-requires : tie.Need-operate-requires
 operate-requires c κs =
     let asked = c .before .before .before in
-    let start = asked .before .before .before .before .before .before in
+    let start = asked .before .before .before .before .before in
     (start .pre .0, ((asked .operands .ensures, omega (arith, c .before .before .if1 .left)), (_, _, start .pre .1 .0, start .pre .1 .1)))
 
 same-length-2 : tie.Need-same-length-2
@@ -31,7 +31,7 @@ same-length-3 c = search needs
 
 returns-2 : tie.Need-returns-2
 returns-2 c = c .before .before .before .before .operate .ensures _ _
-    (c .before .before .before .before .before .before .before .before .before .before .before .before .before .before .pre .1 .0)
+    (c .before .before .before .before .before .before .before .before .before .before .before .before .before .pre .1 .0)
 
 pub step-spec : {M : Type 1} → statement M
 step-spec =

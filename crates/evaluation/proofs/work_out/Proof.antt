@@ -26,42 +26,39 @@ loop-holds c = (
   refl,
   refl,
   (
-    c .before .before .before .before .pre .1 .1 .tree,
-    c .before .before .before .before .pre .1 .1 .parts-are,
-    start _ _ _ _ _ _ _ (c .before .before .before .before .pre .1 .1),
+    c .before .before .before .pre .1 .1 .tree,
+    c .before .before .before .pre .1 .1 .parts-are,
+    start _ _ _ _ _ _ _ (c .before .before .before .pre .1 .1),
   ),
 )
 
 mul-step : tie.Need-mul-step Inv-loop μ-loop
 mul-step c = search needs
 
-shared-slice-read-step : tie.Need-shared-slice-read-step Inv-loop μ-loop
-shared-slice-read-step c = search needs
+element-copy-out-step : tie.Need-element-copy-out-step Inv-loop μ-loop
+element-copy-out-step c = search needs
 
 slice-aggregate-step : tie.Need-slice-aggregate-step Inv-loop μ-loop
 slice-aggregate-step c = search needs
-
-slice-aggregate-step-2 : tie.Need-slice-aggregate-step-2 Inv-loop μ-loop
-slice-aggregate-step-2 c = search needs
 
 step-requires : tie.Need-step-requires Inv-loop μ-loop
 step-requires c κs =
     let at = c .before .before .before .before .before .loop in (
       record {
-        low = c .before .before .before .before .before .before .before .before .before .before .pre .0 .2;
+        low = c .before .before .before .before .before .before .before .before .before .pre .0 .2;
         few = height-small _ _ _ _ _ _ _ _ _ _ _
-            (c .before .before .before .before .before .before .before .before .before .before .pre .0 .1)
-            (c .before .before .before .before .before .before .before .before .before .before .pre .0 .0)
+            (c .before .before .before .before .before .before .before .before .before .pre .0 .1)
+            (c .before .before .before .before .before .before .before .before .before .pre .0 .0)
             (c .before .before .before .before .before .loop .inv .3 .2) (c .before .before .before .before .loop-test .taken);
-        slots = omega (arith, c .before .before .before .before .before .before .before .before .before .before .pre .0 .3, at .inv .0);
+        slots = omega (arith, c .before .before .before .before .before .before .before .before .before .pre .0 .3, at .inv .0);
         wide = omega (arith, at .inv .1);
         counted = omega (arith, at .inv .2);
       },
       (
-        c .before .before .before .before .before .before .before .before .before .before .pre .1 .0,
+        c .before .before .before .before .before .before .before .before .before .pre .1 .0,
         ready _ _ _ _ _ _ _ _ _ _ _
-            (c .before .before .before .before .before .before .before .before .before .before .pre .0 .1)
-            (c .before .before .before .before .before .before .before .before .before .before .pre .0 .0)
+            (c .before .before .before .before .before .before .before .before .before .pre .0 .1)
+            (c .before .before .before .before .before .before .before .before .before .pre .0 .0)
             (c .before .before .before .before .before .loop .inv .3 .2) (c .before .before .before .before .loop-test .taken),
       ),
     )
@@ -72,8 +69,8 @@ same-length c = c .before .before .before .before .step .kept .1 .1 .1 .0
 
 returns : tie.Need-returns Inv-loop μ-loop
 returns c = λ u e. stopped _ _ _ _ _ _ _ _ _ _ _
-    (c .before .before .before .before .before .before .before .before .before .before .before .before .before .before .before .pre .0 .1)
-    (c .before .before .before .before .before .before .before .before .before .before .before .before .before .before .before .pre .0 .0)
+    (c .before .before .before .before .before .before .before .before .before .before .before .before .before .before .pre .0 .1)
+    (c .before .before .before .before .before .before .before .before .before .before .before .before .before .before .pre .0 .0)
     (c .before .before .before .before .before .before .before .before .before .before .loop .inv .3 .2)
     (c .before .before .before .before .before .before .before .before .before .loop-test .taken) _ _
     (c .before .before .before .before .step .ensures) (c .if1 .taken) u
@@ -81,8 +78,8 @@ returns c = λ u e. stopped _ _ _ _ _ _ _ _ _ _ _
 
 sub-top : tie.Need-sub-top Inv-loop μ-loop
 sub-top c = gone-on _ _ _ _ _ _ _ _ _ _ _
-    (c .before .before .before .before .before .before .before .before .before .before .before .before .before .before .before .pre .0 .1)
-    (c .before .before .before .before .before .before .before .before .before .before .before .before .before .before .before .pre .0 .0)
+    (c .before .before .before .before .before .before .before .before .before .before .before .before .before .before .pre .0 .1)
+    (c .before .before .before .before .before .before .before .before .before .before .before .before .before .before .pre .0 .0)
     (c .before .before .before .before .before .before .before .before .before .before .loop .inv .3 .2)
     (c .before .before .before .before .before .before .before .before .before .loop-test .taken) _ _
     (c .before .before .before .before .step .ensures) (c .if1 .left) .0
@@ -91,8 +88,8 @@ mul-counts : tie.Need-mul-counts Inv-loop μ-loop
 mul-counts c = omega (
   arith,
   gone-on _ _ _ _ _ _ _ _ _ _ _
-      (c .before .before .before .before .before .before .before .before .before .before .before .before .before .before .before .pre .0 .1)
-      (c .before .before .before .before .before .before .before .before .before .before .before .before .before .before .before .pre .0 .0)
+      (c .before .before .before .before .before .before .before .before .before .before .before .before .before .before .pre .0 .1)
+      (c .before .before .before .before .before .before .before .before .before .before .before .before .before .before .pre .0 .0)
       (c .before .before .before .before .before .before .before .before .before .before .loop .inv .3 .2)
       (c .before .before .before .before .before .before .before .before .before .loop-test .taken) _ _
       (c .before .before .before .before .step .ensures) (c .if1 .left) .1,
@@ -102,14 +99,14 @@ array-write-counts : tie.Need-array-write-counts Inv-loop μ-loop
 array-write-counts c = omega (
   arith,
   gone-on _ _ _ _ _ _ _ _ _ _ _
-      (c .before .before .before .before .before .before .before .before .before .before .before .before .before .before .before .pre .0 .1)
-      (c .before .before .before .before .before .before .before .before .before .before .before .before .before .before .before .pre .0 .0)
+      (c .before .before .before .before .before .before .before .before .before .before .before .before .before .before .pre .0 .1)
+      (c .before .before .before .before .before .before .before .before .before .before .before .before .before .before .pre .0 .0)
       (c .before .before .before .before .before .before .before .before .before .before .loop .inv .3 .2)
       (c .before .before .before .before .before .before .before .before .before .loop-test .taken) _ _
       (c .before .before .before .before .step .ensures) (c .if1 .left) .0,
   gone-on _ _ _ _ _ _ _ _ _ _ _
-      (c .before .before .before .before .before .before .before .before .before .before .before .before .before .before .before .pre .0 .1)
-      (c .before .before .before .before .before .before .before .before .before .before .before .before .before .before .before .pre .0 .0)
+      (c .before .before .before .before .before .before .before .before .before .before .before .before .before .before .pre .0 .1)
+      (c .before .before .before .before .before .before .before .before .before .before .before .before .before .before .pre .0 .0)
       (c .before .before .before .before .before .before .before .before .before .before .loop .inv .3 .2)
       (c .before .before .before .before .before .before .before .before .before .loop-test .taken) _ _
       (c .before .before .before .before .step .ensures) (c .if1 .left) .1,
@@ -125,7 +122,7 @@ loop-again : tie.Need-loop-again Inv-loop μ-loop
 loop-again c =
     let back9 = c .before .before .before .before .before .before .before .before .before in
     let back10 = back9 .before in
-    let back15 = back10 .before .before .before .before .before in (
+    let back14 = back10 .before .before .before .before in (
       c .before .before .before .before .step .kept .1 .1 .1 .0
           ∙ back10 .loop .inv .0,
       c .before .before .before .before .step .kept .1 .1 .1 .1 .0 ∙ back10 .loop .inv .1,
@@ -134,7 +131,7 @@ loop-again c =
       (
         _,
         back10 .loop .inv .3 .1,
-        gone-on _ _ _ _ _ _ _ _ _ _ _ (back15 .pre .0 .1) (back15 .pre .0 .0)
+        gone-on _ _ _ _ _ _ _ _ _ _ _ (back14 .pre .0 .1) (back14 .pre .0 .0)
             (back10 .loop .inv .3 .2) (back9 .loop-test .taken) _ _ (c .before .before .before .before .step .ensures) (c .if1 .left) .2,
       ),
     )
@@ -146,7 +143,7 @@ same-length-2 : tie.Need-same-length-2 Inv-loop μ-loop
 same-length-2 c = c .before .loop .inv .0
 
 returns-2 : tie.Need-returns-2 Inv-loop μ-loop
-returns-2 c = λ u e. finished _ _ _ _ _ _ _ _ _ _ _ (c .before .before .before .before .before .before .pre .0 .1) (c .loop-test .left)
+returns-2 c = λ u e. finished _ _ _ _ _ _ _ _ _ _ _ (c .before .before .before .before .before .pre .0 .1) (c .loop-test .left)
     (c .before .loop .inv .3 .2) u (sym (c .before .loop .inv .3 .1) ∙ e)
 
 pub work-out-spec : {M : Type 1} → statement M
@@ -157,9 +154,8 @@ work-out-spec =
     μ-loop
     loop-holds
     mul-step
-    shared-slice-read-step
+    element-copy-out-step
     slice-aggregate-step
-    slice-aggregate-step-2
     step-requires
     same-length
     returns

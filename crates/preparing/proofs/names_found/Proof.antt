@@ -1,16 +1,16 @@
--- `evaluation::names_found` meets its contract: the parts passed have their names on the sheet.
+-- `preparing::names_found` meets its contract: the parts passed have their names on the sheet.
 use borrow.Author.Needs.{needs}
 use Prim.Native.Nat.{_≤_, _-_}
 use native.Mathlib.Omega.{arith}
 use mathlib.Core.Path.{_≡_, sym, _∙_}
-use Rattle.machine.specs.Machine.{allFound, partsIn}
 use Rattle.machine.proofs.Looping.{rest}
+use Rattle.machine.specs.Machine.{allLooked, partsIn}
 use Rattle.machine.proofs.Preparing.{all-of, next-true, next-false, none-left}
-use Rattle.evaluation.proofs.names_found.Statement.{statement}
-use Rattle.evaluation.proofs.names_found.Tie as tie
+use Rattle.preparing.proofs.names_found.Statement.{statement}
+use Rattle.preparing.proofs.names_found.Tie as tie
 
 abbrev Inv-loop : tie.InvT-loop
-Inv-loop sheet text codes n i₀ i = (allFound sheet (partsIn text codes n) ≡ allFound sheet (rest text codes n i)) × (i ≤ n)
+Inv-loop sheet text codes n i₀ i = (allLooked sheet (partsIn text codes n) ≡ allLooked sheet (rest text codes n i)) × (i ≤ n)
 
 abbrev μ-loop : tie.MeasureT-loop
 μ-loop sheet text codes n i₀ i = n - i
@@ -36,18 +36,18 @@ loop-less c = search needs
 loop-again : tie.Need-loop-again Inv-loop μ-loop
 loop-again c = (
   c .before .before .before .before .loop .inv .0 ∙ next-true _ _ _ _ _
-      (c .before .before .before .before .before .before .before .before .pre .0) (c .before .before .before .loop-test .taken) _
+      (c .before .before .before .before .before .before .before .before .pre) (c .before .before .before .loop-test .taken) _
       (c .before .found .ensures) (c .if1 .taken),
   omega arith,
 )
 
 returns : tie.Need-returns Inv-loop μ-loop
 returns c = sym (c .before .before .before .before .loop .inv .0 ∙ next-false _ _ _ _ _
-    (c .before .before .before .before .before .before .before .before .pre .0) (c .before .before .before .loop-test .taken) _
+    (c .before .before .before .before .before .before .before .before .pre) (c .before .before .before .loop-test .taken) _
     (c .before .found .ensures) (c .if1 .left))
 
 returns-2 : tie.Need-returns-2 Inv-loop μ-loop
-returns-2 c = sym (c .before .loop .inv .0 ∙ none-left _ _ _ _ _ (c .before .before .before .before .before .pre .0) (c .loop-test .left))
+returns-2 c = sym (c .before .loop .inv .0 ∙ none-left _ _ _ _ _ (c .before .before .before .before .before .pre) (c .loop-test .left))
 
 pub names-found-spec : {M : Type 1} → statement M
 names-found-spec =
