@@ -73,7 +73,8 @@ module _ (sheet formula work out : List ℕ) where
   Answers fault r out′ = (r ≡ writtenOf fault (wordsOn sheet formula)) × (out′ ≡ outputOf fault (wordsOn sheet formula) out)
 
   -- a fault of the sheet or of the reading
-  pub call-refused : (f : ℕ) → firstOf (sheetFault sheet) (readingFault sheet formula) ≡ f → (f ≡ 0 → ⊥) → Called (written.Refused f) out work
+  pub call-refused : (f : ℕ) → firstOf (sheetFault sheet) (readingFault sheet formula) ≡ f → (f ≡ 0 → ⊥)
+      → Called (written.Refused f) out work
   unfolding callAnswer callOutput callFault
   call-refused f e n =
       let a = refused (firstOf (sheetFault sheet) (readingFault sheet formula)) _ (wordsOn sheet formula) out f (sym e) n in

@@ -150,7 +150,8 @@ module _ (sheet F G work : List ℕ) where
   unfolding claimAnswer claimFault
   claim-refused f e n = (
     by-first f (firstOf (sheetFault sheet) (readingFault sheet F)) _ _ e n
-        ∙ ap (λ k. verdictFor k (claimFails sheet (formulaTree F) (formulaTree G))) (first-assoc (sheetFault sheet) (readingFault sheet F) _),
+        ∙ ap (λ k. verdictFor k (claimFails sheet (formulaTree F) (formulaTree G)))
+        (first-assoc (sheetFault sheet) (readingFault sheet F) _),
     λ x. refl,
   )
 

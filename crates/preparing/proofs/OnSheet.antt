@@ -26,9 +26,12 @@ same : (sheet text : List ℕ) → sheetFault sheet ≡ 0 → preparingFault she
 unfolding preparingFault readingFault
 same sheet text ok = rw (looked-tree sheet ok (formulaTree text))
 
-module _ (sheet text codes old : List ℕ) (answer : Written) (ok : sheetFault sheet ≡ 0) (p : PreparesFor sheet text old answer codes) where
+module _ (sheet text codes old : List ℕ) (answer : Written) (ok : sheetFault sheet ≡ 0)
+    (p : PreparesFor sheet text old answer codes) where
   pub read-refused : (f : ℕ) → answer ≡ Refused f → (readingFault sheet text ≡ f) × (f ≡ 0 → ⊥)
-  read-refused f e = let q = refused-by (preparingFault sheet text) (codeOf text) f (sym (p .0) ∙ e) in (sym (same sheet text ok) ∙ q .0, q .1)
+  read-refused f e =
+      let q = refused-by (preparingFault sheet text) (codeOf text) f (sym (p .0) ∙ e) in
+      (sym (same sheet text ok) ∙ q .0, q .1)
 
   module _ (n : ℕ) (e : answer ≡ Count n) where
     pub read-fine : readingFault sheet text ≡ 0
@@ -62,7 +65,8 @@ module _ (sheet text codes old : List ℕ) (answer : Written) (p : JudgesAndPrep
       let q = refused-by (judgedFault sheet text) (codeOf text) f (sym (p .0) ∙ e) in
       (go (zero-or-not (sheetFault sheet)) ∙ q .0, q .1)
     where
-      go : (sheetFault sheet ≡ 0) ⊎ (¬ (sheetFault sheet ≡ 0)) → firstOf (sheetFault sheet) (readingFault sheet text) ≡ judgedFault sheet text
+      go : (sheetFault sheet ≡ 0) ⊎ (¬ (sheetFault sheet ≡ 0))
+          → firstOf (sheetFault sheet) (readingFault sheet text) ≡ judgedFault sheet text
       go (inl z) = ap (firstOf (sheetFault sheet)) (sym (same sheet text z))
       go (inr x) = first-is (sheetFault sheet) _ x ∙ sym (first-is (sheetFault sheet) (preparingFault sheet text) x)
 

@@ -1,5 +1,5 @@
 -- `evaluation::place` meets its contract: by the answer, the list is put there or the work area is as it was.
-use mathlib.Core.Path.{refl, sym}
+use mathlib.Core.Path.{refl}
 use borrow.Author.Needs.{needs}
 use Rattle.evaluation.proofs.place.Statement.{statement}
 use Rattle.evaluation.proofs.place.Tie as tie
