@@ -8,7 +8,7 @@ use lib.ListN.{length, getD, List·getD-eq-default}
 use borrow.Author.Tests.{lt-ltb, le-ltb, eq-eqb, ne-eqb}
 use Rattle.signals.specs.Words.{dateOf, valueAt, valueAfter}
 use Rattle.signals.specs.Passing.{heldValue, isNext, atDate, afterDate, passedDate}
-use Rattle.reading.specs.Reading.{stepPast}
+use Rattle.reading.specs.Reading.{heldOn, stepPast}
 use Rattle.reading.specs.declared.Step.{Step}
 
 pub held-in : (l : List ℕ) (p last : ℕ) → last ≡ p - 1 → eqb (getD l last 0 % 2) 1 ≡ heldValue l p
@@ -37,6 +37,6 @@ module _ (l : List ℕ) (p d : ℕ) (b : Bool) (e : b ≡ heldValue l p) where
   unfolding atDate afterDate passedDate
   step-taken n = rw (n, ← e)
 
-  pub step-kept : isNext l p d ≡ false → _≡_ {A = Step} (record { before = b; at = b; after = b; passed = p }) (stepPast l p d)
+  pub step-kept : isNext l p d ≡ false → heldOn b p ≡ stepPast l p d
   unfolding atDate afterDate passedDate
   step-kept n = rw (n, ← e)

@@ -1,7 +1,7 @@
 -- Mirrored: Reading along a list's words: the next word's date, what passing a date gives, and how many words are dated up to one. Tied to
 -- what is believed by `ReaderSays`.
 use Prim.Native.Nat.{ℕ, suc}
-use mathlib.Core.Bool.{cond}
+use mathlib.Core.Bool.{Bool, cond}
 use mathlib.Core.List.{List, [], _∷_}
 use lib.Dec.{leb, ltb}
 use lib.ListN.{length, getD}
@@ -16,6 +16,10 @@ NEVER = 4294967295
 -- the date of the next word
 unfoldable pub nextDate : List ℕ → ℕ → ℕ
 nextDate l passed = cond (ltb passed (length l)) (dateOf (getD l passed 0)) NEVER
+
+-- past a date without a word: the value held before it goes on
+abbrev pub heldOn : Bool → ℕ → Step
+heldOn before passed = record { before = before; at = before; after = before; passed = passed }
 
 -- past a date that is not after the next word's: the values before, at and after it, and the new number passed
 abbrev pub stepPast : List ℕ → ℕ → ℕ → Step

@@ -2,7 +2,7 @@
 ghost use mathlib.Core.Path.{_≡_};
 ghost use Prim.Native.Nat.{_-_};
 ghost use Rattle.signals.specs.Passing.{heldValue};
-ghost use Rattle.reading.specs.Reading.{nextDate, stepPast};
+ghost use Rattle.reading.specs.Reading.{nextDate, heldOn, stepPast};
 use signals::Date;
 
 // The date where no word is left: above every sum of a date and a length.
@@ -45,28 +45,36 @@ fn next_date_at(words: &[u32], passed: usize) -> Date
     }
 }
 
-// Past a date: a word of that date is passed.
-fn past_at(words: &[u32], passed: usize, date: Date) -> Step
-    ensures { λ r. ⌜ r ≡ stepPast (now (words .entry)) passed (date .0) ⌝ }
+// A date without a word: the value held goes on.
+fn held_on(before: bool, passed: usize) -> Step
+    ensures { λ r. ⌜ r ≡ heldOn before passed ⌝ }
 {
-    let before = held_value_at(words, passed);
-    if passed < words.len() {
-        let w = words[passed];
-        if w / 4 == date.0 {
-            return Step {
-                before,
-                at: w / 2 % 2 == 1,
-                after: w % 2 == 1,
-                passed: passed + 1,
-            };
-        }
-    }
     Step {
         before,
         at: before,
         after: before,
         passed,
     }
+}
+
+// Past a date: a word of that date is passed. The value before it is read where it is given, so that it costs nothing where a caller
+// leaves it aside.
+fn past_at(words: &[u32], passed: usize, date: Date) -> Step
+    ensures { λ r. ⌜ r ≡ stepPast (now (words .entry)) passed (date .0) ⌝ }
+{
+    if passed < words.len() {
+        let w = words[passed];
+        if w / 4 == date.0 {
+            return Step {
+                before: held_value_at(words, passed),
+                at: w / 2 % 2 == 1,
+                after: w % 2 == 1,
+                passed: passed + 1,
+            };
+        }
+        return held_on(held_value_at(words, passed), passed);
+    }
+    held_on(held_value_at(words, passed), passed)
 }
 
 // A reader goes along a list's words and knows how many it has passed.
