@@ -13,6 +13,7 @@ use Rattle.signals.specs.Moment.{M}
 use Rattle.signals.specs.Signal.{num}
 use Rattle.signals.specs.Words.{dateOf, word}
 use Rattle.signals.specs.Settled.{entry}
+use Rattle.signals.proofs.Truth.{true-false}
 use Rattle.signals.proofs.WordFacts.{dateOf-word}
 use Rattle.operations.specs.Calls.{changesAfterM}
 use Rattle.building.specs.Building.{idle, oneMore, emitted, stores, emittedIn, begun, upToM, fitting, slotWith}
@@ -27,9 +28,6 @@ pub record Building (exact old slot : List ℕ) (made : Made) : Type 0 where
 or-step : (t a b c : Bool) → a ≡ (b || c) → (t || a) ≡ (t || b || c)
 or-step true a b c e = refl
 or-step false a b c e = e
-
-true-false : {A : Type 0} → true ≡ false → A
-true-false q = absurd (let z : _≡_ {A = ℕ} 0 1 = ap (λ b. cond b 0 1) q in omega arith)
 
 -- one word more
 pub late-snoc : (l : List ℕ) (w : ℕ) → changesAfterM (l ++ (w ∷ [])) ≡ (changesAfterM l || ltb M (dateOf w))

@@ -8,7 +8,7 @@ use lib.Dec.{leb, ltb}
 use lib.ListN.{length, drop, length-append}
 use borrow.Author.Tests.{ltb-false, le-ltb}
 use Rattle.signals.specs.Words.{dateOf, valueAfter, headValue, changesNothing, wordsFault, listFault, mostWords}
-use Rattle.names.proofs.Truth.{or-left, or-right}
+use Rattle.signals.proofs.Truth.{neither-left, neither-right}
 use Rattle.format.proofs.Judging.{past}
 use Rattle.format.proofs.Digits.{length-wordsIn, low32-written, four-past}
 use Rattle.format.proofs.Placing.{four}
@@ -22,7 +22,7 @@ later-listed last before zero b h = refl
 later-listed last before (suc n) b h =
     let e = past (ltb (length b) 4) 14 _ h in
     let g = past (leb (dateOf (low32 b)) last || changesNothing before (low32 b)) 16 _ (e .1) in
-    rw (or-left (leb (dateOf (low32 b)) last) _ (g .0), or-right (leb (dateOf (low32 b)) last) _ (g .0))
+    rw (neither-left (leb (dateOf (low32 b)) last) _ (g .0), neither-right (leb (dateOf (low32 b)) last) _ (g .0))
     (later-listed (dateOf (low32 b)) (valueAfter (low32 b)) n (drop 4 b) (g .1))
 
 pub words-listed : (n : ℕ) (b : List ℕ) → (n ≡ 0 → ⊥) → n ≤ mostWords → sheetWordsFault n b ≡ 0 → listFault (wordsIn n b) ≡ 0

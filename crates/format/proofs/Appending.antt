@@ -12,7 +12,7 @@ use borrow.Author.Tests.{ltb-false, le-leb, lt-leb, leb-false, ne-eqb, eq-eqb}
 use Rattle.signals.specs.Words.{listFault}
 use Rattle.signals.specs.Answers.{writtenOf, outputOf}
 use Rattle.signals.specs.declared.Written.the-variants.{Count, Refused}
-use Rattle.names.proofs.Truth.{or-left, or-right, not-false-true}
+use Rattle.signals.proofs.Truth.{neither-left, neither-right, not-down}
 use Rattle.format.proofs.Judging.{past}
 use Rattle.slices.proofs.Steps.{part-rest}
 use Rattle.format.proofs.Locating.{front-none}
@@ -148,8 +148,8 @@ appends sheet name list room h =
     let r = past (ltb room (length (appended sheet name list))) 6 _ (k .1) in
     record {
       fine = a .0;
-      named = not-false-true _ (or-left _ (among name (names (signalsOn sheet))) (n .0));
-      new = or-right (not (wellNamed name)) _ (n .0);
+      named = not-down _ (neither-left _ (among name (names (signalsOn sheet))) (n .0));
+      new = neither-right (not (wellNamed name)) _ (n .0);
       listed = l .0;
       fewer = rw length-on at (leb-false 32 (length (signalsOn sheet)) (k .0));
       room-enough = ltb-false room (length (appended sheet name list)) (r .0);

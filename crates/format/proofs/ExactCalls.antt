@@ -14,7 +14,7 @@ use Rattle.signals.specs.Checks.{Check, FaultCheck, NoFault}
 use Rattle.signals.proofs.Checks.{Single, none-single, check-single, check-by, fault-check, exactly}
 use Rattle.names.specs.Names.{wellNamed}
 use Rattle.names.specs.Sentence.{IsName}
-use Rattle.names.proofs.Truth.{true-false}
+use Rattle.signals.proofs.Truth.{true-false}
 use Rattle.names.proofs.NamesExact.{names-exact}
 use Rattle.format.proofs.SheetFields.{among-one, not-one}
 use Rattle.format.specs.Names.{among}

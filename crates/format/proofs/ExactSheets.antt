@@ -10,7 +10,7 @@ use lib.ListN.{length, take, drop, length-drop, take-append-drop}
 use lib.Seq.{drop-drop}
 use borrow.Author.Tests.{ltb-true, ltb-false, eqb-true, eqb-false}
 use Rattle.signals.proofs.Checks.{check-single, exactly}
-use Rattle.names.proofs.Truth.{true-false}
+use Rattle.signals.proofs.Truth.{true-false}
 use Rattle.format.proofs.Steps.{same-equal, same-refl}
 use Rattle.format.proofs.Digits.{low16-below, written16, bytes-drop}
 use Rattle.format.proofs.Judging.{front-short, front-mark, front-cut, front-version, front-no-count, front-many, front-fine}

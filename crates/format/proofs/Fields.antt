@@ -8,7 +8,7 @@ use lib.Dec.{leb, eqb}
 use lib.ListN.{length, drop, replicate, length-drop, take-append-drop}
 use lib.Seq.{drop-append-seam}
 use borrow.Author.Tests.{eqb-true, ne-eqb, leb-true}
-use Rattle.names.proofs.Truth.{and-left, and-right}
+use Rattle.signals.proofs.Truth.{and-left, and-right}
 use Rattle.format.proofs.Steps.{take-unpadded}
 use Rattle.slices.specs.Slices.{before}
 use Rattle.names.specs.Names.{letter, digit, allOf, nameByte, wellNamed}

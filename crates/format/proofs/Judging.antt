@@ -11,7 +11,7 @@ use lib.ListN.{length, take, drop, length-drop}
 use lib.Seq.{drop-drop}
 use borrow.Author.Tests.{eq-eqb, ne-eqb, lt-ltb, le-ltb, ltb-false, eqb-false, eqb-true}
 use Rattle.signals.specs.Words.{dateOf, valueAfter, headValue, changesNothing, mostWords}
-use Rattle.names.proofs.Truth.{or-left, or-right, not-false-true}
+use Rattle.signals.proofs.Truth.{neither-left, neither-right, not-down}
 use Rattle.format.proofs.Walking.{short, long, sub-step, wholes-all}
 use Rattle.format.specs.Names.{same, among, fieldFits, unpadded}
 use Rattle.slices.specs.Bytes.{low16, low32}
@@ -161,12 +161,12 @@ sound earlier rest h =
     let b = past (not (fieldFits (take 8 rest)) || among (nameAt rest) earlier) 15 _ (a .1) in
     let d = past (ltb (length rest) 10) 14 _ (b .1) in
     let e = past (eqb (wordCount rest) 0 || ltb mostWords (wordCount rest)) 16 _ (d .1) in
-    let z : wordCount rest ≡ 0 → ⊥ = eqb-false (wordCount rest) 0 (or-left _ (ltb mostWords (wordCount rest)) (e .0)) in
+    let z : wordCount rest ≡ 0 → ⊥ = eqb-false (wordCount rest) 0 (neither-left _ (ltb mostWords (wordCount rest)) (e .0)) in
     record {
-      field = not-false-true _ (or-left _ (among (nameAt rest) earlier) (b .0));
-      new = or-right (not (fieldFits (take 8 rest))) _ (b .0);
+      field = not-down _ (neither-left _ (among (nameAt rest) earlier) (b .0));
+      new = neither-right (not (fieldFits (take 8 rest))) _ (b .0);
       some = z;
-      most = ltb-false _ _ (or-right (eqb (wordCount rest) 0) _ (e .0));
+      most = ltb-false _ _ (neither-right (eqb (wordCount rest) 0) _ (e .0));
       words = e .1;
       whole = omega (arith, ltb-false (length rest) 10 (d .0), words-room (wordCount rest) (drop 10 rest) z (e .1), length-drop 10 rest);
     }
@@ -209,8 +209,8 @@ fronted s h =
     let f = past (ltb (length s) 7) 14 _ (e .1) in
     let g = past (ltb 32 (low16 (drop 5 s))) 14 _ (f .1) in
     record {
-      marked = not-false-true _ (b .0);
-      version = eqb-true _ _ (not-false-true _ (e .0));
+      marked = not-down _ (b .0);
+      version = eqb-true _ _ (not-down _ (e .0));
       room = ltb-false (length s) 7 (f .0);
       few = ltb-false 32 (low16 (drop 5 s)) (g .0);
     }

@@ -7,7 +7,7 @@ use mathlib.Core.List.{List, [], _∷_, _++_}
 use lib.Dec.{eqb}
 use lib.ListN.{length, take, drop, length-drop}
 use borrow.Author.Tests.{eq-eqb, ne-eqb, eqb-true}
-use Rattle.names.proofs.Truth.{true-false}
+use Rattle.signals.proofs.Truth.{true-false}
 use Rattle.format.proofs.Walking.{wholes-all}
 use Rattle.format.proofs.Judging.{sound, foundIn, found-known, Fronted, fronted}
 use Rattle.format.proofs.PlaceSays.{place-says}

@@ -16,7 +16,7 @@ use Rattle.format.specs.Calls.{lookupFault, firstByte, byteCount, placeF
 use Rattle.format.specs.LookupPlace.{LookupPlace}
 use Rattle.format.specs.declared.Place.{Place}
 use Rattle.format.specs.declared.Place.the-variants.{At}
-use Rattle.names.proofs.Truth.{true-false}
+use Rattle.signals.proofs.Truth.{true-false}
 use Rattle.format.proofs.Steps.{same-equal}
 use Rattle.format.proofs.Judging.{foundIn, found-known}
 use Rattle.format.proofs.Digits.{length-wordsIn}

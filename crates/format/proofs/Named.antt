@@ -9,7 +9,7 @@ use lib.ListN.{length, take, drop, replicate, length-drop}
 use lib.Seq.{take-at, drop-drop}
 use borrow.Author.Tests.{leb-true}
 use Rattle.signals.specs.Words.{listFault}
-use Rattle.names.proofs.Truth.{true-false, and-left, and-right}
+use Rattle.signals.proofs.Truth.{true-false, and-left, and-right}
 use Rattle.format.proofs.Fields.{named-characters}
 use Rattle.format.proofs.Digits.{words-written, length-wordsIn, bytes-drop}
 use Rattle.format.proofs.Placing.{length-words}

@@ -11,7 +11,7 @@ use Rattle.names.specs.Sentence.{IsName}
 use Rattle.names.proofs.NamesExact.{names-exact}
 use Rattle.slices.specs.Bytes.{low16, low32, bytes16, bytes32}
 use Rattle.format.proofs.Digits.{low16-written, low32-written, four-past}
-use Rattle.names.proofs.Truth.{true-false}
+use Rattle.signals.proofs.Truth.{true-false}
 use Rattle.format.proofs.Steps.{same-equal, same-refl}
 use Rattle.format.proofs.Fields.{padded-unpadded}
 use Rattle.format.proofs.Filling.{length-padded, two}

@@ -11,7 +11,7 @@ use Rattle.names.specs.Names.{wellNamed}
 use Rattle.format.specs.Names.{same, among}
 use Rattle.format.specs.Reading.{nameAt, wordCount, signalSize, signalFault, signalsFault, frontFault, sheetFault, countOn}
 use Rattle.format.specs.Reading.{Entry, entry, signalsFrom, signalsOn, nameOf, listOn, names, listNamed}
-use Rattle.names.proofs.Truth.{true-false}
+use Rattle.signals.proofs.Truth.{true-false}
 use Rattle.format.proofs.Steps.{same-equal}
 use Rattle.format.proofs.Digits.{bytes-drop, wordsIn-below}
 use Rattle.format.proofs.Fields.{fits-named}

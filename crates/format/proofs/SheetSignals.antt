@@ -13,7 +13,7 @@ use Rattle.signals.specs.Answers.{firstOf}
 use Rattle.signals.specs.Checks.{Check, NoFault}
 use Rattle.signals.specs.Words.{mostWords}
 use Rattle.signals.proofs.Checks.{Single, check-single, none-single}
-use Rattle.names.proofs.Truth.{true-false, or-left, or-right}
+use Rattle.signals.proofs.Truth.{true-false, neither-left, neither-right}
 use Rattle.names.proofs.NamesExact.{names-exact}
 use Rattle.names.specs.Sentence.{IsName}
 use Rattle.slices.specs.Bytes.{bytes16, Bytes}
@@ -55,7 +55,7 @@ outside k h = go (eqb k 0) refl h
     go false p q = inr (ltb-true mostWords k q)
 
 inside : (k : ℕ) → eqb k 0 || ltb mostWords k ≡ false → (k ≡ 0 → ⊥) × (k ≤ mostWords)
-inside k h = (eqb-false k 0 (or-left (eqb k 0) (ltb mostWords k) h), ltb-false mostWords k (or-right (eqb k 0) (ltb mostWords k) h))
+inside k h = (eqb-false k 0 (neither-left (eqb k 0) (ltb mostWords k) h), ltb-false mostWords k (neither-right (eqb k 0) (ltb mostWords k) h))
 
 -- the fields of a signal, read from its bytes
 module _ (bytes : List ℕ) (b : Bytes bytes) where

@@ -13,7 +13,7 @@ use Rattle.signals.specs.Answers.{firstOf}
 use Rattle.signals.specs.Checks.{Check}
 use Rattle.signals.specs.Words.{dateOf, valueAfter, headValue, changesNothing, wordsFault, listFault, mostWords}
 use Rattle.signals.proofs.Checks.{Single, check-single}
-use Rattle.names.proofs.Truth.{true-false}
+use Rattle.signals.proofs.Truth.{true-false}
 use Rattle.slices.specs.Bytes.{low32, Bytes}
 use Rattle.format.proofs.Digits.{low32-below, written32, bytes-drop}
 use Rattle.format.proofs.SheetFields.{word-single}

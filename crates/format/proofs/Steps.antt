@@ -7,7 +7,7 @@ use lib.Dec.{eqb}
 use lib.ListN.{length, getD, take, drop}
 use borrow.Author.Tests.{eq-eqb, ne-eqb, eqb-true}
 use Rattle.slices.proofs.Steps.{drop-step, drop-end, part-rest, before-within, take-before}
-use Rattle.names.proofs.Truth.{true-false, and-left, and-right, is-false}
+use Rattle.signals.proofs.Truth.{true-false, and-left, and-right, down-of}
 use Rattle.names.specs.Names.{wellNamed}
 use Rattle.format.specs.Names.{same, zeros, unpadded, fieldFits}
 
@@ -33,7 +33,7 @@ same-length (x ∷ xs) [] h = true-false (sym h)
 same-length (x ∷ xs) (y ∷ ys) h = ap suc (same-length xs ys (and-right (eqb x y) (same xs ys) h))
 
 pub same-unequal : (a b : List ℕ) → (length a ≡ length b → ⊥) → same a b ≡ false
-same-unequal a b h = is-false (same a b) (λ e. h (same-length a b e))
+same-unequal a b h = down-of (same a b) (λ e. h (same-length a b e))
 
 module _ (s : List ℕ) (i : ℕ) where
   pub zeros-not : i < length s → (getD s i 0 ≡ 0 → ⊥) → zeros (drop i s) ≡ false

@@ -9,7 +9,7 @@ use lib.Dec.{eqb}
 use lib.ListN.{length, length-append}
 use borrow.Author.Tests.{eqb-true, eqb-false, ne-eqb, lt-leb, le-ltb}
 use Rattle.signals.specs.Words.{signalOf}
-use Rattle.names.proofs.Truth.{is-false}
+use Rattle.signals.proofs.Truth.{down-of}
 use Rattle.format.proofs.Steps.{same-equal, same-refl}
 use Rattle.format.proofs.Digits.{words-read}
 use Rattle.format.proofs.Placing.{length-words}
@@ -108,7 +108,7 @@ module _ (sheet name list : List ℕ) (room : ℕ) (b : Bytes sheet) (k : Words 
       rw after (named-new name (signalsOn sheet) (entry name list) (appends sheet name list room z .new) (same-refl name))
 
   list-other : (m : List ℕ) → (name ≡ m → ⊥) → listNamed m (signalsOn (appended sheet name list)) ≡ listNamed m (signalsOn sheet)
-  list-other m n = rw after (named-other m (signalsOn sheet) (entry name list) (is-false (same name m) (λ e. n (same-equal name m e))))
+  list-other m n = rw after (named-other m (signalsOn sheet) (entry name list) (down-of (same name m) (λ e. n (same-equal name m e))))
 
 pub append-gives-new : AppendGivesNew
 unfolding environmentOn
@@ -133,7 +133,7 @@ append-keeps-others sheet name list other room b k z n =
     f : lookupFault (appended sheet name list) other ≡ lookupFault sheet other
     f =
         lookup-after sheet name list room b k z other
-        ∙ rw (is-false (same name other) (λ e. n (same-equal name other e)))
+        ∙ rw (down-of (same name other) (λ e. n (same-equal name other e)))
         (ap (λ (t : Bool). cond (wellNamed other) (cond t 0 13) 16) (or-none (among other (names (signalsOn sheet)))))
         ∙ sym (lookup-before sheet name list room b k z other)
 

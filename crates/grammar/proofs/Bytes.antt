@@ -1,34 +1,23 @@
--- Facts on bytes: tests joined by and, runs of bytes, and which bytes a lowercase letter or a digit is not.
+-- Facts on bytes: runs of bytes, and which bytes a lowercase letter or a digit is not.
 use Prim.Native.Nat.{ℕ, zero, _≤_}
 use native.Mathlib.Omega.{arith}
-use mathlib.Core.Path.{_≡_, refl}
+use mathlib.Core.Path.{_≡_, refl, sym}
 use mathlib.Core.Bool.{Bool, true, false, cond, _&&_}
 use mathlib.Core.List.{List, [], _∷_, _++_}
 use lib.Dec.{leb, eqb}
 use lib.ListN.{length, getD}
 use borrow.Author.Tests.{ne-eqb, leb-true}
+use Rattle.signals.proofs.Truth.{true-false, and-left, and-right}
 use Rattle.names.specs.Names.{allOf, letter}
 use Rattle.grammar.specs.Reader.{run, prefixKind, starts, blockKind}
 
 pub never : {A : Type 0} → _≡_ {A = Bool} false true → A
-never {A} e = absurd (let z : _≡_ {A = ℕ} 0 1 = cc in omega arith)
+never e = true-false (sym e)
 
 -- of a choice, by the test
 pub by-cond : {A : Type 0} (P : A → Type 0) (b : Bool) {x y : A} → (b ≡ true → P x) → (b ≡ false → P y) → P (cond b x y)
 by-cond P true f g = f refl
 by-cond P false f g = g refl
-
-pub and-left : (a b : Bool) → a && b ≡ true → a ≡ true
-and-left true b e = refl
-and-left false b e = e
-
-pub and-right : (a b : Bool) → a && b ≡ true → b ≡ true
-and-right true b e = e
-and-right false b e = never e
-
-pub and-both : (a b : Bool) → a ≡ true → b ≡ true → a && b ≡ true
-and-both true b p q = q
-and-both false b p q = p
 
 pub run-all : (p : ℕ → Bool) (w l : List ℕ) → allOf p w ≡ true → p (getD l 0 0) ≡ false → run p (w ++ l) ≡ length w
 unfolding run allOf

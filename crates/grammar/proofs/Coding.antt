@@ -20,7 +20,8 @@ use Rattle.grammar.specs.Formula.{Kind, plainKinds, partIn, plainPart, t
 use Rattle.grammar.specs.Formula.{partOf, accepted, formulaTree, partsOf, codeOf}
 use Rattle.grammar.specs.Exactness.{CodeExact, AcceptedCode, Breaks11, Breaks12}
 use Rattle.grammar.specs.Grammar.{Sum}
-use Rattle.grammar.proofs.Bytes.{never, and-left, and-right}
+use Rattle.signals.proofs.Truth.{and-left, and-right}
+use Rattle.grammar.proofs.Bytes.{never}
 use Rattle.grammar.proofs.Carried.{isIn, isPlain, isTimer, Carries, both-ways, text-carried}
 use Rattle.grammar.proofs.Faults.{fine-of}
 use Rattle.grammar.proofs.Reading.{parts-exact, longest-in, derived-of, tree-of, accepted-of}

@@ -18,7 +18,8 @@ use Rattle.grammar.specs.Kinds as kinds
 use Rattle.grammar.specs.Reader.{State, stepped, put, passLength, valueBetween, prefixKind, starts, blockKind, blockBytes, leafAt}
 use Rattle.grammar.specs.Reader.{timed, sumAt, sumsAt, productAt, productsAt, factorAt, latchAt, timerAt}
 use Rattle.grammar.specs.Formula.{plainPart, timedPart, nameAt, spelled}
-use Rattle.grammar.proofs.Bytes.{never, and-left, and-right, run-all, lower-not}
+use Rattle.signals.proofs.Truth.{and-left, and-right}
+use Rattle.grammar.proofs.Bytes.{never, run-all, lower-not}
 use Rattle.grammar.proofs.Standing.{state-eq, At, next-of, step-at, steps-at, block-of, expect-at, after, after-at}
 use Rattle.grammar.proofs.Branches.{Chain, plus, times, BlockNext, latch-is, timer-is}
 use Rattle.grammar.proofs.Steps.{joined, prefixed, bracketed, latched, clocked, worded, regroup}

@@ -11,24 +11,13 @@ use borrow.Author.Tests.{eqb-true, eqb-false, ltb-true, ltb-false, not-true}
 use Rattle.signals.specs.Moment.{M}
 use Rattle.signals.specs.Answers.{firstOf}
 use Rattle.signals.specs.Checks.{Check, NoFault}
+use Rattle.signals.proofs.Truth.{or-cases, neither-left, neither-right}
 use Rattle.signals.proofs.FirstFault.{first-some, next-is}
 use Rattle.signals.proofs.Checks.{Single, none-single, check-single, check-by, exactly}
 use Rattle.grammar.specs.Formula.{accepted, depthOf, partsOf, longestOf, formulaFault}
 use Rattle.grammar.specs.Exactness.{Breaks10, Breaks11, Breaks8, Breaks12, FormulaChecks, FaultsExact}
 use Rattle.grammar.proofs.Bytes.{never}
 use Rattle.grammar.proofs.Reading.{accepted-of, parts-exact, depth-of, longest-of, longest-in, in-longest, refused-of}
-
-or-cases : (a b : Bool) → a || b ≡ true → (a ≡ true) ⊎ (b ≡ true)
-or-cases true b e = inl refl
-or-cases false b e = inr e
-
-or-left : (a b : Bool) → a || b ≡ false → a ≡ false
-or-left true b e = e
-or-left false b e = refl
-
-or-right : (a b : Bool) → a || b ≡ false → b ≡ false
-or-right true b e = never (sym e)
-or-right false b e = e
 
 -- the sentences by their tests
 module _ (w : List ℕ) where
@@ -42,8 +31,8 @@ module _ (w : List ℕ) where
 
   long-false : long ≡ false → ¬ Breaks10 w
   long-false e =
-      ⊎-elim (eqb-false (length w) 0 (or-left (eqb (length w) 0) (ltb 1024 (length w)) e))
-      (λ h. let k = ltb-false 1024 (length w) (or-right (eqb (length w) 0) (ltb 1024 (length w)) e) in omega arith)
+      ⊎-elim (eqb-false (length w) 0 (neither-left (eqb (length w) 0) (ltb 1024 (length w)) e))
+      (λ h. let k = ltb-false 1024 (length w) (neither-right (eqb (length w) 0) (ltb 1024 (length w)) e) in omega arith)
 
   far-true : not (accepted w) ≡ false → ltb M (longestOf w) ≡ true → Breaks8 w
   far-true b e =
@@ -78,8 +67,8 @@ module _ (w : List ℕ) where
   many-false e x =
       let p = ap length (parts-exact w (x .0) (x .1) (x .2)) in
       let q = depth-of w (x .0) (x .1) (x .2) in
-      let k = ltb-false 32 (length (partsOf w)) (or-left (ltb 32 (length (partsOf w))) (ltb 16 (depthOf w)) e) in
-      let m = ltb-false 16 (depthOf w) (or-right (ltb 32 (length (partsOf w))) (ltb 16 (depthOf w)) e) in
+      let k = ltb-false 32 (length (partsOf w)) (neither-left (ltb 32 (length (partsOf w))) (ltb 16 (depthOf w)) e) in
+      let m = ltb-false 16 (depthOf w) (neither-right (ltb 32 (length (partsOf w))) (ltb 16 (depthOf w)) e) in
       ⊎-elim (λ h. omega arith) (λ h. omega arith) (x .3)
 
   given : FormulaChecks w NoFault (formulaFault w)

@@ -15,7 +15,8 @@ use Rattle.texts.specs.Lengths.{isLength}
 use Rattle.grammar.specs.Grammar.{Factor}
 use Rattle.grammar.specs.Reader.{State, run, next, bad, stepped, put, passLength, leafAt}
 use Rattle.grammar.specs.Formula.{nameAt, spelled}
-use Rattle.grammar.proofs.Bytes.{never, by-cond, and-left}
+use Rattle.signals.proofs.Truth.{and-left}
+use Rattle.grammar.proofs.Bytes.{never, by-cond}
 use Rattle.grammar.proofs.Standing.{state-eq, At, after}
 use Rattle.grammar.proofs.Found.{next-inv, Found, Finds}
 

@@ -15,7 +15,8 @@ use Rattle.grammar.specs.Grammar.{Sum}
 use Rattle.grammar.specs.Reader.{State, start, readText, sumAt}
 use Rattle.grammar.specs.Formula.{spelled, accepted, formulaTree, depthOf, partsOf, longestOf, formulaFault}
 use Rattle.grammar.specs.Exactness.{ReaderExact, OneTree, PartsExact, LengthIn, of-ton, of-tof, under, first, second}
-use Rattle.grammar.proofs.Bytes.{never, and-left, and-right}
+use Rattle.signals.proofs.Truth.{and-left, and-right}
+use Rattle.grammar.proofs.Bytes.{never}
 use Rattle.grammar.proofs.Standing.{after}
 use Rattle.grammar.proofs.Complete.{whole, sum-reads, ended}
 use Rattle.grammar.proofs.Sound.{sum-found}

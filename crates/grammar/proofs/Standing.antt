@@ -13,7 +13,7 @@ use Rattle.names.specs.Names.{allOf}
 use Rattle.grammar.specs.Tree.{Tree}
 use Rattle.grammar.specs.Code.{Part, code, longest}
 use Rattle.grammar.specs.Reader.{State, next, stepped, expect, starts, blockKind, blockAt}
-use Rattle.grammar.proofs.Bytes.{and-left, and-right}
+use Rattle.signals.proofs.Truth.{and-left, and-right}
 
 -- bytes that begin with a word are the word and what is after it
 pub front : (w l : List ℕ) → allOf (ltb 0) w ≡ true → starts w l ≡ true → l ≡ w ++ drop (length w) l

@@ -13,7 +13,7 @@ use Rattle.names.specs.Names.{digit, allOf}
 use Rattle.texts.specs.Lengths.{isLength, value, valueFrom}
 use Rattle.grammar.specs.Grammar.{Sum, Product, Factor}
 use Rattle.grammar.specs.Exactness.{Writable, EveryTreeWritten}
-use Rattle.grammar.proofs.Bytes.{and-both}
+use Rattle.signals.proofs.Truth.{and-of}
 
 pub value-more : (k c : ℕ) (w : List ℕ) → valueFrom k (w ++ (c ∷ [])) ≡ valueFrom k w * 10 + (c - 48)
 unfolding valueFrom
@@ -32,7 +32,7 @@ all-more c (b ∷ w) e f = go (digit b) e (λ h. all-more c w h f)
 
 digit-is : (n : ℕ) → n < 10 → digit (48 + n) ≡ true
 unfolding digit
-digit-is n h = and-both (leb 48 (48 + n)) (leb (48 + n) 57) (le-leb 48 (48 + n) (omega arith)) (le-leb (48 + n) 57 (omega arith))
+digit-is n h = and-of (leb 48 (48 + n)) (leb (48 + n) 57) (le-leb 48 (48 + n) (omega arith)) (le-leb (48 + n) 57 (omega arith))
 
 -- the digits of a number above 0
 record Digits (v : ℕ) : Type 0 where

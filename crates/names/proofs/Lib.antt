@@ -1,4 +1,3 @@
 -- Laws of the test of names, and the theorem that it is the sentence.
-pub mod Truth
 pub mod Steps
 pub mod NamesExact

@@ -8,7 +8,7 @@ use mathlib.Core.Logic.{_⊎_, inl, inr}
 use lib.Dec.{leb}
 use lib.ListN.{length, getD}
 use borrow.Author.Tests.{leb-true, le-leb}
-use Rattle.names.proofs.Truth.{true-false, and-left, and-right, and-both}
+use Rattle.signals.proofs.Truth.{true-false, and-left, and-right, and-of}
 use Rattle.names.specs.Names.{letter, digit, nameByte, allOf, wellNamed}
 use Rattle.names.specs.Sentence.{Letter, Digit, IsName, NamesExact}
 
@@ -18,7 +18,7 @@ letter-is b h = (leb-true 97 b (and-left (leb 97 b) (leb b 122) h), leb-true b 1
 
 is-letter : (b : ℕ) → Letter b → letter b ≡ true
 unfolding letter
-is-letter b l = and-both (le-leb 97 b (l .0)) (le-leb b 122 (l .1))
+is-letter b l = and-of _ _ (le-leb 97 b (l .0)) (le-leb b 122 (l .1))
 
 digit-is : (b : ℕ) → digit b ≡ true → Digit b
 unfolding digit
@@ -26,7 +26,7 @@ digit-is b h = (leb-true 48 b (and-left (leb 48 b) (leb b 57) h), leb-true b 57 
 
 is-digit : (b : ℕ) → Digit b → digit b ≡ true
 unfolding digit
-is-digit b l = and-both (le-leb 48 b (l .0)) (le-leb b 57 (l .1))
+is-digit b l = and-of _ _ (le-leb 48 b (l .0)) (le-leb b 57 (l .1))
 
 character-is : (b : ℕ) → nameByte b ≡ true → Letter b ⊎ Digit b
 unfolding nameByte
@@ -54,7 +54,7 @@ characters-are (b ∷ bs) h (suc i) p = characters-are bs (and-right (nameByte b
 are-characters : (bs : List ℕ) → ((i : ℕ) → i < length bs → Letter (getD bs i 0) ⊎ Digit (getD bs i 0)) → allOf nameByte bs ≡ true
 unfolding allOf
 are-characters [] h = refl
-are-characters (b ∷ bs) h = and-both (is-character b (h 0 (omega arith))) (are-characters bs (λ i p. h (suc i) (omega arith)))
+are-characters (b ∷ bs) h = and-of _ _ (is-character b (h 0 (omega arith))) (are-characters bs (λ i p. h (suc i) (omega arith)))
 
 named-is : (name : List ℕ) → wellNamed name ≡ true → IsName name
 unfolding wellNamed
@@ -77,8 +77,8 @@ is-named : (name : List ℕ) → IsName name → wellNamed name ≡ true
 unfolding wellNamed
 is-named [] n = absurd (omega (arith, n .some))
 is-named (b ∷ bs) n =
-    and-both (le-leb (suc (length bs)) 8 (n .most))
-    (and-both (is-letter b (n .first)) (are-characters bs (λ i p. n .others (suc i) (omega arith) (omega arith))))
+    and-of _ _ (le-leb (suc (length bs)) 8 (n .most))
+    (and-of _ _ (is-letter b (n .first)) (are-characters bs (λ i p. n .others (suc i) (omega arith) (omega arith))))
 
 pub names-exact : NamesExact
 names-exact name = (named-is name, is-named name)

@@ -19,6 +19,9 @@ pub up-or-down : (b : Bool) → Up b ⊎ Down b
 up-or-down true = inl refl
 up-or-down false = inr refl
 
+pub true-false : {A : Type 0} → _≡_ {A = Bool} true false → A
+true-false e = absurd (true≢false e)
+
 pub not-both : {b : Bool} {A : Type 0} → Up b → Down b → A
 not-both u d = absurd (true≢false (sym u ∙ d))
 
@@ -30,6 +33,10 @@ down-of false f = refl
 pub not-up : (b : Bool) → Up (not b) → Down b
 not-up true e = sym e
 not-up false e = refl
+
+pub not-down : (b : Bool) → Down (not b) → Up b
+not-down true e = refl
+not-down false e = true-false e
 
 pub not-of : {b : Bool} → Down b → Up (not b)
 not-of e = ap not e
@@ -57,6 +64,15 @@ or-left false b p = absurd (false≢true p)
 pub or-right : (a b : Bool) → Up b → Up (a || b)
 or-right true b p = refl
 or-right false b p = p
+
+-- neither is up where their disjunction is down
+pub neither-left : (a b : Bool) → Down (a || b) → Down a
+neither-left true b e = e
+neither-left false b e = refl
+
+pub neither-right : (a b : Bool) → Down (a || b) → Down b
+neither-right true b e = true-false e
+neither-right false b e = e
 
 pub implied-use : (p q : Bool) → Up (implied p q) → Up p → Up q
 implied-use true q e u = e

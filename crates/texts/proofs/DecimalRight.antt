@@ -8,7 +8,7 @@ use mathlib.Core.List.{List, [], _∷_, _++_}
 use lib.Dec.{eqb}
 use lib.ListN.{length}
 use borrow.Author.Tests.{ne-eqb, le-leb, eqb-true, eqb-false}
-use Rattle.names.proofs.Truth.{and-left, and-right}
+use Rattle.signals.proofs.Truth.{and-left, and-right, and-of, or-right}
 use Rattle.names.specs.Names.{digit as isDigit, allOf}
 use Rattle.texts.specs.Lengths.{isLength, valueFrom, value}
 use Rattle.texts.specs.Decimal.{digit, leading, decimal}
@@ -53,13 +53,6 @@ is-digit : (n : ℕ) → isDigit (digit n) ≡ true
 unfolding isDigit
 is-digit n = rw (le-leb 48 (digit n) (omega arith), le-leb (digit n) 57 (omega arith))
 
-and-true : {a b : Bool} → a ≡ true → b ≡ true → (a && b) ≡ true
-and-true p q = rw (p, q)
-
-or-right : (a b : Bool) → b ≡ true → (a || b) ≡ true
-or-right true b h = refl
-or-right false b h = h
-
 -- no digits, or a first digit that is not 0
 abbrev Good : List ℕ → Type 0
 Good [] = Unit {0}
@@ -69,7 +62,7 @@ all-more : (w : List ℕ) (n : ℕ) → allOf isDigit w ≡ true → allOf isDig
 unfolding allOf
 all-more [] n h = rw (is-digit n)
 all-more (a ∷ w) n h =
-    and-true
+    and-of _ _
     (and-left (isDigit a) (allOf isDigit w) h)
     (all-more w n (and-right (isDigit a) (allOf isDigit w) h))
 
@@ -92,7 +85,7 @@ is-length : (w : List ℕ) (n : ℕ) → Good w → isLength (w ++ (digit n ∷ 
 unfolding isLength allOf
 is-length [] n g = rw (is-digit n)
 is-length (a ∷ w) n g =
-    and-true (g .0) (and-true (all-more w n (g .1)) (or-right (eqb (length (w ++ (digit n ∷ []))) 0) (not (eqb a 48)) (ap not (g .2))))
+    and-of _ _ (g .0) (and-of _ _ (all-more w n (g .1)) (or-right (eqb (length (w ++ (digit n ∷ []))) 0) (not (eqb a 48)) (ap not (g .2))))
 
 well-formed : (n : ℕ) → n < 10 ^ 10 → isLength (decimal n) ≡ true
 unfolding decimal

@@ -10,7 +10,7 @@ use borrow.Author.Tests.{eqb-false}
 use Rattle.signals.specs.Moment.{M}
 use Rattle.signals.specs.declared.Verdict.{Verdict}
 use Rattle.signals.specs.declared.Verdict.the-variants.{Holds, FailsAt, FailsAfter, Refused}
-use Rattle.names.proofs.Truth.{and-left, and-right}
+use Rattle.signals.proofs.Truth.{and-left, and-right}
 use Rattle.texts.specs.Decimal.{digit, leading, decimal}
 use Rattle.texts.proofs.Digits.{decimal-length}
 use Rattle.verdict_line.specs.Line.{line, lineOf, holdsText, failsAtText, failsAfterText, refusedText}
