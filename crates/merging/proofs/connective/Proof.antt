@@ -1,0 +1,16 @@
+-- `merging::connective` is the merge of its operation.
+use borrow.Author.Needs.{needs}
+use Rattle.merging.proofs.connective.Statement.{statement}
+use Rattle.merging.proofs.connective.Tie as tie
+
+operate-requires : tie.Need-operate-requires
+operate-requires c κs = search needs
+
+same-length : tie.Need-same-length
+same-length c = search needs
+
+returns : tie.Need-returns
+returns c = c .before .before .operate .ensures
+
+pub connective-spec : {M : Type 1} → statement M
+connective-spec = tie.close (tie.spec operate-requires same-length returns)
