@@ -55,7 +55,7 @@ outside k h = go (eqb k 0) refl h
     go false p q = inr (ltb-true mostWords k q)
 
 inside : (k : ℕ) → eqb k 0 || ltb mostWords k ≡ false → (k ≡ 0 → ⊥) × (k ≤ mostWords)
-inside k h = (eqb-false k 0 (neither-left (eqb k 0) (ltb mostWords k) h), ltb-false mostWords k (neither-right (eqb k 0) (ltb mostWords k) h))
+inside k h = (eqb-false k 0 (neither-left (eqb k 0) _ h), ltb-false mostWords k (neither-right (eqb k 0) _ h))
 
 -- the fields of a signal, read from its bytes
 module _ (bytes : List ℕ) (b : Bytes bytes) where
