@@ -40,7 +40,7 @@ pub work-short : (sheet : List ℕ) (work : ℕ) → work < neededWork sheet →
 unfolding workFault
 work-short sheet work l = rw (lt-ltb work (neededWork sheet) l) refl
 
-work-from : (sheet : List ℕ) (work : ℕ) → workFault sheet work ≡ 0 → neededWork sheet ≤ work
+pub work-from : (sheet : List ℕ) (work : ℕ) → workFault sheet work ≡ 0 → neededWork sheet ≤ work
 unfolding workFault
 work-from sheet work e = ltb-false work (neededWork sheet) (passed (ltb work (neededWork sheet)) 18 0 (omega arith) e .0)
 

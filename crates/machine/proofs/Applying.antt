@@ -1,49 +1,41 @@
--- The operation of a code word on accepted lists, in a slot of 256 words or more, meets only 5 and 6, and else leaves its words there.
+-- The operation of a code word on accepted lists is judged to have no fault but 5 and 6, those of the part that it stands for.
 use Prim.Native.Nat.{ℕ, _/_, _%_, _≤_}
 use native.Mathlib.Omega.{arith}
-use mathlib.Core.Path.{_≡_, refl, _∙_, ap}
+use mathlib.Core.Path.{_≡_, refl, sym, _∙_, ap}
 use mathlib.Core.Bool.{Bool, true, false, cond}
 use mathlib.Core.List.{List}
 use lib.Dec.{eqb}
-use lib.ListN.{length, take, drop}
-use lib.Seq.{take-at}
-use borrow.Author.Tests.{le-leb, le-ltb}
+use lib.ListN.{length}
+use borrow.Author.Tests.{le-ltb, eqb-true}
 use Rattle.signals.specs.Moment.{M}
 use Rattle.signals.specs.Words.{mostWords, listFault, pairFault}
-use Rattle.signals.specs.Answers.{firstOf, writtenOf}
-use Rattle.signals.specs.declared.Written.{Written}
+use Rattle.signals.specs.Answers.{firstOf, faultIn, writtenOf}
+use Rattle.signals.specs.declared.Written.the-variants.{Count, Refused}
 use Rattle.signals.proofs.FirstFault.{next-is}
 use Rattle.operations.specs.Calls.{lengthFault, partFault}
-use Rattle.operations.proofs.CallFaults.{part-none}
-use Rattle.building.specs.Slots.{begins, slotAnswer, slotAfter}
-use Rattle.building.specs.Building.{slotWith}
-use Rattle.building.proofs.BuildingLaws.{slot-short}
+use Rattle.building.specs.Slots.{begins, slotAnswer}
 use Rattle.grammar.specs.Kinds as kinds
 use Rattle.grammar.specs.Tree.{Unary, invert, rise, fall, ton, tof}
 use Rattle.grammar.specs.Code.{ticksOf}
 use Rattle.code_words.specs.CodeWords.{operandsOf}
 use Rattle.applying.specs.PartCalls.{unaryOf, binaryIn, unaryFault, unaryExact, binaryExact, judgedFor, exactFor}
-use Rattle.applying.specs.PartCalls.{PartInSlot}
 use Rattle.applying.proofs.Numbering.{numbered}
+use Rattle.machine.specs.Stack.{operationFault}
 use Rattle.machine.proofs.PartCodes.{arity-one, arity-two}
 
--- the part's answer: 5 or 6, or its words
-pub record Applied (exact buffer : List ℕ) (answer : Written) : Type 0 where
-  pub answer-is : answer ≡ writtenOf (partFault exact) exact
-  pub stands : partFault exact ≡ 0 → take (length exact) buffer ≡ exact
+-- the fault of an answer is the call's
+told-fault : (f : ℕ) (l : List ℕ) → faultIn (writtenOf f l) ≡ f
+unfolding writtenOf
+told-fault f l = go (eqb f 0) refl
+  where
+    go : (t : Bool) → eqb f 0 ≡ t → faultIn (cond t (Count (length l)) (Refused f)) ≡ f
+    go true e = sym (eqb-true f 0 e)
+    go false e = refl
 
-pub applied : (w : ℕ) (a b slot : List ℕ) (answer : Written) (after : List ℕ) → judgedFor w a b ≡ 0 → mostWords ≤ length slot
-    → PartInSlot w a b slot answer after → Applied (exactFor w a b) after answer
-unfolding slotAnswer slotAfter begins
-applied w a b slot answer after z room h =
-    let exact = exactFor w a b in
-    record {
-      answer-is = (rw (z, le-leb mostWords (length slot) room) at (h .0)) ∙ numbered exact;
-      stands = λ p.
-          let q = part-none exact p in
-          let e : after ≡ slotWith exact slot = rw (z, le-leb mostWords (length slot) room) at (h .1) in
-          rw (e, slot-short exact slot (q .1) (omega (arith, q .0))) (take-at exact (drop (length exact) slot) (length exact) refl);
-    }
+pub operation-fault : (w : ℕ) (a b : List ℕ) → judgedFor w a b ≡ 0 → operationFault w a b ≡ partFault (exactFor w a b)
+unfolding operationFault slotAnswer begins
+operation-fault w a b z =
+    rw z (ap faultIn (numbered (exactFor w a b)) ∙ told-fault (partFault (exactFor w a b)) (exactFor w a b))
 
 -- the operands of a part are accepted, and so is its length
 pub pair-ok : (a b : List ℕ) → listFault a ≡ 0 → listFault b ≡ 0 → pairFault a b ≡ 0

@@ -1,5 +1,5 @@
 -- The formula call and the claim from their pieces: the faults in document 01's order, the words, the verdict.
-use Prim.Native.Nat.{ℕ, _≤_, _<_}
+use Prim.Native.Nat.{ℕ, _≤_}
 use native.Mathlib.Omega.{arith}
 use mathlib.Core.Path.{_≡_, refl, sym, _∙_, ap}
 use mathlib.Core.List.{List}
@@ -9,57 +9,59 @@ use Rattle.signals.specs.declared.Written.{Written}
 use Rattle.signals.specs.declared.Written.the-variants as written
 use Rattle.building.specs.Building.{HandsOver}
 use Rattle.operations.proofs.JudgedCalls.{refused, passes-on}
-use Rattle.grammar.specs.Formula.{formulaTree}
 use Rattle.format.specs.Reading.{sheetFault}
-use Rattle.calls.specs.OnSheet.{exactOn}
-use Rattle.calls.specs.Calls.{workWords, readingFault, workFault, neededWork, workingFault, wordsOn, callFault, callAnswer, callOutput}
-use Rattle.signals.specs.Words.{mostWords}
+use Rattle.calls.specs.Calls.{workWords, neededWork, readingFault, workFault, workingFault, wordsOn, callFault, callAnswer, callOutput}
 use Rattle.operations.specs.Calls.{roomFault}
-use Rattle.calls.proofs.NotRefused.{work-ok, work-short}
-use Rattle.machine.specs.Machine.{WorkedOut, runFault}
+use Rattle.calls.proofs.NotRefused.{work-from}
+use Rattle.machine.specs.Machine.{runFault, Run}
+use Rattle.machine.proofs.Running.{workedFault, WorkedOut}
 use Rattle.calls.specs.Work.{firstFault}
-use Rattle.machine.proofs.Stepping.{counted, refused-by}
-use Rattle.machine.proofs.SlotFacts.{short}
+use Rattle.machine.proofs.Answers.{counted, refused-by}
+use Rattle.machine.proofs.Exact.{short}
 use Rattle.signals.specs.Answers.{firstOf}
-use Rattle.signals.proofs.FirstFault.{next-is, first-assoc}
+use Rattle.signals.proofs.FirstFault.{both-none, next-is, first-assoc}
+
+-- without 18 the work area is long enough
+pub enough-work : (sheet text : List ℕ) (work : ℕ) → workedFault sheet text work ≡ 0 → workWords ≤ work
+unfolding workedFault neededWork
+enough-work sheet text work z = work-from sheet work (both-none (workFault sheet work) (workingFault sheet text) z .0)
 
 -- a formula that was worked out
-module _ (sheet text before after : List ℕ) (answer : Written) (w : WorkedOut sheet before after 0 (formulaTree text) answer) where
-  did : answer ≡ writtenOf (workingFault sheet text) (wordsOn sheet text)
-  unfolding workingFault wordsOn
-  did = w .answer-is
+module _ (sheet text before after : List ℕ) (answer : Written) (w : WorkedOut sheet text before after 0 answer) where
+  whole : (room : ℕ) → firstOf (workedFault sheet text (length before)) (roomFault (wordsOn sheet text) room)
+      ≡ runFault sheet text (length before) room
+  unfolding runFault workedFault
+  whole room = first-assoc (workFault sheet (length before)) (workingFault sheet text) (roomFault (wordsOn sheet text) room)
 
-  pub run-refused : (f : ℕ) → answer ≡ written.Refused f → (out : List ℕ)
-      → (written.Refused f ≡ writtenOf (runFault sheet text (length out)) (wordsOn sheet text)) ×
-      (out ≡ outputOf (runFault sheet text (length out)) (wordsOn sheet text) out)
-  unfolding runFault
+  ran : (out out′ : List ℕ) (r : Written)
+      → (r ≡ writtenOf (firstOf (workedFault sheet text (length before)) (roomFault (wordsOn sheet text) (length out)))
+      (wordsOn sheet text))
+      × (out′ ≡ outputOf (firstOf (workedFault sheet text (length before)) (roomFault (wordsOn sheet text) (length out)))
+      (wordsOn sheet text) out)
+      → Run sheet text before out r out′ after
+  ran out out′ r h = let a = rw (whole (length out)) at h in record { answer-is = a .0; output-is = a .1; kept = w .kept }
+
+  pub run-refused : (f : ℕ) → answer ≡ written.Refused f → (out : List ℕ) → Run sheet text before out (written.Refused f) out after
   run-refused f e out =
-      let q = refused-by (workingFault sheet text) (wordsOn sheet text) f (sym did ∙ e) in
-      refused (workingFault sheet text) _ (wordsOn sheet text) out f (sym (q .0)) (q .1)
+      let q = refused-by (workedFault sheet text (length before)) (wordsOn sheet text) f (sym (w .answer-is) ∙ e) in
+      ran out out (written.Refused f) (refused (workedFault sheet text (length before)) _ (wordsOn sheet text) out f (sym (q .0)) (q .1))
 
   module _ (n : ℕ) (e : answer ≡ written.Count n) where
-    pub run-words : take n after ≡ wordsOn sheet text
-    unfolding wordsOn workingFault
-    run-words =
-        let q = counted (workingFault sheet text) (wordsOn sheet text) n (sym did ∙ e) in
-        rw (q .1) (w .stands (q .0) .stands)
+    given : (workedFault sheet text (length before) ≡ 0) × (n ≡ length (wordsOn sheet text))
+    given = counted (workedFault sheet text (length before)) (wordsOn sheet text) n (sym (w .answer-is) ∙ e)
 
-    pub run-fits : mostWords ≤ length after → n ≤ length after
-    unfolding wordsOn workingFault
+    run-words : take n after ≡ wordsOn sheet text
+    run-words = rw (given .1) (w .stands (given .0) .stands)
+
+    pub run-fits : length after ≡ length before → n ≤ length after
     run-fits h =
-        let q = counted (workingFault sheet text) (wordsOn sheet text) n (sym did ∙ e) in
-        let s = short (exactOn sheet (formulaTree text)) (w .stands (q .0) .accepted) in
-        omega (arith, q .1)
+        let s = short (wordsOn sheet text) (w .stands (given .0) .accepted) in
+        omega (arith, given .1, enough-work sheet text (length before) (given .0))
 
-    pub run-counted : (out out′ : List ℕ) (r : Written)
-        → HandsOver (take n after) out r out′
-        → (r ≡ writtenOf (runFault sheet text (length out)) (wordsOn sheet text)) ×
-        (out′ ≡ outputOf (runFault sheet text (length out)) (wordsOn sheet text) out)
-    unfolding runFault
+    pub run-counted : (out out′ : List ℕ) (r : Written) → HandsOver (take n after) out r out′ → Run sheet text before out r out′ after
     run-counted out out′ r h =
-        let q = counted (workingFault sheet text) (wordsOn sheet text) n (sym did ∙ e) in
-        passes-on (workingFault sheet text) (roomFault (wordsOn sheet text) (length out)) (wordsOn sheet text) out r out′ (q .0)
-        (rw run-words at h)
+        ran out out′ r (passes-on (workedFault sheet text (length before)) (roomFault (wordsOn sheet text) (length out))
+        (wordsOn sheet text) out r out′ (given .0) (rw run-words at h))
 
 -- the call
 module _ (sheet formula work out : List ℕ) where
@@ -94,17 +96,11 @@ module _ (sheet formula work out : List ℕ) where
       from-reading rest r out′ h = from-sheet _ r out′ (passes-on (readingFault sheet formula) rest
           (wordsOn sheet formula) out r out′ read h)
 
-      pub call-work : length work < workWords → Called (written.Refused 18) out work
-      unfolding callAnswer callOutput callFault neededWork
-      call-work h =
-          let w = work-short sheet (length work) h in
-          let a = from-reading _ _ out (refused (workFault sheet (length work)) _ (wordsOn sheet formula) out 18 (sym w) (λ z. omega arith))
-          in (a .0, a .1, λ x. refl)
-
-      pub call-run : workWords ≤ length work → (r : Written) (out′ work′ : List ℕ) → Answers (runFault sheet formula (length out)) r out′
-          → Called r out′ work′
-      unfolding callAnswer callOutput callFault runFault firstFault neededWork
-      call-run h r out′ work′ x =
-          let w = work-ok sheet (length work) h in
-          let a = from-reading _ r out′ (passes-on (workFault sheet (length work)) _ (wordsOn sheet formula) out r out′ w x) in
-          (a .0, a .1, λ n. absurd (n (next-is (sheetFault sheet) _ ok ∙ next-is (readingFault sheet formula) _ read ∙ w)))
+      pub call-run : (r : Written) (out′ work′ : List ℕ) → Run sheet formula work out r out′ work′ → Called r out′ work′
+      unfolding callAnswer callOutput callFault runFault firstFault
+      call-run r out′ work′ x =
+          let a = from-reading _ r out′ (x .answer-is, x .output-is) in (
+            a .0,
+            a .1,
+            λ n. x .kept (λ z. n (next-is (sheetFault sheet) _ ok ∙ next-is (readingFault sheet formula) _ read ∙ z)),
+          )

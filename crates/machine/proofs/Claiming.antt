@@ -1,5 +1,5 @@
 -- The claim of two formulas from its pieces: the faults in document 01's order, then the verdict of the two signals.
-use Prim.Native.Nat.{ℕ, _+_, _-_, _≤_, _<_, max}
+use Prim.Native.Nat.{ℕ, _+_, _-_, _≤_, max}
 use native.Mathlib.Omega.{arith}
 use mathlib.Core.Path.{_≡_, refl, sym, _∙_, ap}
 use mathlib.Core.List.{List}
@@ -22,16 +22,17 @@ use Rattle.signals.specs.Words.{pairFault}
 use Rattle.format.specs.Reading.{sheetFault}
 use Rattle.calls.specs.OnSheet.{exactOn, signalOn, settlingDate}
 use Rattle.calls.specs.Calls.{readingFault, workFault, neededWork, partsFault, workingFault, claimFault, claimFails, claimVerdict}
-use Rattle.calls.specs.Calls.{workWords, claimAnswer}
+use Rattle.calls.specs.Calls.{workWords, wordsOn, claimAnswer}
 use Rattle.calls.proofs.Settles.{settles}
-use Rattle.calls.proofs.NotRefused.{work-ok, work-short}
-use Rattle.machine.specs.Machine.{InSlot, WorkedOut, judgeFault, claimOnFault, ClaimOn}
+use Rattle.calls.proofs.NotRefused.{work-ok}
+use Rattle.machine.specs.Machine.{InSlot, judgeFault, Judged, claimOnFault, ClaimOn}
 use Rattle.calls.specs.Work.{firstClaimFault}
-use Rattle.machine.proofs.Exact.{signal-is, settled-at}
-use Rattle.machine.proofs.Stepping.{counted, refused-by}
-use Rattle.machine.proofs.SlotFacts.{short}
+use Rattle.machine.proofs.Exact.{signal-is, settled-at, short}
+use Rattle.machine.proofs.Answers.{counted, refused-by}
+use Rattle.machine.proofs.Running.{workedFault, WorkedOut}
+use Rattle.machine.proofs.Calling.{enough-work}
 use Rattle.signals.specs.Answers.{firstOf, judgedBy, verdictFor}
-use Rattle.signals.proofs.FirstFault.{first-is, next-is, first-assoc}
+use Rattle.signals.proofs.FirstFault.{first-is, next-is, both-none, first-assoc}
 
 -- faults in their order
 pub by-first : (f g rest : ℕ) (v : Option ℕ) → g ≡ f → (f ≡ 0 → ⊥) → Refused f ≡ verdictFor (firstOf g rest) v
@@ -65,56 +66,78 @@ compared sheet ok t u a b =
     (settled-later _ _ m (settles sheet ok t) (omega arith))
     (settled-later _ _ m (settles sheet ok u) (omega arith)))
 
-module _ (sheet g before after : List ℕ) (answer : Written) (w : WorkedOut sheet before after 1 (formulaTree g) answer) where
+-- G worked out above F's list, in a work area that is long enough
+module _ (sheet g before after : List ℕ) (answer : Written) (w : WorkedOut sheet g before after 1 answer)
+    (long : workWords ≤ length before) where
+  only-parts : workedFault sheet g (length before) ≡ workingFault sheet g
+  unfolding workedFault neededWork
+  only-parts = next-is (workFault sheet (length before)) (workingFault sheet g) (work-ok sheet (length before) long)
+
   pub compare-refused : (f : ℕ) (v : Option ℕ) → answer ≡ written.Refused f → Refused f ≡ verdictFor (workingFault sheet g) v
-  unfolding workingFault
   compare-refused f v e =
-      let q = refused-by (partsFault sheet (parts (formulaTree g))) (exactOn sheet (formulaTree g)) f (sym (w .answer-is) ∙ e) in
-      by-one f (partsFault sheet (parts (formulaTree g))) v (q .0) (q .1)
+      let q = refused-by (workedFault sheet g (length before)) (wordsOn sheet g) f (sym (w .answer-is) ∙ e) in
+      by-one f (workingFault sheet g) v (sym only-parts ∙ q .0) (q .1)
 
   module _ (n : ℕ) (e : answer ≡ written.Count n) where
-    given : (partsFault sheet (parts (formulaTree g)) ≡ 0) × (n ≡ length (exactOn sheet (formulaTree g)))
-    given = counted (partsFault sheet (parts (formulaTree g))) (exactOn sheet (formulaTree g)) n (sym (w .answer-is) ∙ e)
+    given : (workedFault sheet g (length before) ≡ 0) × (n ≡ length (wordsOn sheet g))
+    given = counted (workedFault sheet g (length before)) (wordsOn sheet g) n (sym (w .answer-is) ∙ e)
 
     pub compare-short : n ≤ mostWords
-    compare-short = let s = short (exactOn sheet (formulaTree g)) (w .stands (given .0) .accepted) in omega (arith, given .1)
+    compare-short = let s = short (wordsOn sheet g) (w .stands (given .0) .accepted) in omega (arith, given .1)
 
     pub compare-done : (ok : sheetFault sheet ≡ 0) (t : Tree) (m : ℕ) → m ≤ mostWords → InSlot before 0 m (exactOn sheet t) → (r : Verdict)
         → r ≡ impliesOf (take m after) (take (mostWords + n - mostWords) (drop mostWords after)) → r ≡ verdictFor (workingFault sheet g)
         (claimFails sheet t (formulaTree g))
-    unfolding workingFault
+    unfolding wordsOn
     compare-done ok t m h s r x =
         let k : mostWords + n - mostWords ≡ n = omega arith in
-        let second : take n (drop mostWords after) ≡ exactOn sheet (formulaTree g) = rw (given .1) (w .stands (given .0) .stands) in
-        let cut : take m (take mostWords after) ≡ take m (take mostWords before) = ap (take m) (w .kept) in
+        let slot = w .stands (given .0) in
+        let second : take n (drop mostWords after) ≡ exactOn sheet (formulaTree g) = rw (given .1) (slot .stands) in
+        let cut : take m (take mostWords after) ≡ take m (take mostWords before) = ap (take m) (w .below) in
         let first : take m after ≡ exactOn sheet t =
         sym (take-take m mostWords after h) ∙ cut ∙ take-take m mostWords before h ∙ s .stands in
         let y : r ≡ impliesOf (exactOn sheet t) (exactOn sheet (formulaTree g)) = rw (k, second, first) at x in
-        y ∙ compared sheet ok t (formulaTree g) (s .accepted) (w .stands (given .0) .accepted) ∙ by-none
-        (partsFault sheet (parts (formulaTree g))) _ (given .0)
+        y ∙ compared sheet ok t (formulaTree g) (s .accepted) (slot .accepted) ∙ by-none (workingFault sheet g) _
+        (sym only-parts ∙ given .0)
 
-module _ (sheet f g before after : List ℕ) (answer : Written) (w : WorkedOut sheet before after 0 (formulaTree f) answer) where
-  pub judge-refused : (x : ℕ) (v : Option ℕ) → answer ≡ written.Refused x → Refused x ≡ verdictFor (judgeFault sheet f g) v
-  unfolding judgeFault workingFault
-  judge-refused x v e =
-      let q = refused-by (partsFault sheet (parts (formulaTree f))) (exactOn sheet (formulaTree f)) x (sym (w .answer-is) ∙ e) in
-      by-first x (partsFault sheet (parts (formulaTree f))) (workingFault sheet g) v (q .0) (q .1)
+-- F worked out
+module _ (sheet f g before after : List ℕ) (answer : Written) (w : WorkedOut sheet f before after 0 answer) where
+  whole : (v : Option ℕ) → verdictFor (firstOf (workedFault sheet f (length before)) (workingFault sheet g)) v
+      ≡ verdictFor (judgeFault sheet f g (length before)) v
+  unfolding judgeFault workedFault
+  whole v = ap (λ k. verdictFor k v) (first-assoc (workFault sheet (length before)) (workingFault sheet f) (workingFault sheet g))
+
+  pub judge-refused : (x : ℕ) → answer ≡ written.Refused x → Judged sheet f g before (Refused x) after
+  judge-refused x e =
+      let q = refused-by (workedFault sheet f (length before)) (wordsOn sheet f) x (sym (w .answer-is) ∙ e) in
+      record {
+        answer-is = by-first x (workedFault sheet f (length before)) (workingFault sheet g) _ (q .0) (q .1) ∙ whole _;
+        kept = w .kept;
+      }
 
   module _ (n : ℕ) (e : answer ≡ written.Count n) where
-    known : (partsFault sheet (parts (formulaTree f)) ≡ 0) × (n ≡ length (exactOn sheet (formulaTree f)))
-    known = counted (partsFault sheet (parts (formulaTree f))) (exactOn sheet (formulaTree f)) n (sym (w .answer-is) ∙ e)
+    known : (workedFault sheet f (length before) ≡ 0) × (n ≡ length (wordsOn sheet f))
+    known = counted (workedFault sheet f (length before)) (wordsOn sheet f) n (sym (w .answer-is) ∙ e)
+
+    pub judge-long : workWords ≤ length before
+    judge-long = enough-work sheet f (length before) (known .0)
 
     pub judge-short : n ≤ mostWords
-    judge-short = let s = short (exactOn sheet (formulaTree f)) (w .stands (known .0) .accepted) in omega (arith, known .1)
+    judge-short = let s = short (wordsOn sheet f) (w .stands (known .0) .accepted) in omega (arith, known .1)
 
-    pub judge-done : (r : Verdict)
+    pub judge-done : (r : Verdict) (last : List ℕ)
         → ((t : Tree) → partsFault sheet (parts t) ≡ 0 → InSlot after 0 n (exactOn sheet t) → r ≡ verdictFor (workingFault sheet g)
         (claimFails sheet t (formulaTree g)))
-        → r ≡ verdictFor (judgeFault sheet f g) (claimFails sheet (formulaTree f) (formulaTree g))
-    unfolding judgeFault workingFault
-    judge-done r h =
-        by-next (partsFault sheet (parts (formulaTree f))) (workingFault sheet g) _ r (known .0)
-        (h (formulaTree f) (known .0) (rw (← (known .1)) at (w .stands (known .0))))
+        → Judged sheet f g before r last
+    unfolding wordsOn workingFault workedFault
+    judge-done r last h =
+        let both = both-none (workFault sheet (length before)) (workingFault sheet f) (known .0) in
+        let slot = rw (← (known .1)) at (w .stands (known .0)) in
+        record {
+          answer-is = by-next (workedFault sheet f (length before)) (workingFault sheet g) _ r (known .0)
+              (h (formulaTree f) (both .1) slot) ∙ whole _;
+          kept = λ x. absurd (x (both .0));
+        }
 
 -- from G's reading on
 module _ (sheet F G work : List ℕ) where
@@ -122,25 +145,13 @@ module _ (sheet F G work : List ℕ) where
   unfolding claimOnFault
   on-reading f e n = record { answer-is = by-first f (readingFault sheet G) _ _ e n; kept = λ x. refl }
 
-  module _ (read : readingFault sheet G ≡ 0) where
-    pub on-work : length work < workWords → ClaimOn sheet F G work (Refused 18) work
-    unfolding claimOnFault neededWork
-    on-work h =
-        record {
-          answer-is = by-next (readingFault sheet G) _ _ (Refused 18) read
-              (by-first 18 (workFault sheet (length work)) _ _ (work-short sheet (length work) h) (λ z. omega arith));
-          kept = λ x. refl;
-        }
-
-    pub on-judged : workWords ≤ length work → (r : Verdict) (after : List ℕ) → r ≡ verdictFor (judgeFault sheet F G)
-        (claimFails sheet (formulaTree F) (formulaTree G)) → ClaimOn sheet F G work r after
-    unfolding claimOnFault neededWork
-    on-judged h r after x =
-        let w = work-ok sheet (length work) h in
-        record {
-          answer-is = by-next (readingFault sheet G) _ _ r read (by-next (workFault sheet (length work)) _ _ r w x);
-          kept = λ n. absurd (n (next-is (readingFault sheet G) _ read ∙ w));
-        }
+  pub on-judged : readingFault sheet G ≡ 0 → (r : Verdict) (after : List ℕ) → Judged sheet F G work r after → ClaimOn sheet F G work r after
+  unfolding claimOnFault
+  on-judged read r after x =
+      record {
+        answer-is = by-next (readingFault sheet G) _ _ r read (x .answer-is);
+        kept = λ n. x .kept (λ z. n (next-is (readingFault sheet G) _ read ∙ z));
+      }
 
   abbrev pub Claimed : Verdict → List ℕ → Type 0
   Claimed r after = (r ≡ claimAnswer sheet F G (length work)) × ((firstClaimFault sheet F G (length work) ≡ 0 → ⊥) → after ≡ work)

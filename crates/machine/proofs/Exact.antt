@@ -21,6 +21,10 @@ use Rattle.operations.specs.Calls.{partFault}
 use Rattle.calls.proofs.Settles.{settles, exact-for}
 use Rattle.applying.specs.PartCalls.{unaryExact, binaryExact, AND-table, OR-table}
 
+-- an accepted list is short
+pub short : (l : List ℕ) → listFault l ≡ 0 → length l ≤ mostWords
+short l h = accepted-normal l .0 h .1
+
 and-cell : (f g : Signal) (t : ℕ) → connective AND-table f g t ≡ AND f g t
 unfolding connective cell AND
 and-cell f g t = go (f t) (g t)

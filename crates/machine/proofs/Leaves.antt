@@ -5,9 +5,8 @@ use mathlib.Core.Path.{_≡_, refl, sym, _∙_, ap}
 use mathlib.Core.Bool.{Bool, true, false, cond}
 use lib.Dec.{eqb}
 use mathlib.Core.List.{List, [], _∷_, _++_}
-use lib.ListN.{length, take, drop, getD, set}
-use lib.Seq.{paste, set-split, append-snoc}
-use native.Mathlib.Numerals.{add-one}
+use lib.ListN.{length, take, drop, getD}
+use native.Mathlib.Decide.{ℕ-discrete}
 use borrow.Author.Tests.{eq-eqb, ne-eqb, le-ltb}
 use Rattle.signals.specs.Moment.{M}
 use Rattle.signals.specs.Signal.{constant, num}
@@ -31,16 +30,29 @@ use Rattle.signals.proofs.Normal.{read-back, accepted-normal}
 use Rattle.operations.specs.Calls.{partFault}
 use Rattle.calls.specs.OnSheet.{exactOn, settlingDate}
 use Rattle.code_words.specs.CodeWords.{constantOf}
-use Rattle.machine.specs.Machine.{leafOf, leafKnown, Loaded}
-use Rattle.machine.proofs.SlotFacts.{short}
-use Rattle.machine.proofs.Putting.{words-length}
+use Rattle.machine.specs.Machine.{leafOf, leafKnown}
+use Rattle.machine.specs.Stack.{leafWords}
+use Rattle.machine.proofs.Exact.{short}
 use Rattle.signals.specs.Answers.{firstOf}
 
-pub paste-one : (d : List ℕ) (at w : ℕ) → at < length d → set d at w ≡ paste d at (w ∷ []) 1
-paste-one d at w h =
-    set-split d at w h
-    ∙ sym (append-snoc (take at d) w (drop (suc at) d))
-    ∙ ap (λ k. (take at d ++ (w ∷ [])) ++ drop k d) (sym (add-one at))
+pub words-length : (n : ℕ) (b : List ℕ) → length (wordsIn n b) ≡ n
+unfolding wordsIn
+words-length zero b = refl
+words-length (suc n) b = ap suc (words-length n (drop 4 b))
+
+-- the words of any name on any sheet are at most 256
+pub part-small : (sheet n : List ℕ) → Bytes sheet → length (lookupOf sheet n) / 4 ≤ mostWords
+unfolding lookupOf placeOf decoded
+part-small sheet n bytes = go (ℕ-discrete (lookupFault sheet n) 0)
+  where
+    go : Dec (lookupFault sheet n ≡ 0) → length (lookupOf sheet n) / 4 ≤ mostWords
+    go (yes e) =
+        let p = lookup-gives-the-list sheet n bytes e in
+        let l = words-length (length (lookupOf sheet n) / 4) (lookupOf sheet n) in
+        let s = short (listNamed n (signalsOn sheet)) (p .listed) in
+        let w = ap length (p .words) in
+        omega arith
+    go (no x) = rw (ne-eqb (lookupFault sheet n) 0 x) (omega arith)
 
 constant-list : (v : Bool) → listOf (constant v) 0 ≡ num v ∷ []
 unfolding listOf wordsOf constant
@@ -72,13 +84,6 @@ module _ (sheet n : List ℕ) (ok : sheetFault sheet ≡ 0) (bytes : Bytes sheet
   unfolding decoded
   part-words part e = rw e (the-part .words ∙ sym name-list)
 
-  pub part-short : (part : List ℕ) → part ≡ lookupOf sheet n → length part / 4 ≤ mostWords
-  part-short part e =
-      let l : length (wordsIn (length part / 4) part) ≡ length part / 4 = words-length (length part / 4) part in
-      let w = ap length (part-words part e ∙ name-list) in
-      let s = short (listNamed n (signalsOn sheet)) (the-part .listed) in
-      omega arith
-
 -- which leaf a code word of that kind stands for
 pub leaf-name : (text : List ℕ) (w : ℕ) → w % 16 ≡ kinds.NAME → leafOf text w ≡ name (nameAt text (w / 256) (w / 16 % 16))
 unfolding leafOf
@@ -92,24 +97,6 @@ pub leaf-down : (text : List ℕ) (w : ℕ) → (w % 16 ≡ kinds.NAME → ⊥) 
 unfolding leafOf
 leaf-down text w a b = rw (ne-eqb (w % 16) kinds.NAME a, ne-eqb (w % 16) kinds.UP b)
 
--- the cases of loading
-pub loaded-name : (sheet text : List ℕ) (w : ℕ) (old work part name-bytes : List ℕ) (at count : ℕ) → sheetFault sheet ≡ 0 → Bytes sheet
-    → leafKnown sheet (leafOf text w) → w % 16 ≡ kinds.NAME
-    → name-bytes ≡ nameAt text (w / 256) (w / 16 % 16) → part ≡ lookupOf sheet name-bytes
-    → count ≡ length part / 4 → work ≡ paste old at (wordsIn (length part / 4) part) count → Loaded sheet (leafOf text w) old work at count
-loaded-name sheet text w old work part nb at count ok bytes known e en ep ec ew =
-    let k = rw (leaf-name text w e) at known in
-    let p : part ≡ lookupOf sheet (nameAt text (w / 256) (w / 16 % 16)) = rw en at ep in
-    let x = part-words sheet (nameAt text (w / 256) (w / 16 % 16)) ok bytes k part p in
-    rw (leaf-name text w e)
-    (record { count-is = ec ∙ sym (words-length (length part / 4) part) ∙ ap length x; work-is = rw (← x) ew })
-
-pub name-fits : (sheet text : List ℕ) (w : ℕ) (part name-bytes : List ℕ) → sheetFault sheet ≡ 0 → Bytes sheet → leafKnown sheet
-    (leafOf text w) → w % 16 ≡ kinds.NAME
-    → name-bytes ≡ nameAt text (w / 256) (w / 16 % 16) → part ≡ lookupOf sheet name-bytes → length part / 4 ≤ mostWords
-name-fits sheet text w part nb ok bytes known e en ep =
-    part-short sheet (nameAt text (w / 256) (w / 16 % 16)) ok bytes (rw (leaf-name text w e) at known) part (rw en at ep)
-
 constant-is : (sheet text : List ℕ) (w : ℕ) → (w % 16 ≡ kinds.NAME → ⊥) → exactOn sheet (leaf (leafOf text w)) ≡ constantOf w ∷ []
 unfolding leafOf constantOf
 constant-is sheet text w x = rw (ne-eqb (w % 16) kinds.NAME x) (go (eqb (w % 16) kinds.UP))
@@ -118,10 +105,19 @@ constant-is sheet text w x = rw (ne-eqb (w % 16) kinds.NAME x) (go (eqb (w % 16)
     go true = up-list sheet
     go false = down-list sheet
 
-pub loaded-constant : (sheet text : List ℕ) (w : ℕ) (old work : List ℕ) (at word : ℕ) → (w % 16 ≡ kinds.NAME → ⊥) → word ≡ constantOf w
-    → work ≡ paste old at (word ∷ []) 1 → Loaded sheet (leafOf text w) old work at 1
-loaded-constant sheet text w old work at word x e ew =
-    record { count-is = rw (constant-is sheet text w x); work-is = rw (constant-is sheet text w x, ← e) ew }
+-- a code word's list is that of the leaf that it stands for
+pub leaf-words : (sheet text : List ℕ) (w : ℕ) → sheetFault sheet ≡ 0 → Bytes sheet → leafKnown sheet (leafOf text w)
+    → leafWords sheet text w ≡ exactOn sheet (leaf (leafOf text w))
+unfolding leafWords decoded
+leaf-words sheet text w ok bytes known = go (ℕ-discrete (w % 16) kinds.NAME)
+  where
+    go : Dec (w % 16 ≡ kinds.NAME)
+        → cond (eqb (w % 16) kinds.NAME) (decoded (lookupOf sheet (nameAt text (w / 256) (w / 16 % 16)))) (constantOf w ∷ [])
+        ≡ exactOn sheet (leaf (leafOf text w))
+    go (yes e) =
+        rw (eq-eqb (w % 16) kinds.NAME e, leaf-name text w e)
+        (part-words sheet (nameAt text (w / 256) (w / 16 % 16)) ok bytes (rw (leaf-name text w e) at known) _ refl)
+    go (no x) = rw (ne-eqb (w % 16) kinds.NAME x) (sym (constant-is sheet text w x))
 
 -- names and constants never meet 5 or 6
 bytes-take : (n : ℕ) (l : List ℕ) → Bytes l → Bytes (take n l)
@@ -161,7 +157,7 @@ leaf-fault sheet up ok bytes known = rw (up-list sheet) (no-part-fault (1 ∷ []
     small (suc i) = omega arith
 leaf-fault sheet (name n) ok bytes known =
     let w = part-words sheet n ok bytes known (lookupOf sheet n) refl in
-    let s = part-short sheet n ok bytes known (lookupOf sheet n) refl in
+    let s = part-small sheet n bytes in
     let len = words-length (length (lookupOf sheet n) / 4) (lookupOf sheet n) in
     rw (← w) (no-part-fault (wordsIn (length (lookupOf sheet n) / 4) (lookupOf sheet n)) (omega arith)
     (on-time _ (wordsIn-below (length (lookupOf sheet n) / 4) (lookupOf sheet n) (lookup-bytes sheet n bytes))))

@@ -1,13 +1,11 @@
 -- Lemmas of the stack machine that the evaluator is, without its code.
-pub mod SlotFacts
+pub mod Answers
 pub mod Exact
-pub mod Putting
 pub mod PartCodes
 pub mod Leaves
 pub mod Applying
-pub mod Stepping
-pub mod Looping
+pub mod Tracing
+pub mod Running
 pub mod Preparing
 pub mod Calling
 pub mod Claiming
-pub mod Tracing

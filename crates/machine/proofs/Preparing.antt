@@ -2,12 +2,13 @@
 use Prim.Native.Nat.{ℕ, zero, suc, _+_, _/_, _%_, _≤_, _<_}
 use native.Mathlib.Decide.{ℕ-discrete}
 use native.Mathlib.Omega.{arith}
+use native.Mathlib.Numerals.{add-one}
 use mathlib.Core.Path.{_≡_, refl, sym, _∙_, ap}
 use mathlib.Core.Bool.{Bool, true, false, cond, not, _&&_, _||_, and-assoc, and-true}
 use mathlib.Core.List.{List, [], _∷_, _++_, map}
 use lib.Dec.{eqb, ltb}
-use lib.ListN.{length, drop, getD, length-map}
-use lib.Seq.{take-at}
+use lib.ListN.{length, take, drop, getD, length-map, drop-of-length-le}
+use lib.Seq.{take-at, drop-cons, getD-take, length-take-le}
 use borrow.Author.Tests.{ltb-false}
 use Rattle.signals.specs.Moment.{M}
 use Rattle.signals.proofs.Truth.{and-left, and-right}
@@ -32,7 +33,6 @@ use Rattle.code_words.specs.CodeWords.{operandsOf}
 use Rattle.machine.specs.Machine.{leafOf, leafLooked, partLooked, allLooked, AllKnown, partsIn}
 use Rattle.machine.proofs.Leaves.{leaf-name, leaf-up, leaf-down}
 use Rattle.machine.proofs.PartCodes.{part-leaf, part-one, part-two, name-none, arity-small}
-use Rattle.machine.proofs.Looping.{rest, rest-next, rest-none}
 use Rattle.signals.specs.Answers.{firstOf}
 
 -- names on an accepted sheet are names
@@ -165,6 +165,24 @@ looked-other sheet text w ne = go (operandsOf w) refl (arity-small (w % 16))
     go (suc zero) e h = rw (part-one text w e)
     go (suc (suc zero)) e h = rw (part-two text w e)
     go (suc (suc (suc k))) e h = absurd (omega arith)
+
+-- the parts left after i
+unfoldable pub rest : List ℕ → List ℕ → ℕ → ℕ → List Part
+rest text codes n i = map (partOf text) (drop i (take n codes))
+
+pub rest-next : (text codes : List ℕ) (n i : ℕ) → n ≤ length codes → i < n → rest text codes n i ≡ partOf text
+    (getD codes i 0) ∷ rest text codes n (i + 1)
+unfolding rest
+rest-next text codes n i h l =
+    let long : length (take n codes) ≡ n = length-take-le n codes h in
+    let g : getD (take n codes) i 0 ≡ getD codes i 0 = getD-take n codes i 0 l in
+    rw (add-one, drop-cons (take n codes) i 0 (omega arith), g)
+
+pub rest-none : (text codes : List ℕ) (n i : ℕ) → n ≤ length codes → n ≤ i → rest text codes n i ≡ []
+unfolding rest
+rest-none text codes n i h l =
+    let long : length (take n codes) ≡ n = length-take-le n codes h in
+    rw (drop-of-length-le (take n codes) {i = i} (omega arith))
 
 -- the loop over all of them
 module _ (sheet text codes : List ℕ) (n : ℕ) where

@@ -8,7 +8,29 @@ use Rattle.grammar.specs.Tree.{Tree, Leaf, Unary, Binary, leaf, unary, binary}
 use Rattle.grammar.specs.Code.{Part, operand, one, two, code, work, top}
 use Rattle.grammar.proofs.Working.{worked as work-code}
 use Rattle.grammar.specs.Parts.{parts}
-use Rattle.machine.specs.Machine.{worked, Enough, trace}
+
+-- one part worked out on a stack of trees
+abbrev pub worked : Part → List Tree → List Tree
+worked (operand l) st = leaf l ∷ st
+worked (one o) [] = []
+worked (one o) (t ∷ st) = unary o t ∷ st
+worked (two o) [] = []
+worked (two o) (u ∷ []) = []
+worked (two o) (u ∷ t ∷ st) = binary o t u ∷ st
+
+-- the stack has the part's operands
+abbrev pub Enough : Part → List Tree → Type 0
+Enough (operand l) st = Unit {0}
+Enough (one o) [] = ⊥
+Enough (one o) (t ∷ st) = Unit {0}
+Enough (two o) [] = ⊥
+Enough (two o) (u ∷ []) = ⊥
+Enough (two o) (u ∷ t ∷ st) = Unit {0}
+
+-- the trees that parts make, one after the other
+unfoldable pub trace : List Part → List Tree → List Tree
+trace [] st = []
+trace (p ∷ ps) st = top (worked p st) ∷ trace ps (worked p st)
 
 pub traced : (t : Tree) (ps : List Part) (st : List Tree) → trace (code t ++ ps) st ≡ parts t ++ trace ps (t ∷ st)
 unfolding trace code parts

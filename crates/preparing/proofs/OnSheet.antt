@@ -1,11 +1,11 @@
 -- A formula read for a sheet that is accepted: 10, 11, 8, 12, 13, or the code words of its parts.
-use Prim.Native.Nat.{ℕ}
+use Prim.Native.Nat.{ℕ, _≤_}
 use native.Mathlib.Omega.{arith}
 use mathlib.Core.Path.{_≡_, refl, sym, _∙_, ap}
 use mathlib.Core.Bool.{Bool, true, false, cond}
 use mathlib.Core.List.{List}
 use mathlib.Core.Logic.{_⊎_, inl, inr}
-use lib.ListN.{length}
+use lib.ListN.{length, take, length-take}
 use borrow.Author.Tests.{eq-eqb}
 use Rattle.signals.specs.Answers.{firstOf}
 use Rattle.signals.specs.declared.Written.{Written}
@@ -17,9 +17,9 @@ use Rattle.format.specs.Reading.{sheetFault}
 use Rattle.calls.specs.OnSheet.{namesFound}
 use Rattle.calls.specs.Calls.{readingFault}
 use Rattle.calls.proofs.FirstFault.{zero-or-not}
-use Rattle.machine.specs.Machine.{Coded}
+use Rattle.machine.specs.Machine.{partsIn, Coded}
 use Rattle.machine.proofs.Preparing.{looked-tree, known-tree, lengths-small, code-short, parts-there}
-use Rattle.machine.proofs.Stepping.{counted, refused-by}
+use Rattle.machine.proofs.Answers.{counted, refused-by}
 use Rattle.preparing.specs.Preparing.{preparingFault, PreparesFor, judgedFault, judgedCode, JudgesAndPrepares}
 
 same : (sheet text : List ℕ) → sheetFault sheet ≡ 0 → preparingFault sheet text ≡ readingFault sheet text
@@ -45,14 +45,19 @@ module _ (sheet text codes old : List ℕ) (answer : Written) (ok : sheetFault s
         named true h = refl
         named false h = absurd (omega arith)
 
-    pub coded : length old ≡ 32 → Coded sheet text codes n
+    few : n ≤ 32
+    few = let s = code-short text (fine .0) in omega (arith, counted (preparingFault sheet text) (codeOf text) n (sym (p .0) ∙ e) .1)
+
+    pub few-codes : length old ≡ 32 → n ≤ length codes
+    few-codes long = let l = ap length (p .1) ∙ code-after-length text old in omega (arith, few)
+
+    pub coded : length old ≡ 32 → Coded sheet text (take n codes)
+    unfolding partsIn
     coded long =
         let k = counted (preparingFault sheet text) (codeOf text) n (sym (p .0) ∙ e) .1 in
-        let s = code-short text (fine .0) in
-        let l = ap length (p .1) ∙ code-after-length text old in
+        let s = length-take n codes in
         record {
-          few = omega arith;
-          enough = omega arith;
+          few = omega (arith, few);
           parts-are = rw k (parts-there text (fine .0) codes old (p .1) (omega arith));
           known = known-tree sheet ok (formulaTree text) (fine .1) (lengths-small text (fine .0));
         }
@@ -86,5 +91,8 @@ module _ (sheet text codes old : List ℕ) (answer : Written) (p : JudgesAndPrep
     pub judged-fine : readingFault sheet text ≡ 0
     judged-fine = read-fine sheet text codes old answer sheet-fine prepares n e
 
-    pub judged-coded : length old ≡ 32 → Coded sheet text codes n
+    pub judged-few : length old ≡ 32 → n ≤ length codes
+    judged-few = few-codes sheet text codes old answer sheet-fine prepares n e
+
+    pub judged-coded : length old ≡ 32 → Coded sheet text (take n codes)
     judged-coded = coded sheet text codes old answer sheet-fine prepares n e

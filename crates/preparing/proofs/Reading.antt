@@ -16,7 +16,7 @@ use Rattle.grammar.proofs.Storing.{code-after-length}
 use Rattle.format.specs.Reading.{sheetFault}
 use Rattle.machine.specs.Machine.{allLooked, partsIn}
 use Rattle.machine.proofs.Preparing.{code-short, parts-there}
-use Rattle.machine.proofs.Stepping.{counted, refused-by}
+use Rattle.machine.proofs.Answers.{counted, refused-by}
 use Rattle.preparing.specs.Preparing.{preparingFault, judgedFault, judgedCode, PreparesFor, JudgesAndPrepares}
 
 module _ (sheet text codes old : List ℕ) (answer : Written) (a : answer ≡ writtenOf (formulaFault text) (codeOf text))

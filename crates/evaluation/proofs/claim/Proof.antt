@@ -1,7 +1,8 @@
 -- `evaluation::claim` meets its contract: each return is the first fault in document 01's order, or the verdict.
-use mathlib.Core.Path.{refl}
+use mathlib.Core.Path.{refl, sym}
+use lib.Seq.{length-take-le}
 use Rattle.machine.proofs.Claiming.{claim-refused, claim-goes-on}
-use Rattle.preparing.proofs.OnSheet.{sheet-fine, judged-fine, judged-refused, judged-coded}
+use Rattle.preparing.proofs.OnSheet.{sheet-fine, judged-fine, judged-refused, judged-few, judged-coded}
 use borrow.Author.Needs.{needs}
 use Rattle.evaluation.proofs.claim.Statement.{statement}
 use Rattle.evaluation.proofs.claim.Tie as tie
@@ -11,6 +12,14 @@ judge-and-prepare-requires c κs = search needs
 
 enum-known-parts : tie.Need-enum-known-parts
 enum-known-parts c = search needs
+
+array-share-prefix-f-codes : tie.Need-array-share-prefix-f-codes
+array-share-prefix-f-codes c =
+    let read = c .before .before .before in
+    judged-few _ _ _ _ _ (read .judge-and-prepare .ensures) _ (c .before .parts .given .1) refl
+
+slice-aggregate-claim-on : tie.Need-slice-aggregate-claim-on
+slice-aggregate-claim-on c = sym (length-take-le _ _ (array-share-prefix-f-codes (c .before)))
 
 claim-on-requires : tie.Need-claim-on-requires
 claim-on-requires c κs =
@@ -48,6 +57,8 @@ claim-spec =
     (tie.spec
     judge-and-prepare-requires
     enum-known-parts
+    array-share-prefix-f-codes
+    slice-aggregate-claim-on
     claim-on-requires
     enum-known-parts-2
     same-length

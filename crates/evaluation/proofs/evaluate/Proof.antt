@@ -1,7 +1,8 @@
 -- `evaluation::evaluate` meets its contract: each return is the first fault in document 01's order, or the words.
-use mathlib.Core.Path.{refl}
-use Rattle.machine.proofs.Calling.{call-refused, call-work, call-run}
-use Rattle.preparing.proofs.OnSheet.{sheet-fine, judged-fine, judged-refused, judged-coded}
+use mathlib.Core.Path.{refl, sym}
+use lib.Seq.{length-take-le}
+use Rattle.machine.proofs.Calling.{call-refused, call-run}
+use Rattle.preparing.proofs.OnSheet.{sheet-fine, judged-fine, judged-refused, judged-few, judged-coded}
 use borrow.Author.Needs.{needs}
 use Rattle.evaluation.proofs.evaluate.Statement.{statement}
 use Rattle.evaluation.proofs.evaluate.Tie as tie
@@ -12,19 +13,18 @@ judge-and-prepare-requires c κs = search needs
 enum-known-parts : tie.Need-enum-known-parts
 enum-known-parts c = search needs
 
-returns : tie.Need-returns
-returns c =
-    let read = c .before .before .before .before in
-    let start = read .before .before .before .before .before .before in
-    call-work (start .args .sheet .now) (start .args .formula .now) (start .args .work .now) (start .args .out .now)
-    (sheet-fine _ _ _ _ _ (read .judge-and-prepare .ensures) _ (c .before .before .parts .given .1))
-    (judged-fine _ _ _ _ _ (read .judge-and-prepare .ensures) _ (c .before .before .parts .given .1)) (c .if1 .taken)
+array-share-prefix-codes : tie.Need-array-share-prefix-codes
+array-share-prefix-codes c =
+    let read = c .before .before .before in
+    judged-few _ _ _ _ _ (read .judge-and-prepare .ensures) _ (c .before .parts .given .1) refl
+
+slice-aggregate-run-formula : tie.Need-slice-aggregate-run-formula
+slice-aggregate-run-formula c = sym (length-take-le _ _ (array-share-prefix-codes (c .before)))
 
 run-formula-requires : tie.Need-run-formula-requires
 run-formula-requires c κs =
-    let told = c .before .before .before .before .before in
+    let told = c .before .before .before .before in
     let read = told .before .before in (
-      c .before .before .before .if1 .left,
       sheet-fine _ _ _ _ _ (read .judge-and-prepare .ensures) _ (told .parts .given .1),
       judged-coded _ _ _ _ _ (read .judge-and-prepare .ensures) _ (told .parts .given .1) refl,
     )
@@ -38,19 +38,16 @@ same-length c = search needs
 same-length-2 : tie.Need-same-length-2
 same-length-2 c = search needs
 
+returns : tie.Need-returns
+returns c =
+    let told = c .before .before .before .before .before .before .before .before .before in
+    let read = told .before .before in
+    call-run _ _ _ _ (sheet-fine _ _ _ _ _ (read .judge-and-prepare .ensures) _ (told .parts .given .1))
+    (judged-fine _ _ _ _ _ (read .judge-and-prepare .ensures) _ (told .parts .given .1)) _ _ _
+    (c .before .before .before .before .run-formula .ensures)
+
 returns-2 : tie.Need-returns-2
 returns-2 c =
-    let ran = c .before .before .before .before in
-    let told = ran .before .before .before .before .before .before in
-    let read = told .before .before in
-    let start = read .before .before .before .before .before .before in
-    call-run (start .args .sheet .now) (start .args .formula .now) (start .args .work .now) (start .args .out .now)
-    (sheet-fine _ _ _ _ _ (read .judge-and-prepare .ensures) _ (told .parts .given .1))
-    (judged-fine _ _ _ _ _ (read .judge-and-prepare .ensures) _ (told .parts .given .1))
-    (ran .before .before .before .before .if1 .left) _ _ _ (ran .run-formula .ensures)
-
-returns-3 : tie.Need-returns-3
-returns-3 c =
     let read = c .before .before .before in
     let start = read .before .before .before .before .before .before in
     let q = judged-refused _ _ _ _ _ (read .judge-and-prepare .ensures) _ (c .before .parts2 .given .1) in
@@ -62,10 +59,11 @@ evaluate-spec =
     (tie.spec
     judge-and-prepare-requires
     enum-known-parts
-    returns
+    array-share-prefix-codes
+    slice-aggregate-run-formula
     run-formula-requires
     enum-known-parts-2
     same-length
     same-length-2
-    returns-2
-    returns-3)
+    returns
+    returns-2)

@@ -2,6 +2,7 @@
 use native.Mathlib.Omega.{arith}
 use mathlib.Core.Path.{sym}
 use lib.Seq.{length-take-le}
+use Rattle.machine.proofs.Running.{WorkedOut, formula-ran}
 use Rattle.machine.proofs.Calling.{run-refused, run-fits, run-counted}
 use borrow.Author.Needs.{needs}
 use Rattle.evaluation.proofs.run_formula.Statement.{statement}
@@ -10,16 +11,23 @@ use Rattle.evaluation.proofs.run_formula.Tie as tie
 work-out-requires : tie.Need-work-out-requires
 work-out-requires c κs = search needs
 
+-- the formula is worked out
+worked : (c : tie.After-work-out) →
+    let a = c .before .before .before .before .before .before .before .args in
+    WorkedOut (a .sheet .now) (a .text .now) (a .work .now) (c .work-out .last .1 .1 .1 .0) 0 (c .work-out .result)
+worked c =
+    let known = c .before .before .before .before .before .before in
+    let start = known .before in
+    formula-ran _ _ _ _ _ _ _ (start .pre .0) (λ i. known .shared-slice-known .given i .fits) (start .pre .1) (omega arith)
+    (c .work-out .ensures)
+
 enum-known-answer : tie.Need-enum-known-answer
 enum-known-answer c = search needs
 
 slice-reshare-prefix-hand-over : tie.Need-slice-reshare-prefix-hand-over
 slice-reshare-prefix-hand-over c =
     let out = c .before .before .before .before .before in
-    let start = out .before .before .before .before .before .before in
-    run-fits (start .args .sheet .now) (start .args .text .now) (start .args .work .now) _ _
-    (out .work-out .ensures _ (start .pre .2 .parts-are))
-    _ (c .before .answer .given .1) (omega (arith, start .pre .0, out .work-out .kept .1 .1 .1 .1 .0))
+    run-fits _ _ _ _ _ (worked out) _ (c .before .answer .given .1) (out .work-out .kept .1 .1 .1 .0)
 
 slice-aggregate-hand-over : tie.Need-slice-aggregate-hand-over
 slice-aggregate-hand-over c = sym (length-take-le _ _ (slice-reshare-prefix-hand-over (c .before)))
@@ -38,25 +46,15 @@ same-length-2 c = search needs
 
 returns : tie.Need-returns
 returns c =
-    let back6 = c .before .before .before .before .before .before in
-    let back10 = back6 .before .before .before .before in
-    let back16 = back10 .before .before .before .before .before .before in
-    run-counted (back16 .args .sheet .now) (back16 .args .text .now) (back16 .args .work .now) _ _
-    (back10 .work-out .ensures _ (back16 .pre .2 .parts-are)) _ (back6 .answer .given .1) (back16 .args .out .now) _ _
+    let told = c .before .before .before .before .before .before in
+    run-counted _ _ _ _ _ (worked (told .before .before .before .before)) _ (told .answer .given .1) _ _ _
     (c .before .before .hand-over .ensures)
 
 same-length-3 : tie.Need-same-length-3
 same-length-3 c = search needs
 
 returns-2 : tie.Need-returns-2
-returns-2 c = run-refused
-    (c .before .before .before .before .before .before .before .before .before .before .before .args .sheet .now)
-    (c .before .before .before .before .before .before .before .before .before .before .before .args .text .now)
-    (c .before .before .before .before .before .before .before .before .before .before .before .args .work .now) _ _
-    (c .before .before .before .before .before .work-out .ensures _
-    (c .before .before .before .before .before .before .before .before .before .before .before .pre .2 .parts-are)) _
-    (c .before .answer2 .given .1)
-    (c .before .before .before .before .before .before .before .before .before .before .before .args .out .now)
+returns-2 c = run-refused _ _ _ _ _ (worked (c .before .before .before .before .before)) _ (c .before .answer2 .given .1) _
 
 pub run-formula-spec : {M : Type 1} → statement M
 run-formula-spec =

@@ -3,9 +3,8 @@ use borrow.Author.Needs.{needs}
 use Prim.Native.Nat.{_≤_, _-_}
 use native.Mathlib.Omega.{arith}
 use mathlib.Core.Path.{_≡_, sym, _∙_}
-use Rattle.machine.proofs.Looping.{rest}
 use Rattle.machine.specs.Machine.{allLooked, partsIn}
-use Rattle.machine.proofs.Preparing.{all-of, next-true, next-false, none-left}
+use Rattle.machine.proofs.Preparing.{rest, all-of, next-true, next-false, none-left}
 use Rattle.preparing.proofs.names_found.Statement.{statement}
 use Rattle.preparing.proofs.names_found.Tie as tie
 
