@@ -1,13 +1,13 @@
--- `formulas::mark::put` meets its contract.
+-- `moves::put` meets its contract.
 use borrow.Author.Needs.{needs}
-use borrow.Author.Tests.{eq-eqb, ne-eqb}
-use native.Mathlib.Omega.{arith}
+use borrow.Author.Tests.{eq-eqb, ne-eqb, lt-ltb, le-ltb}
 use mathlib.Core.Path.{refl}
+use lib.ListN.{getD}
 use Rattle.marks.specs.Marks.{markOf}
-use Rattle.formulas.specs.Readers.{putMark, putCode}
-use Rattle.formulas.proofs.Lending.{stored}
-use Rattle.formulas.proofs.mark.put.Statement.{statement}
-use Rattle.formulas.proofs.mark.put.Tie as tie
+use Rattle.moves.specs.Moves.{hasRoom, putWords, putCode}
+use Rattle.moves.proofs.Stepping.{stored}
+use Rattle.moves.proofs.put.Statement.{statement}
+use Rattle.moves.proofs.put.Tie as tie
 
 element-copy-out-parts : tie.Need-element-copy-out-parts
 element-copy-out-parts c = search needs
@@ -16,16 +16,13 @@ element-copy-out-if1 : tie.Need-element-copy-out-if1
 element-copy-out-if1 c = search needs
 
 mul-code : tie.Need-mul-code
-unfolding markOf
-mul-code c = omega (arith, c .before .before .before .pre .2 (eq-eqb _ _ (c .if1 .taken)))
+mul-code c = search needs
 
 element-write-code : tie.Need-element-write-code
-unfolding markOf
-element-write-code c = c .before .before .before .pre .2 (eq-eqb _ _ (c .if1 .taken))
+element-write-code c = search needs
 
 add-m : tie.Need-add-m
-unfolding markOf
-add-m c = omega (arith, c .before .before .before .pre .2 (eq-eqb _ _ (c .if1 .taken)))
+add-m c = search needs
 
 element-write-m : tie.Need-element-write-m
 element-write-m c = search needs
@@ -49,22 +46,24 @@ element-write-m-3 : tie.Need-element-write-m-3
 element-write-m-3 c = search needs
 
 returns : tie.Need-returns
-unfolding markOf putCode
+unfolding markOf hasRoom putWords putCode
 returns c =
     let t = c .before .before .before .before in
-    let s = t .before .before .before in
-    let a = s .args in (
-      stored (a .m .now) (a .deep) (a .ticks) _ _ (s .pre .0) (t .if1 .taken) (c .before .before .larger .ensures) (c .larger2 .ensures),
-      rw (eq-eqb _ _ (t .if1 .taken)) refl,
-    )
+    let a = t .before .before .before .before .args in
+    rw (eq-eqb _ _ (t .before .if1 .taken), lt-ltb (getD (a .m .now) 2 0) 1024 (t .if2 .taken))
+    (stored (a .m .now) _ (a .deep) (a .ticks) _ _ (c .before .before .larger .ensures) (c .larger2 .ensures), refl)
 
 returns-2 : tie.Need-returns-2
-unfolding markOf putMark putCode
-returns-2 c = rw (ne-eqb _ _ (c .if1 .left)) ((c .before .before .before .pre .0, refl), refl)
+unfolding markOf hasRoom putWords putCode
+returns-2 c = rw (eq-eqb _ _ (c .before .if1 .taken), le-ltb _ _ (c .if2 .left)) (refl, refl)
+
+returns-3 : tie.Need-returns-3
+unfolding markOf hasRoom putWords putCode
+returns-3 c = rw (ne-eqb _ _ (c .if1 .left)) (refl, refl)
 
 pub put-spec : {M : Type 1} → statement M
 put-spec =
     tie.close
     (tie.spec element-copy-out-parts element-copy-out-if1 mul-code element-write-code add-m element-write-m element-copy-out-larger
     larger-requires
-    element-write-m-2 element-copy-out-larger-2 larger-requires-2 element-write-m-3 returns returns-2)
+    element-write-m-2 element-copy-out-larger-2 larger-requires-2 element-write-m-3 returns returns-2 returns-3)
