@@ -96,24 +96,24 @@ next-is : (text : List ℕ) (b : ℕ) (m : Mark) → 0 < b → isNext text b m �
 unfolding isNext
 next-is text b m some = rw (lt-ltb 0 b some) (and-true (eqb (nextMark text m) b))
 
-module _ (text : List ℕ) (b : ℕ) (m : List ℕ) {r : List ℕ} (some : 0 < b) where
-  pub expect-leaves : length m ≡ 5 → r ≡ expected text b m → Marked r (expectMark text b (markOf m))
+module _ (text : List ℕ) (b : ℕ) (m : List ℕ) where
+  pub expect-leaves : {r : List ℕ} → 0 < b → length m ≡ 5 → r ≡ expected text b m → Marked r (expectMark text b (markOf m))
   unfolding expected expectMark
-  expect-leaves h q =
+  expect-leaves some h q =
       rw (q, next-is text b (markOf m) some) (either-leaves (eqb (nextMark text (markOf m)) b) m (markOf m .at + 1) h)
 
   -- a byte that is passed if it is next
-  module _ {z : Bool} (q : (r ≡ passed text b m) × (z ≡ isNext text b (markOf m))) where
-    pub next-told : eqb (nextMark text (markOf m)) b ≡ z
-    next-told = sym (q .1 ∙ next-is text b (markOf m) some)
+  module _ {z : Bool} (q : z ≡ isNext text b (markOf m)) where
+    pub next-told : 0 < b → eqb (nextMark text (markOf m)) b ≡ z
+    next-told some = sym (q ∙ next-is text b (markOf m) some)
 
-    pub pass-moves : length m ≡ 5 → z ≡ true → Marked r (movedMark (markOf m) (markOf m .at + 1))
+    pub pass-moves : {r : List ℕ} → r ≡ passed text b m → length m ≡ 5 → z ≡ true → Marked r (movedMark (markOf m) (markOf m .at + 1))
     unfolding passed
-    pass-moves h t = rw (q .0, sym (q .1) ∙ t) (moved-leaves m (markOf m .at + 1) h)
+    pass-moves p h t = rw (p, sym q ∙ t) (moved-leaves m (markOf m .at + 1) h)
 
-    pub pass-stays : z ≡ false → r ≡ m
+    pub pass-stays : {r : List ℕ} → r ≡ passed text b m → z ≡ false → r ≡ m
     unfolding passed
-    pass-stays t = rw (q .0, sym (q .1) ∙ t) refl
+    pass-stays p t = rw (p, sym q ∙ t) refl
 
 pub length-leaves : (text m : List ℕ) {r : List ℕ} → length m ≡ 5 → r ≡ lengthPassed text m → Marked r (lengthMark text (markOf m))
 unfolding lengthPassed lengthMark

@@ -9,7 +9,7 @@ use borrow.Author.Needs.{needs}
 use Rattle.marks.specs.Marks.{Mark, markOf, lent}
 use Rattle.openings.specs.Opening.{openBytes}
 use Rattle.tokens.proofs.Runs.{capped-most}
-use Rattle.formulas.proofs.MarkSteps.{Marked, movedMark, expectMark, lengthMark}
+use Rattle.formulas.proofs.MarkSteps.{Marked, movedMark, expectMark, lengthMark, putMark}
 use Rattle.formulas.proofs.MarkSteps.{begin-leaves, expect-leaves, next-told, pass-moves, pass-stays, length-leaves, put-leaves}
 use Rattle.formulas.proofs.LeafPaths.{leaf-leaves}
 use Rattle.formulas.proofs.Doing.{ticks-are, starting, turned, inner-needs}
@@ -165,7 +165,9 @@ timer-calls t = (
 begun : (t : ℕ) (c : factor-lts.After-begin (factor-calls t) (factor-at t) factor.Post) →
     let m = markOf (c .before .before .args .m .now) in
     Marked (c .begin .last .1 .1 .0) (movedMark m (m .at + openBytes (c .begin .result)))
-begun t c = begin-leaves _ _ (c .before .before .pre .1 .0) (c .begin .ensures)
+begun t c =
+    let s = c .before .before in
+    begin-leaves (lent (s .args .text .now) (s .args .bytes)) (s .args .m .now) (s .pre .1 .0) (c .begin .ensures)
 
 factor-open : (t : ℕ) (c : factor-lts.After-begin (factor-calls t) (factor-at t) factor.Post) →
     let s = c .before .before in
@@ -185,7 +187,7 @@ factor-returns : (t : ℕ) → factor-lts.Need-returns (factor-calls t) (factor-
 factor-returns t c =
     let b = c .before .before .before .before in
     let none = c .before .before .before .if1 .taken in
-    let l = leaf-leaves _ (begun t b .0) (paths.leaf-needs (factor-open t b) none) (c .leaf .ensures) in
+    let l = leaf-leaves (b .begin .last .1 .1 .0) (begun t b .0) (paths.leaf-needs (factor-open t b) none) (c .leaf .ensures) in
     (l .0, paths.leaf-path (factor-open t b) none (l .1))
 
 factor-add-factor : (t : ℕ) → factor-lts.Need-add-factor (factor-calls t) (factor-at t) factor.Post
@@ -205,13 +207,12 @@ factor-put-requires t c κs = tt
 
 factor-returns-2 : (t : ℕ) → factor-lts.Need-returns-2 (factor-calls t) (factor-at t) factor.Post
 factor-returns-2 t c =
+    let b = c .before .before .before .before .before .before .before .before in
     let factor′ = c .before .before .before .factor in
-    let p = put-leaves _ _ _ (factor′ .ensures .0) (c .put .ensures .0) in (
+    let p = put-leaves (factor′ .last .1 .1 .1 .0) (b .before .before .args .deep) 0 (factor′ .ensures .0) (c .put .ensures .0) in (
       p .0,
-      paths.opened-prefix (factor-open t (c .before .before .before .before .before .before .before .before))
-          (c .before .before .before .before .before .before .before .if1 .left)
-          (c .before .before .before .before .before .before .if2 .taken) (factor′ .ensures .1)
-          (p .1, c .put .ensures .1),
+      paths.opened-prefix (factor-open t b) (c .before .before .before .before .before .before .before .if1 .left)
+          (c .before .before .before .before .before .before .if2 .taken) (factor′ .ensures .1) (p .1, c .put .ensures .1),
     )
 
 factor-add-sum : (t : ℕ) → factor-lts.Need-add-sum (factor-calls t) (factor-at t) factor.Post
@@ -230,10 +231,12 @@ factor-expect-requires t c κs = tt
 
 factor-returns-3 : (t : ℕ) → factor-lts.Need-returns-3 (factor-calls t) (factor-at t) factor.Post
 factor-returns-3 t c =
-    let k = paths.bracket-step (factor-open t (c .before .before .before .before .before .before .before .before))
-    (c .before .before .before .before .before .if3 .taken) in
+    let b = c .before .before .before .before .before .before .before .before in
+    let a = b .before .before .args in
+    let k = paths.bracket-step (factor-open t b) (c .before .before .before .before .before .if3 .taken) in
     let sum′ = c .before .before .sum in
-    let e = expect-leaves _ 41 _ (omega arith) (sum′ .ensures .0) (c .expect .ensures) in
+    let e = expect-leaves (lent (a .text .now) (a .bytes)) 41 (sum′ .last .1 .1 .1 .0) (omega arith) (sum′ .ensures .0)
+    (c .expect .ensures) in
     (e .0, paths.brackets-path k (sum′ .ensures .1) (e .1))
 
 factor-timer-requires : (t : ℕ) → factor-lts.Need-timer-requires (factor-calls t) (factor-at t) factor.Post
@@ -287,7 +290,10 @@ latch-add-sum-2 t c =
 latch-comma : (t : ℕ) (c : latch-lts.After-expect (latch-calls t) (latch-at t) latch.Post) →
     let a = c .before .before .before .before .before .args in
     Marked (c .expect .last .1 .1 .0) (expectMark (lent (a .text .now) (a .bytes)) 44 (markOf (c .before .before .sum .last .1 .1 .1 .0)))
-latch-comma t c = expect-leaves _ 44 _ (omega arith) (c .before .before .sum .ensures .0) (c .expect .ensures)
+latch-comma t c =
+    let a = c .before .before .before .before .before .args in
+    let sum′ = c .before .before .sum in
+    expect-leaves (lent (a .text .now) (a .bytes)) 44 (sum′ .last .1 .1 .1 .0) (omega arith) (sum′ .ensures .0) (c .expect .ensures)
 
 latch-sum-requires-2 : (t : ℕ) → latch-lts.Need-sum-requires-2 (latch-calls t) (latch-at t) latch.Post
 latch-sum-requires-2 t c κs =
@@ -309,12 +315,14 @@ latch-returns t c =
     let s = c .before .before .before .before .before .before .before .before .before .before .before .before .before in
     let sum′ = c .before .before .before .before .before .before .before .before .before .before .sum in
     let sum2′ = c .before .before .before .before .before .sum2 in
+    let expect2′ = c .before .before .before .expect2 in
+    let a = s .args in
     let e = latch-comma t (c .before .before .before .before .before .before .before .before) in
-    let e2 = expect-leaves _ 41 _ (omega arith) (sum2′ .ensures .0) (c .before .before .before .expect2 .ensures) in
-    let p = put-leaves _ _ _ (e2 .0) (c .put .ensures .0) in (
+    let e2 = expect-leaves (lent (a .text .now) (a .bytes)) 41 (sum2′ .last .1 .1 .1 .0) (omega arith) (sum2′ .ensures .0)
+    (expect2′ .ensures) in
+    let p = put-leaves (expect2′ .last .1 .1 .0) (a .deep) 0 (e2 .0) (c .put .ensures .0) in (
       p .0,
-      paths.latch-path (s .args .deep) (s .pre .1 .1) (sum′ .ensures .1) (e .1) (sum2′ .ensures .1) (e2 .1) (s .args .part)
-          (c .put .ensures .1) (p .1),
+      paths.latch-path (a .deep) (s .pre .1 .1) (sum′ .ensures .1) (e .1) (sum2′ .ensures .1) (e2 .1) (a .part) (c .put .ensures .1) (p .1),
     )
 
 product-factor-requires : (t : ℕ) → product-lts.Need-factor-requires (product-calls t) (product-at t) product.Post
@@ -346,15 +354,17 @@ Products-step t s b x =
 
 times-past : (t : ℕ) (c : products-lts.Then1 (products-calls t) (products-at t) products.Post) →
     let m = markOf (c .before .before .before .args .m .now) in Marked (c .before .pass .last .1 .1 .0) (movedMark m (m .at + 1))
-times-past t c = pass-moves _ 46 _ (omega arith) (c .before .pass .ensures) (c .before .before .before .pre .1 .0) (c .if1 .taken)
+times-past t c =
+    let s = c .before .before .before in
+    let pass′ = c .before .pass .ensures in
+    pass-moves (lent (s .args .text .now) (s .args .bytes)) 46 (s .args .m .now) (pass′ .1) (pass′ .0) (s .pre .1 .0) (c .if1 .taken)
 
 times-step : (t : ℕ) (c : products-lts.Then1 (products-calls t) (products-at t) products.Post) →
     Products-step t (c .before .before .before) 46 (markOf (c .before .pass .last .1 .1 .0))
 times-step t c =
     let s = c .before .before .before in
-    let pass′ = c .before .pass .ensures in
-    paths.step (s .pre .0, s .pre .1 .1) (eqb-true _ 46 (next-told _ 46 _ (omega arith) pass′ ∙ c .if1 .taken)) (omega arith)
-    (times-past t c .1)
+    let e = next-told (lent (s .args .text .now) (s .args .bytes)) 46 (s .args .m .now) (c .before .pass .ensures .1) (omega arith) in
+    paths.step (s .pre .0, s .pre .1 .1) (eqb-true _ 46 (e ∙ c .if1 .taken)) (omega arith) (times-past t c .1)
 
 products-factor-requires : (t : ℕ) → products-lts.Need-factor-requires (products-calls t) (products-at t) products.Post
 products-factor-requires t c κs =
@@ -363,32 +373,40 @@ products-factor-requires t c κs =
 products-put-requires : (t : ℕ) → products-lts.Need-put-requires (products-calls t) (products-at t) products.Post
 products-put-requires t c κs = tt
 
+-- the operator is put out
+times-put : (t : ℕ) (c : products-lts.After-put (products-calls t) (products-at t) products.Post) →
+    let o = c .before .before .before in
+    let s = o .before .before .before .before .before .before in
+    Marked (c .put .last .1 .0) (putMark (markOf (o .factor .last .1 .1 .1 .0)) (s .args .deep) 0)
+times-put t c =
+    let o = c .before .before .before in
+    let s = o .before .before .before .before .before .before in
+    put-leaves (o .factor .last .1 .1 .1 .0) (s .args .deep) 0 (o .factor .ensures .0) (c .put .ensures .0)
+
 products-products-requires : (t : ℕ) → products-lts.Need-products-requires (products-calls t) (products-at t) products.Post
 products-products-requires t c κs =
-    let factor′ = c .before .before .before .before .before .factor in
-    let put′ = c .before .before .put in
-    let p = put-leaves _ _ _ (factor′ .ensures .0) (put′ .ensures .0) in
-    let n = chains.rest-needs times (times-step t (c .before .before .before .before .before .before .before .before))
-    (factor′ .ensures .1) (p .1, put′ .ensures .1) in
+    let u = c .before .before in
+    let p = times-put t u in
+    let n = chains.rest-needs times (times-step t (u .before .before .before .before .before .before))
+    (u .before .before .before .factor .ensures .1) (p .1, u .put .ensures .1) in
     (n .0, (p .0, n .1))
 
 products-returns : (t : ℕ) → products-lts.Need-returns (products-calls t) (products-at t) products.Post
 products-returns t c =
-    let factor′ = c .before .before .before .before .before .before .factor in
-    let put′ = c .before .before .before .put in (
+    let u = c .before .before .before in (
       c .products .ensures .0,
-      chains.rest-path times (times-step t (c .before .before .before .before .before .before .before .before .before))
-          (factor′ .ensures .1) (put-leaves _ _ _ (factor′ .ensures .0) (put′ .ensures .0) .1, put′ .ensures .1) (c .products .ensures .1),
+      chains.rest-path times (times-step t (u .before .before .before .before .before .before))
+          (u .before .before .before .factor .ensures .1) (times-put t u .1, u .put .ensures .1) (c .products .ensures .1),
     )
 
 products-returns-2 : (t : ℕ) → products-lts.Need-returns-2 (products-calls t) (products-at t) products.Post
 products-returns-2 t c =
     let s = c .before .before .before in
     let pass′ = c .before .pass .ensures in
-    let q = pass-stays _ 46 _ (omega arith) pass′ (c .if1 .left) in (
-      ap length q ∙ s .pre .1 .0,
-      turned refl (ap markOf q) (chains.rest-end times (s .pre .1 .1) (next-told _ 46 _ (omega arith) pass′ ∙ c .if1 .left)),
-    )
+    let text = lent (s .args .text .now) (s .args .bytes) in
+    let e = next-told text 46 (s .args .m .now) (pass′ .1) (omega arith) in
+    let q = pass-stays text 46 (s .args .m .now) (pass′ .1) (pass′ .0) (c .if1 .left) in
+    (ap length q ∙ s .pre .1 .0, turned refl (ap markOf q) (chains.rest-end times (s .pre .1 .1) (e ∙ c .if1 .left)))
 
 sum-product-requires : (t : ℕ) → sum-lts.Need-product-requires (sum-calls t) (sum-at t) sum.Post
 sum-product-requires t c κs =
@@ -419,15 +437,17 @@ Sums-step t s b x = paths.Step (lent (s .args .text .now) (s .args .bytes)) (s .
 
 plus-past : (t : ℕ) (c : sums-lts.Then1 (sums-calls t) (sums-at t) sums.Post) →
     let m = markOf (c .before .before .before .args .m .now) in Marked (c .before .pass .last .1 .1 .0) (movedMark m (m .at + 1))
-plus-past t c = pass-moves _ 43 _ (omega arith) (c .before .pass .ensures) (c .before .before .before .pre .1 .0) (c .if1 .taken)
+plus-past t c =
+    let s = c .before .before .before in
+    let pass′ = c .before .pass .ensures in
+    pass-moves (lent (s .args .text .now) (s .args .bytes)) 43 (s .args .m .now) (pass′ .1) (pass′ .0) (s .pre .1 .0) (c .if1 .taken)
 
 plus-step : (t : ℕ) (c : sums-lts.Then1 (sums-calls t) (sums-at t) sums.Post) →
     Sums-step t (c .before .before .before) 43 (markOf (c .before .pass .last .1 .1 .0))
 plus-step t c =
     let s = c .before .before .before in
-    let pass′ = c .before .pass .ensures in
-    paths.step (s .pre .0, s .pre .1 .1) (eqb-true _ 43 (next-told _ 43 _ (omega arith) pass′ ∙ c .if1 .taken)) (omega arith)
-    (plus-past t c .1)
+    let e = next-told (lent (s .args .text .now) (s .args .bytes)) 43 (s .args .m .now) (c .before .pass .ensures .1) (omega arith) in
+    paths.step (s .pre .0, s .pre .1 .1) (eqb-true _ 43 (e ∙ c .if1 .taken)) (omega arith) (plus-past t c .1)
 
 sums-product-requires : (t : ℕ) → sums-lts.Need-product-requires (sums-calls t) (sums-at t) sums.Post
 sums-product-requires t c κs =
@@ -436,32 +456,40 @@ sums-product-requires t c κs =
 sums-put-requires : (t : ℕ) → sums-lts.Need-put-requires (sums-calls t) (sums-at t) sums.Post
 sums-put-requires t c κs = tt
 
+-- the operator is put out
+plus-put : (t : ℕ) (c : sums-lts.After-put (sums-calls t) (sums-at t) sums.Post) →
+    let o = c .before .before .before in
+    let s = o .before .before .before .before .before .before in
+    Marked (c .put .last .1 .0) (putMark (markOf (o .product .last .1 .1 .1 .0)) (s .args .deep) 0)
+plus-put t c =
+    let o = c .before .before .before in
+    let s = o .before .before .before .before .before .before in
+    put-leaves (o .product .last .1 .1 .1 .0) (s .args .deep) 0 (o .product .ensures .0) (c .put .ensures .0)
+
 sums-sums-requires : (t : ℕ) → sums-lts.Need-sums-requires (sums-calls t) (sums-at t) sums.Post
 sums-sums-requires t c κs =
-    let product′ = c .before .before .before .before .before .product in
-    let put′ = c .before .before .put in
-    let p = put-leaves _ _ _ (product′ .ensures .0) (put′ .ensures .0) in
-    let n = chains.rest-needs plus (plus-step t (c .before .before .before .before .before .before .before .before))
-    (product′ .ensures .1) (p .1, put′ .ensures .1) in
+    let u = c .before .before in
+    let p = plus-put t u in
+    let n = chains.rest-needs plus (plus-step t (u .before .before .before .before .before .before))
+    (u .before .before .before .product .ensures .1) (p .1, u .put .ensures .1) in
     (n .0, (p .0, n .1))
 
 sums-returns : (t : ℕ) → sums-lts.Need-returns (sums-calls t) (sums-at t) sums.Post
 sums-returns t c =
-    let product′ = c .before .before .before .before .before .before .product in
-    let put′ = c .before .before .before .put in (
+    let u = c .before .before .before in (
       c .sums .ensures .0,
-      chains.rest-path plus (plus-step t (c .before .before .before .before .before .before .before .before .before))
-          (product′ .ensures .1) (put-leaves _ _ _ (product′ .ensures .0) (put′ .ensures .0) .1, put′ .ensures .1) (c .sums .ensures .1),
+      chains.rest-path plus (plus-step t (u .before .before .before .before .before .before))
+          (u .before .before .before .product .ensures .1) (plus-put t u .1, u .put .ensures .1) (c .sums .ensures .1),
     )
 
 sums-returns-2 : (t : ℕ) → sums-lts.Need-returns-2 (sums-calls t) (sums-at t) sums.Post
 sums-returns-2 t c =
     let s = c .before .before .before in
     let pass′ = c .before .pass .ensures in
-    let q = pass-stays _ 43 _ (omega arith) pass′ (c .if1 .left) in (
-      ap length q ∙ s .pre .1 .0,
-      turned refl (ap markOf q) (chains.rest-end plus (s .pre .1 .1) (next-told _ 43 _ (omega arith) pass′ ∙ c .if1 .left)),
-    )
+    let text = lent (s .args .text .now) (s .args .bytes) in
+    let e = next-told text 43 (s .args .m .now) (pass′ .1) (omega arith) in
+    let q = pass-stays text 43 (s .args .m .now) (pass′ .1) (pass′ .0) (c .if1 .left) in
+    (ap length q ∙ s .pre .1 .0, turned refl (ap markOf q) (chains.rest-end plus (s .pre .1 .1) (e ∙ c .if1 .left)))
 
 timer-pass-length-requires : (t : ℕ) → timer-lts.Need-pass-length-requires (timer-calls t) (timer-at t) timer.Post
 timer-pass-length-requires t c κs = tt
@@ -478,13 +506,19 @@ timer-add-sum t c =
 timer-length : (t : ℕ) (c : timer-lts.After-pass-length (timer-calls t) (timer-at t) timer.Post) →
     let a = c .before .before .args in
     Marked (c .pass-length .last .1 .1 .0) (lengthMark (lent (a .text .now) (a .bytes)) (markOf (a .m .now)))
-timer-length t c = length-leaves _ _ (c .before .before .pre .1 .0 .0) (c .pass-length .ensures .0)
+timer-length t c =
+    let s = c .before .before in
+    length-leaves (lent (s .args .text .now) (s .args .bytes)) (s .args .m .now) (s .pre .1 .0 .0) (c .pass-length .ensures .0)
 
 timer-comma : (t : ℕ) (c : timer-lts.After-expect (timer-calls t) (timer-at t) timer.Post) →
     let a = c .before .before .before .before .args in
     Marked (c .expect .last .1 .1 .0)
     (expectMark (lent (a .text .now) (a .bytes)) 44 (markOf (c .before .before .pass-length .last .1 .1 .0)))
-timer-comma t c = expect-leaves _ 44 _ (omega arith) (timer-length t (c .before .before) .0) (c .expect .ensures)
+timer-comma t c =
+    let a = c .before .before .before .before .args in
+    let l = c .before .before in
+    expect-leaves (lent (a .text .now) (a .bytes)) 44 (l .pass-length .last .1 .1 .0) (omega arith) (timer-length t l .0)
+    (c .expect .ensures)
 
 timer-sum-requires : (t : ℕ) → timer-lts.Need-sum-requires (timer-calls t) (timer-at t) timer.Post
 timer-sum-requires t c κs =
@@ -517,13 +551,16 @@ timer-returns : (t : ℕ) → timer-lts.Need-returns (timer-calls t) (timer-at t
 timer-returns t c =
     let s = c .before .before .before .before .before .before .before .before .before .before .before .before in
     let l = c .before .before .before .before .before .before .before .before .before .before in
-    let e = timer-comma t (c .before .before .before .before .before .before .before .before) in
     let sum′ = c .before .before .before .before .before .sum in
-    let e2 = expect-leaves _ 41 _ (omega arith) (sum′ .ensures .0) (c .before .before .before .expect2 .ensures) in
-    let p = put-leaves _ _ _ (e2 .0) (c .put .ensures .0) in (
+    let expect2′ = c .before .before .before .expect2 in
+    let a = s .args in
+    let e = timer-comma t (c .before .before .before .before .before .before .before .before) in
+    let e2 = expect-leaves (lent (a .text .now) (a .bytes)) 41 (sum′ .last .1 .1 .1 .0) (omega arith) (sum′ .ensures .0)
+    (expect2′ .ensures) in
+    let p = put-leaves (expect2′ .last .1 .1 .0) (a .deep) (l .pass-length .result) (e2 .0) (c .put .ensures .0) in (
       p .0,
-      paths.timer-path (s .args .deep) (s .pre .1 .0 .1) (timer-length t l .1) (e .1) (sum′ .ensures .1) (e2 .1) (s .args .part) _
-          (l .pass-length .ensures .1) (c .put .ensures .1) (p .1),
+      paths.timer-path (a .deep) (s .pre .1 .0 .1) (timer-length t l .1) (e .1) (sum′ .ensures .1) (e2 .1) (a .part)
+          (l .pass-length .result) (l .pass-length .ensures .1) (c .put .ensures .1) (p .1),
     )
 
 pub +factor+latch+product+products+sum+sums+timer-spec : {M : Type 1} → statement M
