@@ -95,8 +95,8 @@ pub fn put(code: &mut [u64; 1024], m: &mut [usize; 5], word: u64, deep: usize, t
     ensures { λ _. ⌜ (now (m .exit) ≡ putWords (now (m .entry)) deep ticks)
         × (now (code .exit) ≡ putCode (markOf (now (m .entry))) word (now (code .entry))) ⌝ }
 {
-    let parts = m[PARTS];
     if m[OK] == 1 {
+        let parts = m[PARTS];
         if parts < 1024 {
             code[parts] = word;
             m[PARTS] = parts + 1;
