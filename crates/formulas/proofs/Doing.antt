@@ -10,15 +10,20 @@ use lib.ListN.{length, take, drop, set, length-set, length-drop}
 use lib.Seq.{take-suc-set}
 use borrow.Author.Tests.{eqb-true, ltb-true, lt-ltb}
 use Rattle.names.specs.Names.{digit}
-use Rattle.grammar.specs.Reader.{State, run, next, bad, stepped, expect, put, passLength}
+use Rattle.grammar.specs.Reader.{State, run, next, bad, stepped, expect, put, passLength, valueBetween}
+use Rattle.texts.specs.Lengths.{value, valueFrom, capped}
 use Rattle.marks.specs.Marks.{Mark, nextMark}
 use Rattle.tokens.specs.Tokens.{lengthEnd}
-use Rattle.formulas.specs.Readers.{viewOf, badMark, movedMark, passMark, expectMark, lengthMark, putMark, putCode, Ready, Done}
+use Rattle.moves.specs.Moves.{lengthTicks, hasRoom, putCode}
+use Rattle.formulas.specs.Readers.{viewOf, Ready, Done}
+use Rattle.signals.proofs.Truth.{and-left}
 use Rattle.grammar.proofs.Bytes.{by-cond, never}
 use Rattle.grammar.proofs.Standing.{state-eq}
 use Rattle.grammar.proofs.Carried.{both-ways}
 use Rattle.marks.proofs.Marking.{inside}
-use Rattle.tokens.proofs.Runs.{run-some, run-most, none-at-0}
+use Rattle.tokens.proofs.Runs.{run-some, none-at-0}
+use Rattle.moves.proofs.Stepping.{length-bounds}
+use Rattle.formulas.proofs.MarkSteps.{badMark, movedMark, expectMark, lengthMark, putMark}
 
 pub view-next : (text : List ℕ) (m : Mark) (code : List ℕ) → next text (viewOf m code) ≡ nextMark text m
 unfolding next nextMark
@@ -27,24 +32,6 @@ view-next text m code = refl
 pub view-expect : (text : List ℕ) (b : ℕ) (m : Mark) (code : List ℕ) → viewOf (expectMark text b m) code ≡ expect text b (viewOf m code)
 unfolding expectMark expect stepped bad next nextMark
 view-expect text b m code = both-ways (λ (x : Mark). viewOf x code) (eqb (nextMark text m) b) (λ e. refl) (λ e. refl)
-
--- a byte that is passed if it is next
-module _ (text : List ℕ) (b : ℕ) (m : Mark) where
-  pub pass-is : eqb (nextMark text m) b ≡ true → passMark text b m ≡ expectMark text b m
-  unfolding passMark expectMark
-  pass-is e = rw e refl
-
-  pub pass-moves : eqb (nextMark text m) b ≡ true → passMark text b m ≡ movedMark m (m .at + 1)
-  unfolding passMark
-  pass-moves e = rw e refl
-
-  pub pass-not : eqb (nextMark text m) b ≡ false → badMark (passMark text b m) ≡ expectMark text b m
-  unfolding passMark expectMark
-  pass-not e = rw e refl
-
-  pub pass-stays : eqb (nextMark text m) b ≡ false → passMark text b m ≡ m
-  unfolding passMark
-  pass-stays e = rw e refl
 
 -- a length that is next ends after its first byte
 length-some : (text : List ℕ) (m : Mark) → digit (nextMark text m) ≡ true → ltb 0 (m .at + run digit (drop (m .at) text)) ≡ true
@@ -60,28 +47,27 @@ view-length text m code = go (eqb (nextMark text m) 48) refl (digit (nextMark te
     go false y true e = rw (y, e, length-some text m e) refl
     go false y false e = rw (y, e) refl
 
-pub view-put : (m : Mark) (w deep k : ℕ) (code : List ℕ) → (m .ok ≡ true → m .parts < length code) →
-    viewOf (putMark m deep k) (putCode m w code) ≡ put w deep k (viewOf m code)
-unfolding putMark putCode put
-view-put m w deep k code h = go (m .ok) refl
+-- the ticks of a length are those of the bytes that it passes
+pub ticks-are : (text : List ℕ) (m : Mark) → lengthTicks text m ≡ capped (valueBetween text (m .at) (lengthMark text m .at))
+unfolding lengthTicks lengthMark valueBetween value valueFrom capped
+ticks-are text m = go (ltb 0 (lengthEnd text m))
   where
-    go : (z : Bool) → m .ok ≡ z →
-        viewOf (cond z (record {
-          ok = true;
-          at = m .at;
-          parts = m .parts + 1;
-          deepest = max (m .deepest) deep;
-          longest = max (m .longest) k;
-        }) m) (cond z (set code (m .parts) w) code)
-        ≡ cond z (record {
-          ok = true;
-          at = m .at;
-          out = take (m .parts) code ++ (w ∷ []);
-          deepest = max (m .deepest) deep;
-          longest = max (m .longest) k;
-        }) (viewOf m code)
-    go true z = state-eq refl refl (rw add-one (take-suc-set code (m .parts) w (h z))) refl refl
-    go false z = refl
+    go : (z : Bool) →
+        cond z (capped (valueBetween text (m .at) (lengthEnd text m))) 0
+        ≡ capped (valueBetween text (m .at) ((cond z (movedMark m (lengthEnd text m)) (badMark m)) .at))
+    go true = refl
+    go false = let none : m .at - m .at ≡ 0 = omega arith in rw none refl
+
+pub view-put : (m : Mark) (w deep k : ℕ) (code : List ℕ) → length code ≡ 1024 → (m .ok ≡ true → m .parts < 1024) →
+    viewOf (putMark m deep k) (putCode m w code) ≡ put w deep k (viewOf m code)
+unfolding putMark putCode hasRoom put
+view-put m w deep k code l h = go (m .ok) refl
+  where
+    go : (z : Bool) → m .ok ≡ z → viewOf (putMark m deep k) (putCode m w code) ≡ put w deep k (viewOf m code)
+    go true z =
+        let here : m .parts < length code = omega (arith, h z) in
+        rw (z, lt-ltb (m .parts) 1024 (h z)) (state-eq refl refl (rw add-one (take-suc-set code (m .parts) w here)) refl refl)
+    go false z = rw z refl
 
 -- how far a step goes
 pub record Expected (text : List ℕ) (b : ℕ) (m r : Mark) : Type 0 where
@@ -104,24 +90,12 @@ pub record Passed (text : List ℕ) (m r : Mark) : Type 0 where
   pub on : m .at ≤ r .at
   pub within : r .at ≤ length text
 
-length-bounds : (text : List ℕ) (m : Mark) → m .at ≤ length text → 0 < lengthEnd text m →
-    (m .at ≤ lengthEnd text m) × (lengthEnd text m ≤ length text)
-unfolding lengthEnd
-length-bounds text m h =
-    by-cond (λ (n : ℕ). 0 < n → (m .at ≤ n) × (n ≤ length text)) (eqb (nextMark text m) 48)
-    (λ e pos.
-    let i = inside text m 48 (eqb-true (nextMark text m) 48 e) (omega arith) in
-    (omega arith, omega (arith, i .before)))
-    (λ e. by-cond (λ (n : ℕ). 0 < n → (m .at ≤ n) × (n ≤ length text)) (digit (nextMark text m))
-    (λ f pos. (omega arith, omega (arith, run-most digit (drop (m .at) text), length-drop (m .at) text)))
-    (λ f pos. absurd (omega arith)))
-
 pub passed : (text : List ℕ) (m : Mark) → m .at ≤ length text → Passed text m (lengthMark text m)
 unfolding lengthMark
 passed text m h =
     by-cond (Passed text m) (ltb 0 (lengthEnd text m))
     (λ e.
-    let b = length-bounds text m h (ltb-true 0 (lengthEnd text m) e) in
+    let b = length-bounds text m (ltb-true 0 (lengthEnd text m) e) in
     record { parts = refl; on = b .0; within = b .1 })
     (λ e. record { parts = refl; on = omega arith; within = h })
 
@@ -131,23 +105,15 @@ pub record Put (m r : Mark) : Type 0 where
   pub bad : m .ok ≡ false → r .parts ≡ m .parts
 
 pub put-is : (m : Mark) (deep k : ℕ) → Put m (putMark m deep k)
-unfolding putMark
-put-is m deep k = go (m .ok) refl
-  where
-    go : (z : Bool) → m .ok ≡ z →
-        Put m (cond z (record {
-          ok = true;
-          at = m .at;
-          parts = m .parts + 1;
-          deepest = max (m .deepest) deep;
-          longest = max (m .longest) k;
-        }) m)
-    go true z = record { at = refl; most = omega arith; bad = λ h. never (sym h ∙ z) }
-    go false z = record { at = refl; most = omega arith; bad = λ h. refl }
+unfolding putMark hasRoom
+put-is m deep k =
+    by-cond (Put m) (hasRoom m)
+    (λ e. record { at = refl; most = omega arith; bad = λ h. never (sym h ∙ and-left (m .ok) (ltb (m .parts) 1024) e) })
+    (λ e. record { at = refl; most = omega arith; bad = λ h. refl })
 
 put-room : (m : Mark) (w : ℕ) (code : List ℕ) → length (putCode m w code) ≡ length code
 unfolding putCode
-put-room m w code = by-cond (λ (l : List ℕ). length l ≡ length code) (m .ok) (λ e. length-set code (m .parts) w) (λ e. refl)
+put-room m w code = by-cond (λ (l : List ℕ). length l ≡ length code) (hasRoom m) (λ e. length-set code (m .parts) w) (λ e. refl)
 
 module _ {text old : List ℕ} {m : Mark} {deep : ℕ} where
   -- a reader may go on where another left off
@@ -243,8 +209,7 @@ module _ {text old : List ℕ} {m : Mark} {G : ℕ → State ℕ → State ℕ} 
   putting w deep k g d h =
       let p = put-is x deep k in
       record {
-        same = λ n j. view-put x w deep k mid (λ e. subst (λ (i : ℕ). x .parts < i) (sym (d .room)) (roomy g d h e))
-            ∙ ap (put w deep k) (d .same n j);
+        same = λ n j. view-put x w deep k mid (d .room) (roomy g d h) ∙ ap (put w deep k) (d .same n j);
         room = put-room x w mid ∙ d .room;
         within = omega (arith, p .at, d .within);
         on = omega (arith, p .at, d .on);
@@ -254,11 +219,6 @@ module _ {text old : List ℕ} {m : Mark} {G : ℕ → State ℕ → State ℕ} 
       go : (z : Bool) → x .ok ≡ z → (putMark x deep k) .parts + m .at ≤ m .parts + (putMark x deep k) .at
       go true z = let p = put-is x deep k in omega (arith, p .at, p .most, h z)
       go false z = let p = put-is x deep k in omega (arith, p .at, p .bad z, d .few)
-
-  pub put-needs : {deep : ℕ} → Ready text old m deep → Done G level text m old mid x →
-      (x .ok ≡ true → x .parts + m .at + 1 ≤ m .parts + x .at) →
-      (length mid ≡ 1024) × (x .ok ≡ true → x .parts < 1024)
-  put-needs g d h = (d .room, roomy g d h)
 
   -- a sum inside a block may be read
   pub inner-needs : (deep : ℕ) {t : ℕ} → Ready text old m (deep + 1) → Done G level text m old mid x →

@@ -1,22 +1,28 @@
 -- The paths through `leaf`, over plain values.
 use Prim.Native.Nat.{ℕ, _+_, _-_, _≤_, _<_, min}
 use native.Mathlib.Omega.{arith}
+use native.Mathlib.Decide.{decLt}
 use mathlib.Core.Path.{_≡_, refl, sym, ap, _∙_, subst}
 use mathlib.Core.Bool.{Bool, true, false, cond}
 use mathlib.Core.List.{List}
 use lib.Dec.{leb, eqb}
 use lib.ListN.{length, drop, length-drop}
-use borrow.Author.Tests.{eqb-true, leb-true}
+use borrow.Author.Tests.{eqb-true, lt-ltb, le-ltb}
 use Rattle.names.specs.Names.{letter, nameByte}
 use Rattle.grammar.specs.Reader.{State, run, bad, stepped, put, leafAt}
 use Rattle.grammar.specs.Formula.{coded, nameWord}
-use Rattle.marks.specs.Marks.{Mark, nextMark}
+use Rattle.marks.specs.Marks.{Mark, markOf, nextMark}
 use Rattle.tokens.specs.Tokens.{leafEnd, leafWord}
 use Rattle.marks.proofs.Marking.{inside}
 use Rattle.tokens.proofs.Runs.{run-some, run-most, none-at-0}
-use Rattle.formulas.specs.Readers.{viewOf, badMark, movedMark, putMark, putCode, Ready, Done, LeafRead}
+use Rattle.moves.specs.Moves.{failed, putCode, leafWords, leafCode}
+use Rattle.formulas.specs.Readers.{viewOf, Ready, Done}
 use Rattle.grammar.proofs.Bytes.{by-cond}
-use Rattle.formulas.proofs.Doing.{view-next, starting, moving-by, putting, becoming, turned, roomy}
+use Rattle.formulas.proofs.MarkSteps.{badMark, movedMark, putMark, moved-leaves, failed-leaves, put-leaves}
+use Rattle.formulas.proofs.Doing.{view-next, starting, moving-by, putting, becoming, turned}
+
+abbrev pub LeafRead : List ℕ → ℕ → Mark → List ℕ → List ℕ → Mark → Type 0
+LeafRead text deep m old new r = Done (λ n. leafAt coded text deep) 0 text m old new r
 
 -- the letters and digits from the mark on
 abbrev count : List ℕ → Mark → ℕ
@@ -109,10 +115,7 @@ module _ (text old : List ℕ) (m : Mark) (deep : ℕ) (g : Ready text old m dee
         (movedMark m (leafEnd text m)) .parts + m .at + 1 ≤ m .parts + (movedMark m (leafEnd text m)) .at
     strict ok = omega (arith, ends .some)
 
-    pub leaf-room : (x : Mark) → x ≡ movedMark m (leafEnd text m) → x .ok ≡ true → x .parts < 1024
-    leaf-room x q = subst (λ (y : Mark). y .ok ≡ true → y .parts < 1024) (sym q) (roomy g past strict)
-
-    pub leaf-path : (w : ℕ) → w ≡ leafWord (nextMark text m) (min (m .at) 1024) (min (leafEnd text m) 1024) → (x r : Mark) (new : List ℕ) →
+    leaf-path : (w : ℕ) → w ≡ leafWord (nextMark text m) (min (m .at) 1024) (min (leafEnd text m) 1024) → (x r : Mark) (new : List ℕ) →
         x ≡ movedMark m (leafEnd text m) → r ≡ putMark x deep 0 → new ≡ putCode x w old → LeafRead text deep m old new r
     leaf-path w e x r new q qr qn =
         let from : min (m .at) 1024 ≡ m .at = omega (arith, g .within, g .short) in
@@ -122,9 +125,28 @@ module _ (text old : List ℕ) (m : Mark) (deep : ℕ) (g : Ready text old m dee
         turned (qn ∙ ap (λ (y : Mark). putCode y w old) q) (qr ∙ ap (λ (y : Mark). putMark y deep 0) q)
         (becoming d (λ n. leaf-put h ∙ ap (λ (v : ℕ). put v deep 0 (stepped (leafEnd text m - m .at) (viewOf m old))) (sym e)))
 
-  pub bad-path : leafEnd text m ≤ 0 → (r : Mark) → r ≡ badMark m → LeafRead text deep m old old r
+  bad-path : leafEnd text m ≤ 0 → (r : Mark) → r ≡ badMark m → LeafRead text deep m old old r
   unfolding bad
   bad-path h r q =
       turned refl q
       (becoming {G = λ n s. bad s} (record { same = λ n h. refl; room = g .room; within = g .within; on = omega arith; few = omega arith })
       (λ n. leaf-none h))
+
+-- what `leaf` leaves
+pub leaf-leaves : (m : List ℕ) {text old new r : List ℕ} {deep : ℕ} → length m ≡ 5 → Ready text old (markOf m) deep →
+    (r ≡ leafWords text m deep) × (new ≡ leafCode text m old) → (length r ≡ 5) × LeafRead text deep (markOf m) old new (markOf r)
+unfolding leafWords leafCode
+leaf-leaves m {text} {old} {new} {r} {deep} h g q = go (decLt 0 (leafEnd text (markOf m)))
+  where
+    go : Dec (0 < leafEnd text (markOf m)) → (length r ≡ 5) × LeafRead text deep (markOf m) old new (markOf r)
+    go (yes some) =
+        let e = lt-ltb 0 (leafEnd text (markOf m)) some in
+        let x = moved-leaves m (leafEnd text (markOf m)) h in
+        let p = put-leaves _ deep 0 (x .0) (rw e at (q .0)) in
+        (p .0, leaf-path text old (markOf m) deep g some _ refl _ _ _ (x .1) (p .1) (rw e at (q .1)))
+    go (no none) =
+        let k : leafEnd text (markOf m) ≤ 0 = omega (arith, none) in
+        let e = le-ltb 0 (leafEnd text (markOf m)) k in
+        let p = failed-leaves m h in
+        let rq : r ≡ failed m = rw e at (q .0) in
+        (ap length rq ∙ p .0, turned (rw e at (q .1)) refl (bad-path text old (markOf m) deep g k (markOf r) (ap markOf rq ∙ p .1)))

@@ -1,5 +1,5 @@
 -- Lemmas on the reader's steps and paths.
-pub mod Lending
+pub mod MarkSteps
 pub mod Doing
 pub mod LeafPaths
 pub mod ReaderPaths

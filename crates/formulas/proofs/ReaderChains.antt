@@ -10,9 +10,11 @@ use borrow.Author.Tests.{eq-eqb}
 use Rattle.grammar.specs.Reader.{State, stepped, put}
 use Rattle.grammar.specs.Formula.{coded}
 use Rattle.marks.specs.Marks.{Mark, nextMark}
-use Rattle.formulas.specs.Readers.{viewOf, putMark, putCode, Ready, Done}
+use Rattle.moves.specs.Moves.{putCode}
+use Rattle.formulas.specs.Readers.{viewOf, Ready, Done}
 use Rattle.grammar.proofs.Branches.{Chain}
-use Rattle.formulas.proofs.Doing.{view-next, put-is, ready-on, starting, turned, calling, put-needs, putting, finishing}
+use Rattle.formulas.proofs.MarkSteps.{putMark}
+use Rattle.formulas.proofs.Doing.{view-next, put-is, ready-on, starting, turned, calling, putting, finishing}
 use Rattle.formulas.proofs.ReaderPaths.{Step, before, one-on, past, own-byte}
 
 module _ {text : List ℕ} {deep byte kind level : ℕ} {operand rest whole : ℕ → State ℕ → State ℕ}
@@ -45,9 +47,6 @@ module _ {text : List ℕ} {deep byte kind level : ℕ} {operand rest whole : �
   module _ {mid : List ℕ} {y : Mark} (p : Done operand level text x old mid y) where
     read : Done (λ n s. operand n (stepped 1 s)) 0 text m old mid y
     read = calling (past k 0) p (omega (arith, one-on k, before k, C .below))
-
-    pub operator-needs : (length mid ≡ 1024) × (y .ok ≡ true → y .parts < 1024)
-    operator-needs = put-needs (k .ready) read (own-byte k p)
 
     -- and the operator put out, to z
     module _ {mid2 : List ℕ} {z : Mark} (w : (z ≡ putMark y deep 0) × (mid2 ≡ putCode y kind mid)) where

@@ -15,13 +15,15 @@ use Rattle.texts.specs.Lengths.{capped}
 use Rattle.marks.specs.Marks.{Mark, nextMark}
 use Rattle.grammar.specs.Kinds as kinds
 use Rattle.openings.specs.Opening.{BRACKET, openKind, openBytes}
-use Rattle.formulas.specs.Readers.{viewOf, movedMark, expectMark, lengthMark, putMark, putCode, Ready, Done, LeafRead, SumRead}
-use Rattle.formulas.specs.Readers.{FactorRead, LatchRead, TimerRead}
+use Rattle.moves.specs.Moves.{lengthTicks, putCode}
+use Rattle.formulas.specs.Readers.{viewOf, Ready, Done, SumRead, FactorRead, LatchRead, TimerRead}
 use Rattle.marks.proofs.Marking.{inside}
 use Rattle.openings.proofs.Openings.{blockMark, Opens, opens, prefix-above}
 use Rattle.grammar.proofs.Branches.{BlockNext, latch-is, timer-is}
+use Rattle.formulas.proofs.MarkSteps.{movedMark, expectMark, lengthMark, putMark}
+use Rattle.formulas.proofs.LeafPaths.{LeafRead}
 use Rattle.formulas.proofs.Doing.{view-next, ready-deeper, starting, turned, moving, moving-by, expecting, passing, calling}
-use Rattle.formulas.proofs.Doing.{put-needs, putting, closing, finishing}
+use Rattle.formulas.proofs.Doing.{putting, closing, finishing, ticks-are}
 
 -- a reader of the level, of measure t, began at m, where the byte b is next; x is past it
 pub record Step (text old : List ℕ) (m : Mark) (deep level t b : ℕ) (x : Mark) : Type 0 where
@@ -59,10 +61,6 @@ module _ {text old : List ℕ} {m : Mark} {deep t b : ℕ} {x : Mark} (k : Step 
   deeper : {F : ℕ → State ℕ → State ℕ} {level : ℕ} {mid : List ℕ} {y : Mark} → level ≤ 5 → Done F level text x old mid y →
       Done (λ n s. F n (stepped 1 s)) 1 text m old mid y
   deeper l p = calling (past k 1) p (omega (arith, one-on k, before k))
-
-  pub prefix-needs : {mid : List ℕ} {y : Mark} → FactorRead text (deep + 1) x old mid y →
-      (length mid ≡ 1024) × (y .ok ≡ true → y .parts < 1024)
-  prefix-needs p = put-needs (k .ready) (deeper (omega arith) p) (own-byte k p)
 
   pub prefix-path : {mid new : List ℕ} {y r : Mark} (kind : ℕ) → kind ≡ prefixKind b → 0 < kind → FactorRead text (deep + 1) x old mid y →
       (r ≡ putMark y deep 0) × (new ≡ putCode y kind mid) → FactorRead text deep m old new r
@@ -179,9 +177,6 @@ module _ {text old : List ℕ} {m : Mark} (deep : ℕ) (g : Ready text old m (de
           mid2 y3
       closed = turned refl q3 (expecting 41 (omega arith) both)
 
-      pub latch-needs : (length mid2 ≡ 1024) × (y3 .ok ≡ true → y3 .parts < 1024)
-      latch-needs = put-needs g closed (closing both q3)
-
       pub latch-path : {new : List ℕ} {r : Mark} (kind : ℕ) → new ≡ putCode y3 kind mid2 → r ≡ putMark y3 deep 0 →
           LatchRead text kind deep m old new r
       unfolding latchAt
@@ -202,14 +197,13 @@ module _ {text old : List ℕ} {m : Mark} (deep : ℕ) (g : Ready text old m (de
       timer-closed : Done (λ n s. expect text 41 (sumAt coded text n (deep + 1) (expect text 44 (passLength text s)))) 4 text m old mid y3
       timer-closed = turned refl q3 (expecting 41 (omega arith) body)
 
-      pub timer-needs : (length mid ≡ 1024) × (y3 .ok ≡ true → y3 .parts < 1024)
-      timer-needs = put-needs g timer-closed (closing body q3)
-
       to-at : p .at ≡ (passLength text (viewOf m old)) .at
       to-at = ap (λ (j : State ℕ). j .at) (measured .same (5 * (length text - m .at) + 4) (omega arith))
 
-      pub timer-path : {new : List ℕ} {r : Mark} (kind n : ℕ) → n ≡ capped (valueBetween text (m .at) (p .at)) →
+      pub timer-path : {new : List ℕ} {r : Mark} (kind n : ℕ) → n ≡ lengthTicks text m →
           new ≡ putCode y3 (n * 16 + kind) mid → r ≡ putMark y3 deep n → TimerRead text kind deep m old new r
       unfolding timerAt timed timerWord
       timer-path kind n e q w =
+          let e : n ≡ capped (valueBetween text (m .at) (p .at)) =
+          e ∙ ticks-are text m ∙ ap (λ (j : Mark). capped (valueBetween text (m .at) (j .at))) (sym qp) in
           finishing (turned q w (putting (n * 16 + kind) deep n g timer-closed (closing body q3))) (λ j. rw (← to-at, ← e) refl)

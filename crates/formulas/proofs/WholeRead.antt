@@ -44,11 +44,9 @@ laid text blank page e b h =
 abbrev pub begin : List ℕ
 begin = 1 ∷ 0 ∷ 0 ∷ 0 ∷ 0 ∷ []
 
-pub begun : (page : List ℕ) (bytes : ℕ) {words : List ℕ} → length page ≡ 1024 → bytes ≤ 1024 → length words ≡ 1024 →
-    Begun page bytes words begin 0
+pub begun : (page : List ℕ) (bytes : ℕ) {words : List ℕ} → length words ≡ 1024 → Begun page bytes words begin 0
 unfolding markOf
-begun page bytes {words} p h w =
-    (record { whole = p; first = h; five = refl }, ready-first (lent page bytes) words (omega (arith, lent-most page bytes)) w)
+begun page bytes {words} w = (refl, ready-first (lent page bytes) words (omega (arith, lent-most page bytes)) w)
 
 pub lent-all : (page : List ℕ) (bytes : ℕ) → length page ≡ 1024 → bytes ≤ 1024 → length (lent page bytes) ≡ bytes
 unfolding lent

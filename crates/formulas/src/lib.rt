@@ -1,5 +1,4 @@
 // The formula reader: the fault of a formula, or its parts as code words in working-out order.
-mod mark;
 mod reader;
 
 ghost use mathlib.Core.Path.{_≡_};

@@ -2,34 +2,15 @@
 ghost use mathlib.Core.Path.{_≡_};
 ghost use Prim.Native.Nat.{_+_, _≤_, _<_};
 ghost use Rattle.marks.specs.Marks.{lent};
-ghost use Rattle.formulas.specs.Readers.{Begun, Left, LeafRead, SumRead, SumsRead, ProductRead, ProductsRead};
+ghost use Rattle.formulas.specs.Readers.{Begun, Left, SumRead, SumsRead, ProductRead, ProductsRead};
 ghost use Rattle.formulas.specs.Readers.{FactorRead, LatchRead, TimerRead};
-use crate::mark::begin;
-use crate::mark::expect;
-use crate::mark::fail;
-use crate::mark::move_to;
-use crate::mark::pass;
-use crate::mark::pass_length;
-use crate::mark::put;
 use marks::kind;
-use tokens::leaf_end;
-use tokens::leaf_word;
-
-// 0, 1 or a name.
-fn leaf(text: &[u8; 1024], bytes: usize, code: &mut [u64; 1024], m: &mut [usize; 5], deep: usize)
-    requires { ⌜ Begun (now text) bytes (now code) (now m) deep ⌝ }
-    ensures { λ _. ⌜ Left (LeafRead (lent (now (text .entry)) bytes) deep) (now (m .entry))
-        (now (code .entry)) (now (code .exit)) (now (m .exit)) ⌝ }
-{
-    let end = leaf_end(text, bytes, m);
-    if 0 < end {
-        let word = leaf_word(text, bytes, m, end);
-        move_to(m, end);
-        put(code, m, word, deep, 0);
-        return;
-    }
-    fail(m);
-}
+use moves::begin;
+use moves::expect;
+use moves::leaf;
+use moves::pass;
+use moves::pass_length;
+use moves::put;
 
 // sum = product {"+" product}
 pub(crate) fn sum(

@@ -31,7 +31,7 @@ use Rattle.operations.specs.Calls.{partFault}
 use Rattle.calls.specs.OnSheet.{exactOn, settlingDate}
 use Rattle.code_words.specs.CodeWords.{constantOf}
 use Rattle.machine.specs.Machine.{leafOf, leafKnown}
-use Rattle.machine.specs.Stack.{leafWords}
+use Rattle.machine.specs.Stack.{leafList}
 use Rattle.machine.proofs.Exact.{short}
 use Rattle.signals.specs.Answers.{firstOf}
 
@@ -107,8 +107,8 @@ constant-is sheet text w x = rw (ne-eqb (w % 16) kinds.NAME x) (go (eqb (w % 16)
 
 -- a code word's list is that of the leaf that it stands for
 pub leaf-words : (sheet text : List ℕ) (w : ℕ) → sheetFault sheet ≡ 0 → Bytes sheet → leafKnown sheet (leafOf text w)
-    → leafWords sheet text w ≡ exactOn sheet (leaf (leafOf text w))
-unfolding leafWords decoded
+    → leafList sheet text w ≡ exactOn sheet (leaf (leafOf text w))
+unfolding leafList decoded
 leaf-words sheet text w ok bytes known = go (ℕ-discrete (w % 16) kinds.NAME)
   where
     go : Dec (w % 16 ≡ kinds.NAME)

@@ -19,8 +19,8 @@ use Rattle.code_words.specs.CodeWords.{constantOf, operandsOf}
 use Rattle.applying.specs.PartCalls.{judgedFor, exactFor, partAnswer}
 
 -- the list of a part without operands: a name's as the sheet has it, none where it has none, or a constant's
-unfoldable pub leafWords : List ℕ → List ℕ → ℕ → List ℕ
-leafWords sheet text w =
+unfoldable pub leafList : List ℕ → List ℕ → ℕ → List ℕ
+leafList sheet text w =
     cond (eqb (w % 16) kinds.NAME) (decoded (lookupOf sheet (nameAt text (w / 256) (w / 16 % 16)))) (constantOf w ∷ [])
 
 -- the operands of a part that takes so many: the first, and the last, which is on top
@@ -44,7 +44,7 @@ stepFault w st =
 -- the list that a part makes, and the stack with it in its operands' place
 unfoldable pub madeOn : List ℕ → List ℕ → ℕ → List (List ℕ) → List ℕ
 madeOn sheet text w st =
-    cond (eqb (operandsOf w) 0) (leafWords sheet text w) (exactFor w (firstTaken (operandsOf w) st) (onTop st))
+    cond (eqb (operandsOf w) 0) (leafList sheet text w) (exactFor w (firstTaken (operandsOf w) st) (onTop st))
 
 abbrev pub stepped : List ℕ → List ℕ → ℕ → List (List ℕ) → List (List ℕ)
 stepped sheet text w st = madeOn sheet text w st ∷ drop (operandsOf w) st

@@ -1,7 +1,6 @@
 -- What begins a factor, by its kind: which bytes are next, and how many.
-use Prim.Native.Nat.{ℕ, zero, suc, _+_, _≤_, _<_, max}
+use Prim.Native.Nat.{ℕ, zero, suc, _+_, _≤_, _<_}
 use native.Mathlib.Omega.{arith}
-use native.Mathlib.Decide.{decLt}
 use mathlib.Core.Path.{_≡_, refl, sym, ap, _∙_, subst}
 use mathlib.Core.Bool.{Bool, true, false, cond}
 use mathlib.Core.List.{List, [], _∷_}
@@ -158,11 +157,3 @@ module _ (text : List ℕ) (m : Mark) where
       (λ f.
       let p = ltb-false 0 (prefixKind (nextMark text m)) e in
       of-block (blockMark text m) (omega arith, f, refl) (blocks text m)))
-
-  -- the opening ends in the text, or has no byte
-  pub open-most : m .at + openBytes (openKind text m) ≤ max (m .at) (length text)
-  open-most = go (openKind text m) opens (decLt 0 (openKind text m))
-    where
-      go : (kind : ℕ) → Opens text m kind → Dec (0 < kind) → m .at + openBytes kind ≤ max (m .at) (length text)
-      go kind o (yes h) = omega (arith, o .within h)
-      go kind o (no h) = omega (arith, none-bytes kind (omega (arith, h)))

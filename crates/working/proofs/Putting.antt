@@ -13,7 +13,7 @@ use Rattle.grammar.specs.Formula.{nameAt}
 use Rattle.format.specs.Calls.{lookupOf}
 use Rattle.format.specs.Theorems.{decoded}
 use Rattle.code_words.specs.CodeWords.{constantOf}
-use Rattle.machine.specs.Stack.{leafWords}
+use Rattle.machine.specs.Stack.{leafList}
 use Rattle.machine.proofs.Leaves.{words-length}
 use Rattle.working.specs.Slots.{Loaded}
 
@@ -48,12 +48,12 @@ paste-one d at w h =
 pub loaded-name : (sheet text : List ℕ) (w : ℕ) (before after part name : List ℕ) (at count : ℕ) → w % 16 ≡ kinds.NAME
     → name ≡ nameAt text (w / 256) (w / 16 % 16) → part ≡ lookupOf sheet name → count ≡ length part / 4
     → after ≡ paste before at (wordsIn (length part / 4) part) count → Loaded sheet text w before at after count
-unfolding leafWords decoded
+unfolding leafList decoded
 loaded-name sheet text w before after part name at count e en ep ec ea =
     let p : part ≡ lookupOf sheet (nameAt text (w / 256) (w / 16 % 16)) = rw en at ep in
     rw (eq-eqb (w % 16) kinds.NAME e, ← p) (ec ∙ sym (words-length (length part / 4) part), ea)
 
 pub loaded-constant : (sheet text : List ℕ) (w : ℕ) (before after : List ℕ) (at word : ℕ) → (w % 16 ≡ kinds.NAME → ⊥) → word ≡ constantOf w
     → after ≡ paste before at (word ∷ []) 1 → Loaded sheet text w before at after 1
-unfolding leafWords
+unfolding leafList
 loaded-constant sheet text w before after at word x e ea = rw (ne-eqb (w % 16) kinds.NAME x, ← e) (refl, ea)

@@ -25,7 +25,7 @@ use Rattle.format.specs.Theorems.{decoded}
 use Rattle.calls.specs.Calls.{workWords}
 use Rattle.code_words.specs.CodeWords.{constantOf, operandsOf}
 use Rattle.applying.specs.PartCalls.{judgedFor, exactFor, partAnswer, PartInSlot}
-use Rattle.machine.specs.Stack.{firstTaken, onTop, leafWords, operationFault, stepFault, madeOn, stepped}
+use Rattle.machine.specs.Stack.{firstTaken, onTop, leafList, operationFault, stepFault, madeOn, stepped}
 use Rattle.machine.proofs.Leaves.{part-small, words-length}
 use Rattle.working.specs.declared.Next.{Next}
 use Rattle.working.specs.Slots.{Stands, Stacked, Room, Loaded, nextOf, placedIn, Fits, Stepped}
@@ -105,8 +105,8 @@ too-low sheet text w work counts base height taken st p tall h =
 
 -- a part without operands
 module _ (sheet text : List ℕ) (bytes : Bytes sheet) (w : ℕ) where
-  pub leaf-short : length (leafWords sheet text w) ≤ mostWords
-  unfolding leafWords decoded
+  pub leaf-short : length (leafList sheet text w) ≤ mostWords
+  unfolding leafList decoded
   leaf-short = go (eqb (w % 16) kinds.NAME)
     where
       part : List ℕ
@@ -125,7 +125,7 @@ module _ (sheet text : List ℕ) (bytes : Bytes sheet) (w : ℕ) where
       → Stepped sheet text work after counts base w st (record { fault = 0; height = height + 1; count = n })
   unfolding stepFault madeOn
   leaf-stepped none work after counts base height n at low few slots room at-is loaded st tall stacked =
-      let made = leafWords sheet text w in
+      let made = leafList sheet text w in
       let s = leaf-short in
       let k : length st ≡ height + 1 - 1 = omega arith in
       let a : at ≡ mostWords * (base + length st) = omega arith in

@@ -8,7 +8,7 @@ use Rattle.signals.specs.Words.{mostWords}
 use Rattle.signals.specs.declared.Written.{Written}
 use Rattle.signals.specs.declared.Written.the-variants.{Count, Refused}
 use Rattle.calls.specs.Calls.{workWords}
-use Rattle.machine.specs.Stack.{leafWords, stepFault, stepped}
+use Rattle.machine.specs.Stack.{leafList, stepFault, stepped}
 use Rattle.working.specs.declared.Next.{Next}
 
 -- the list stands at the front of a slot
@@ -38,7 +38,7 @@ pub record Ready (work counts : List ℕ) (base height : ℕ) : Type 0 where
 -- a leaf's list put into the work area at a place, its word count being told
 abbrev pub Loaded : List ℕ → List ℕ → ℕ → List ℕ → ℕ → List ℕ → ℕ → Type 0
 Loaded sheet text w before at after count =
-    (count ≡ length (leafWords sheet text w)) × (after ≡ paste before at (leafWords sheet text w) count)
+    (count ≡ length (leafList sheet text w)) × (after ≡ paste before at (leafList sheet text w) count)
 
 -- what a step's answer says of the part's answer, and the work area with its list put there
 abbrev pub nextOf : ℕ → Written → Next

@@ -19,7 +19,7 @@ array-write-m c = search needs
 sum-requires : tie.Need-sum-requires
 sum-requires c κs =
     let s = c .before .before in
-    begun (s .args .page .now) (s .args .bytes) (s .pre .0) (s .pre .2) (length-replicate {A = ℕ} 1024 0)
+    begun (s .args .page .now) (s .args .bytes) (length-replicate {A = ℕ} 1024 0)
 
 -- the text is read to the mark that its words hold
 read-to : (c : tie.After-sum) →

@@ -3,14 +3,16 @@
 use Prim.Native.Nat.{ℕ, _+_, _*_, _-_, _<_}
 use native.Mathlib.Omega.{arith}
 use borrow.Author.Tests.{eqb-true}
-use mathlib.Core.Path.{refl, sym, ap, _∙_}
+use mathlib.Core.Path.{_≡_, refl, ap, _∙_}
 use lib.ListN.{length}
 use borrow.Author.Needs.{needs}
-use Rattle.texts.specs.Lengths.{capped}
 use Rattle.marks.specs.Marks.{Mark, markOf, lent}
+use Rattle.openings.specs.Opening.{openBytes}
 use Rattle.tokens.proofs.Runs.{capped-most}
-use Rattle.formulas.proofs.Lending.{lent-on, text-long, number-lent}
-use Rattle.formulas.proofs.Doing.{pass-moves, pass-stays, passed, starting, turned, inner-needs}
+use Rattle.formulas.proofs.MarkSteps.{Marked, movedMark, expectMark, lengthMark, putMark}
+use Rattle.formulas.proofs.MarkSteps.{begin-leaves, expect-leaves, next-told, pass-moves, pass-stays, length-leaves, put-leaves}
+use Rattle.formulas.proofs.LeafPaths.{leaf-leaves}
+use Rattle.formulas.proofs.Doing.{ticks-are, starting, turned, inner-needs}
 use Rattle.formulas.proofs.ReaderPaths as paths
 use Rattle.formulas.proofs.ReaderChains as chains
 use Rattle.grammar.proofs.Branches.{plus, times}
@@ -37,12 +39,12 @@ use Rattle.formulas.proofs.reader.+factor+latch+product+products+sum+su
 use Rattle.formulas.proofs.reader.timer.Reads as timer
 use Rattle.formulas.proofs.reader.timer.Kinds as timer-kinds
 use Rattle.formulas.proofs.reader.+factor+latch+product+products+sum+sums+timer.Lts-timer as timer-lts
-use Rattle.formulas.proofs.mark.begin.Reads as begin-reads
-use Rattle.formulas.proofs.mark.expect.Reads as expect-reads
-use Rattle.formulas.proofs.mark.pass.Reads as pass-reads
-use Rattle.formulas.proofs.mark.pass_length.Reads as pass-length-reads
-use Rattle.formulas.proofs.mark.put.Reads as put-reads
-use Rattle.formulas.proofs.reader.leaf.Reads as leaf-reads
+use Rattle.moves.proofs.begin.Reads as begin-reads
+use Rattle.moves.proofs.expect.Reads as expect-reads
+use Rattle.moves.proofs.pass.Reads as pass-reads
+use Rattle.moves.proofs.pass_length.Reads as pass-length-reads
+use Rattle.moves.proofs.put.Reads as put-reads
+use Rattle.moves.proofs.leaf.Reads as leaf-reads
 use Rattle.formulas.proofs.reader.+factor+latch+product+products+sum+sums+timer.{statement}
 use Rattle.formulas.proofs.reader.+factor+latch+product+products+sum+sums+timer.Tie.{close}
 
@@ -160,28 +162,33 @@ timer-calls t = (
 )
 
 -- a factor's opening is passed
+begun : (t : ℕ) (c : factor-lts.After-begin (factor-calls t) (factor-at t) factor.Post) →
+    let m = markOf (c .before .before .args .m .now) in
+    Marked (c .begin .last .1 .1 .0) (movedMark m (m .at + openBytes (c .begin .result)))
+begun t c =
+    let s = c .before .before in
+    begin-leaves (lent (s .args .text .now) (s .args .bytes)) (s .args .m .now) (s .pre .1 .0) (c .begin .ensures)
+
 factor-open : (t : ℕ) (c : factor-lts.After-begin (factor-calls t) (factor-at t) factor.Post) →
     let s = c .before .before in
     paths.Opening (lent (s .args .text .now) (s .args .bytes)) (s .args .code .now) (markOf (s .args .m .now)) (s .args .deep) t
     (c .begin .result) (markOf (c .begin .last .1 .1 .0))
 factor-open t c =
     let s = c .before .before in
-    record { ready = s .pre .1 .1; falls = s .pre .0; kind = c .begin .ensures .1; moved = c .begin .ensures .0 .1 }
+    record { ready = s .pre .1 .1; falls = s .pre .0; kind = c .begin .ensures .1; moved = begun t c .1 }
 
 factor-begin-requires : (t : ℕ) → factor-lts.Need-begin-requires (factor-calls t) (factor-at t) factor.Post
-factor-begin-requires t c κs =
-    let s = c .before in (s .pre .1 .0 .five, omega (arith, s .pre .1 .1 .within, s .pre .1 .1 .short))
+factor-begin-requires t c κs = tt
 
 factor-leaf-requires : (t : ℕ) → factor-lts.Need-leaf-requires (factor-calls t) (factor-at t) factor.Post
-factor-leaf-requires t c κs =
-    let b = c .before .before .before in
-    let s = b .before .before in
-    (lent-on (s .pre .1 .0) (b .begin .ensures .0 .0), paths.leaf-needs (factor-open t b) (c .before .before .if1 .taken))
+factor-leaf-requires t c κs = tt
 
 factor-returns : (t : ℕ) → factor-lts.Need-returns (factor-calls t) (factor-at t) factor.Post
 factor-returns t c =
     let b = c .before .before .before .before in
-    (c .leaf .ensures .0, paths.leaf-path (factor-open t b) (c .before .before .before .if1 .taken) (c .leaf .ensures .1))
+    let none = c .before .before .before .if1 .taken in
+    let l = leaf-leaves (b .begin .last .1 .1 .0) (begun t b .0) (paths.leaf-needs (factor-open t b) none) (c .leaf .ensures) in
+    (l .0, paths.leaf-path (factor-open t b) none (l .1))
 
 factor-add-factor : (t : ℕ) → factor-lts.Need-add-factor (factor-calls t) (factor-at t) factor.Post
 factor-add-factor t c =
@@ -193,25 +200,19 @@ factor-factor-requires t c κs =
     let s = b .before .before in
     let n = paths.deeper-needs (paths.prefix-step (factor-open t (c .before .before .before .before))
     (c .before .before .before .if1 .left) (c .before .before .if2 .taken)) {level = 2} (omega arith) in
-    (n .0, (lent-on (s .pre .1 .0) (b .begin .ensures .0 .0), n .1))
+    (n .0, (begun t b .0, n .1))
 
 factor-put-requires : (t : ℕ) → factor-lts.Need-put-requires (factor-calls t) (factor-at t) factor.Post
-factor-put-requires t c κs =
-    let factor′ = c .before .before .factor in
-    let n = paths.prefix-needs (paths.prefix-step (factor-open t (c .before .before .before .before .before .before .before))
-    (c .before .before .before .before .before .before .if1 .left) (c .before .before .before .before .before .if2 .taken))
-    (factor′ .ensures .1) in
-    (factor′ .ensures .0, n .0, n .1)
+factor-put-requires t c κs = tt
 
 factor-returns-2 : (t : ℕ) → factor-lts.Need-returns-2 (factor-calls t) (factor-at t) factor.Post
 factor-returns-2 t c =
+    let b = c .before .before .before .before .before .before .before .before in
     let factor′ = c .before .before .before .factor in
-    let put′ = c .put in (
-      put′ .ensures .0 .0,
-      paths.opened-prefix (factor-open t (c .before .before .before .before .before .before .before .before))
-          (c .before .before .before .before .before .before .before .if1 .left)
-          (c .before .before .before .before .before .before .if2 .taken) (factor′ .ensures .1)
-          (put′ .ensures .0 .1, put′ .ensures .1),
+    let p = put-leaves (factor′ .last .1 .1 .1 .0) (b .before .before .args .deep) 0 (factor′ .ensures .0) (c .put .ensures .0) in (
+      p .0,
+      paths.opened-prefix (factor-open t b) (c .before .before .before .before .before .before .before .if1 .left)
+          (c .before .before .before .before .before .before .if2 .taken) (factor′ .ensures .1) (p .1, c .put .ensures .1),
     )
 
 factor-add-sum : (t : ℕ) → factor-lts.Need-add-sum (factor-calls t) (factor-at t) factor.Post
@@ -223,27 +224,27 @@ factor-sum-requires t c κs =
     let b = c .before .before .before .before .before in
     let s = b .before .before in
     let n = paths.deeper-needs (paths.bracket-step (factor-open t b) (c .before .before .if3 .taken)) {level = 4} (omega arith) in
-    (n .0, (lent-on (s .pre .1 .0) (b .begin .ensures .0 .0), n .1))
+    (n .0, (begun t b .0, n .1))
 
 factor-expect-requires : (t : ℕ) → factor-lts.Need-expect-requires (factor-calls t) (factor-at t) factor.Post
-factor-expect-requires t c κs = (
-  lent-on (c .before .before .before .before .before .before .before .before .before .pre .1 .0) (c .before .sum .ensures .0),
-  omega
-      arith,
-)
+factor-expect-requires t c κs = tt
 
 factor-returns-3 : (t : ℕ) → factor-lts.Need-returns-3 (factor-calls t) (factor-at t) factor.Post
 factor-returns-3 t c =
-    let k = paths.bracket-step (factor-open t (c .before .before .before .before .before .before .before .before))
-    (c .before .before .before .before .before .if3 .taken) in
-    (c .expect .ensures .0, paths.brackets-path k (c .before .before .sum .ensures .1) (c .expect .ensures .1))
+    let b = c .before .before .before .before .before .before .before .before in
+    let a = b .before .before .args in
+    let k = paths.bracket-step (factor-open t b) (c .before .before .before .before .before .if3 .taken) in
+    let sum′ = c .before .before .sum in
+    let e = expect-leaves (lent (a .text .now) (a .bytes)) 41 (sum′ .last .1 .1 .1 .0) (omega arith) (sum′ .ensures .0)
+    (c .expect .ensures) in
+    (e .0, paths.brackets-path k (sum′ .ensures .1) (e .1))
 
 factor-timer-requires : (t : ℕ) → factor-lts.Need-timer-requires (factor-calls t) (factor-at t) factor.Post
 factor-timer-requires t c κs =
     let b = c .before .before .before .before .before .before in
     let s = b .before .before in
     let n = paths.block-needs (factor-open t b) (c .before .before .before .before .if2 .left) (c .before .before .before .if3 .left) in
-    (n .0, ((lent-on (s .pre .1 .0) (b .begin .ensures .0 .0), n .1), omega (arith, c .before .before .if4 .taken)))
+    (n .0, ((begun t b .0, n .1), omega (arith, c .before .before .if4 .taken)))
 
 factor-returns-4 : (t : ℕ) → factor-lts.Need-returns-4 (factor-calls t) (factor-at t) factor.Post
 factor-returns-4 t c =
@@ -258,7 +259,7 @@ factor-latch-requires t c κs =
     let b = c .before .before .before .before .before .before in
     let s = b .before .before in
     let n = paths.block-needs (factor-open t b) (c .before .before .before .before .if2 .left) (c .before .before .before .if3 .left) in
-    (n .0, (lent-on (s .pre .1 .0) (b .begin .ensures .0 .0), n .1))
+    (n .0, (begun t b .0, n .1))
 
 factor-returns-5 : (t : ℕ) → factor-lts.Need-returns-5 (factor-calls t) (factor-at t) factor.Post
 factor-returns-5 t c =
@@ -279,50 +280,49 @@ latch-sum-requires t c κs =
     (n .0, (s .pre .1 .0, n .1))
 
 latch-expect-requires : (t : ℕ) → latch-lts.Need-expect-requires (latch-calls t) (latch-at t) latch.Post
-latch-expect-requires t c κs = (lent-on (c .before .before .before .before .pre .1 .0) (c .before .sum .ensures .0), omega arith)
+latch-expect-requires t c κs = tt
 
 latch-add-sum-2 : (t : ℕ) → latch-lts.Need-add-sum-2 (latch-calls t) (latch-at t) latch.Post
 latch-add-sum-2 t c =
     let g = c .before .before .before .before .before .before .before .pre .1 .1 in omega (arith, g .opened, g .within, g .short)
 
+-- a comma is passed after the first sum
+latch-comma : (t : ℕ) (c : latch-lts.After-expect (latch-calls t) (latch-at t) latch.Post) →
+    let a = c .before .before .before .before .before .args in
+    Marked (c .expect .last .1 .1 .0) (expectMark (lent (a .text .now) (a .bytes)) 44 (markOf (c .before .before .sum .last .1 .1 .1 .0)))
+latch-comma t c =
+    let a = c .before .before .before .before .before .args in
+    let sum′ = c .before .before .sum in
+    expect-leaves (lent (a .text .now) (a .bytes)) 44 (sum′ .last .1 .1 .1 .0) (omega arith) (sum′ .ensures .0) (c .expect .ensures)
+
 latch-sum-requires-2 : (t : ℕ) → latch-lts.Need-sum-requires-2 (latch-calls t) (latch-at t) latch.Post
 latch-sum-requires-2 t c κs =
     let s = c .before .before .before .before .before .before .before in
     let sum′ = c .before .before .before .before .sum in
-    let expect′ = c .before .before .expect in
-    let n = inner-needs (s .args .deep) (s .pre .1 .1)
-    (paths.parted (s .args .deep) (s .pre .1 .1) (sum′ .ensures .1) (expect′ .ensures .1)) (s .pre .0) in
-    (n .0, (lent-on (s .pre .1 .0) (expect′ .ensures .0), n .1))
+    let e = latch-comma t (c .before .before) in
+    let n = inner-needs (s .args .deep) (s .pre .1 .1) (paths.parted (s .args .deep) (s .pre .1 .1) (sum′ .ensures .1) (e .1))
+    (s .pre .0) in
+    (n .0, (e .0, n .1))
 
 latch-expect-requires-2 : (t : ℕ) → latch-lts.Need-expect-requires-2 (latch-calls t) (latch-at t) latch.Post
-latch-expect-requires-2 t c κs = (
-  lent-on (c .before .before .before .before .before .before .before .before .before .pre .1 .0) (c .before .sum2 .ensures .0),
-  omega
-      arith,
-)
+latch-expect-requires-2 t c κs = tt
 
 latch-put-requires : (t : ℕ) → latch-lts.Need-put-requires (latch-calls t) (latch-at t) latch.Post
-latch-put-requires t c κs =
-    let s = c .before .before .before .before .before .before .before .before .before .before .before .before in
-    let sum′ = c .before .before .before .before .before .before .before .before .before .sum in
-    let expect′ = c .before .before .before .before .before .before .before .expect in
-    let sum2′ = c .before .before .before .before .sum2 in
-    let expect2′ = c .before .before .expect2 in
-    let n = paths.latch-needs (s .args .deep) (s .pre .1 .1) (sum′ .ensures .1) (expect′ .ensures .1) (sum2′ .ensures .1)
-    (expect2′ .ensures .1) in
-    (expect2′ .ensures .0, n .0, n .1)
+latch-put-requires t c κs = tt
 
 latch-returns : (t : ℕ) → latch-lts.Need-returns (latch-calls t) (latch-at t) latch.Post
 latch-returns t c =
     let s = c .before .before .before .before .before .before .before .before .before .before .before .before .before in
     let sum′ = c .before .before .before .before .before .before .before .before .before .before .sum in
-    let expect′ = c .before .before .before .before .before .before .before .before .expect in
     let sum2′ = c .before .before .before .before .before .sum2 in
     let expect2′ = c .before .before .before .expect2 in
-    let put′ = c .put in (
-      put′ .ensures .0 .0,
-      paths.latch-path (s .args .deep) (s .pre .1 .1) (sum′ .ensures .1) (expect′ .ensures .1) (sum2′ .ensures .1)
-          (expect2′ .ensures .1) (s .args .part) (put′ .ensures .1) (put′ .ensures .0 .1),
+    let a = s .args in
+    let e = latch-comma t (c .before .before .before .before .before .before .before .before) in
+    let e2 = expect-leaves (lent (a .text .now) (a .bytes)) 41 (sum2′ .last .1 .1 .1 .0) (omega arith) (sum2′ .ensures .0)
+    (expect2′ .ensures) in
+    let p = put-leaves (expect2′ .last .1 .1 .0) (a .deep) 0 (e2 .0) (c .put .ensures .0) in (
+      p .0,
+      paths.latch-path (a .deep) (s .pre .1 .1) (sum′ .ensures .1) (e .1) (sum2′ .ensures .1) (e2 .1) (a .part) (c .put .ensures .1) (p .1),
     )
 
 product-factor-requires : (t : ℕ) → product-lts.Need-factor-requires (product-calls t) (product-at t) product.Post
@@ -335,7 +335,7 @@ product-products-requires t c κs =
     let s = c .before .before .before .before .before in
     let factor′ = c .before .before .factor in
     let n = chains.after-first times (s .pre .1 .1) (s .pre .0) (factor′ .ensures .1) in
-    (n .0, (lent-on (s .pre .1 .0) (factor′ .ensures .0), n .1))
+    (n .0, (factor′ .ensures .0, n .1))
 
 product-returns : (t : ℕ) → product-lts.Need-returns (product-calls t) (product-at t) product.Post
 product-returns t c =
@@ -345,60 +345,68 @@ product-returns t c =
     (products′ .ensures .0, chains.whole-path times (s .pre .1 .1) (factor′ .ensures .1) (products′ .ensures .1))
 
 products-pass-requires : (t : ℕ) → products-lts.Need-pass-requires (products-calls t) (products-at t) products.Post
-products-pass-requires t c κs = (c .before .pre .1 .0 .five, omega arith)
+products-pass-requires t c κs = tt
 
 -- past the byte b at the front of the rest of a chain, at x
 abbrev Products-step : (t : ℕ) → products-lts.Start (products-calls t) (products-at t) products.Post → ℕ → Mark → Type 0
 Products-step t s b x =
     paths.Step (lent (s .args .text .now) (s .args .bytes)) (s .args .code .now) (markOf (s .args .m .now)) (s .args .deep) 1 t b x
 
+times-past : (t : ℕ) (c : products-lts.Then1 (products-calls t) (products-at t) products.Post) →
+    let m = markOf (c .before .before .before .args .m .now) in Marked (c .before .pass .last .1 .1 .0) (movedMark m (m .at + 1))
+times-past t c =
+    let s = c .before .before .before in
+    let pass′ = c .before .pass .ensures in
+    pass-moves (lent (s .args .text .now) (s .args .bytes)) 46 (s .args .m .now) (pass′ .1) (pass′ .0) (s .pre .1 .0) (c .if1 .taken)
+
 times-step : (t : ℕ) (c : products-lts.Then1 (products-calls t) (products-at t) products.Post) →
     Products-step t (c .before .before .before) 46 (markOf (c .before .pass .last .1 .1 .0))
 times-step t c =
     let s = c .before .before .before in
-    let pass′ = c .before .pass in
-    let e = sym (pass′ .ensures .1) ∙ c .if1 .taken in
-    paths.step (s .pre .0, s .pre .1 .1) (eqb-true _ 46 e) (omega arith) (pass′ .ensures .0 .1 ∙ pass-moves _ 46 _ e)
+    let e = next-told (lent (s .args .text .now) (s .args .bytes)) 46 (s .args .m .now) (c .before .pass .ensures .1) (omega arith) in
+    paths.step (s .pre .0, s .pre .1 .1) (eqb-true _ 46 (e ∙ c .if1 .taken)) (omega arith) (times-past t c .1)
 
 products-factor-requires : (t : ℕ) → products-lts.Need-factor-requires (products-calls t) (products-at t) products.Post
 products-factor-requires t c κs =
-    let n = chains.operand-needs times (times-step t (c .before .before)) in
-    (n .0, (lent-on (c .before .before .before .before .before .pre .1 .0) (c .before .before .before .pass .ensures .0 .0), n .1))
+    let n = chains.operand-needs times (times-step t (c .before .before)) in (n .0, (times-past t (c .before .before) .0, n .1))
 
 products-put-requires : (t : ℕ) → products-lts.Need-put-requires (products-calls t) (products-at t) products.Post
-products-put-requires t c κs =
-    let factor′ = c .before .before .factor in
-    let n = chains.operator-needs times (times-step t (c .before .before .before .before .before)) (factor′ .ensures .1) in
-    (factor′ .ensures .0, n .0, n .1)
+products-put-requires t c κs = tt
+
+-- the operator is put out
+times-put : (t : ℕ) (c : products-lts.After-put (products-calls t) (products-at t) products.Post) →
+    let o = c .before .before .before in
+    let s = o .before .before .before .before .before .before in
+    Marked (c .put .last .1 .0) (putMark (markOf (o .factor .last .1 .1 .1 .0)) (s .args .deep) 0)
+times-put t c =
+    let o = c .before .before .before in
+    let s = o .before .before .before .before .before .before in
+    put-leaves (o .factor .last .1 .1 .1 .0) (s .args .deep) 0 (o .factor .ensures .0) (c .put .ensures .0)
 
 products-products-requires : (t : ℕ) → products-lts.Need-products-requires (products-calls t) (products-at t) products.Post
 products-products-requires t c κs =
-    let put′ = c .before .before .put in
-    let n = chains.rest-needs times (times-step t (c .before .before .before .before .before .before .before .before))
-    (c .before .before .before .before .before .factor .ensures .1) (put′ .ensures .0 .1, put′ .ensures .1) in (
-      n .0,
-      (
-        lent-on (c .before .before .before .before .before .before .before .before .before .before .before .pre .1 .0)
-            (put′ .ensures .0 .0),
-        n .1,
-      ),
-    )
+    let u = c .before .before in
+    let p = times-put t u in
+    let n = chains.rest-needs times (times-step t (u .before .before .before .before .before .before))
+    (u .before .before .before .factor .ensures .1) (p .1, u .put .ensures .1) in
+    (n .0, (p .0, n .1))
 
 products-returns : (t : ℕ) → products-lts.Need-returns (products-calls t) (products-at t) products.Post
 products-returns t c =
-    let put′ = c .before .before .before .put in (
+    let u = c .before .before .before in (
       c .products .ensures .0,
-      chains.rest-path times (times-step t (c .before .before .before .before .before .before .before .before .before))
-          (c .before .before .before .before .before .before .factor .ensures .1) (put′ .ensures .0 .1, put′ .ensures .1)
-          (c .products .ensures .1),
+      chains.rest-path times (times-step t (u .before .before .before .before .before .before))
+          (u .before .before .before .factor .ensures .1) (times-put t u .1, u .put .ensures .1) (c .products .ensures .1),
     )
 
 products-returns-2 : (t : ℕ) → products-lts.Need-returns-2 (products-calls t) (products-at t) products.Post
 products-returns-2 t c =
     let s = c .before .before .before in
-    let pass′ = c .before .pass in
-    let e = sym (pass′ .ensures .1) ∙ c .if1 .left in
-    (pass′ .ensures .0 .0, turned refl (pass′ .ensures .0 .1 ∙ pass-stays _ 46 _ e) (chains.rest-end times (s .pre .1 .1) e))
+    let pass′ = c .before .pass .ensures in
+    let text = lent (s .args .text .now) (s .args .bytes) in
+    let e = next-told text 46 (s .args .m .now) (pass′ .1) (omega arith) in
+    let q = pass-stays text 46 (s .args .m .now) (pass′ .1) (pass′ .0) (c .if1 .left) in
+    (ap length q ∙ s .pre .1 .0, turned refl (ap markOf q) (chains.rest-end times (s .pre .1 .1) (e ∙ c .if1 .left)))
 
 sum-product-requires : (t : ℕ) → sum-lts.Need-product-requires (sum-calls t) (sum-at t) sum.Post
 sum-product-requires t c κs =
@@ -410,7 +418,7 @@ sum-sums-requires t c κs =
     let s = c .before .before .before .before .before in
     let product′ = c .before .before .product in
     let n = chains.after-first plus (s .pre .1 .1) (s .pre .0) (product′ .ensures .1) in
-    (n .0, (lent-on (s .pre .1 .0) (product′ .ensures .0), n .1))
+    (n .0, (product′ .ensures .0, n .1))
 
 sum-returns : (t : ℕ) → sum-lts.Need-returns (sum-calls t) (sum-at t) sum.Post
 sum-returns t c =
@@ -420,135 +428,139 @@ sum-returns t c =
     (sums′ .ensures .0, chains.whole-path plus (s .pre .1 .1) (product′ .ensures .1) (sums′ .ensures .1))
 
 sums-pass-requires : (t : ℕ) → sums-lts.Need-pass-requires (sums-calls t) (sums-at t) sums.Post
-sums-pass-requires t c κs = (c .before .pre .1 .0 .five, omega arith)
+sums-pass-requires t c κs = tt
 
 -- past the byte b at the front of the rest of a chain, at x
 abbrev Sums-step : (t : ℕ) → sums-lts.Start (sums-calls t) (sums-at t) sums.Post → ℕ → Mark → Type 0
 Sums-step t s b x = paths.Step (lent (s .args .text .now) (s .args .bytes)) (s .args .code .now) (markOf (s .args .m .now))
     (s .args .deep) 1 t b x
 
+plus-past : (t : ℕ) (c : sums-lts.Then1 (sums-calls t) (sums-at t) sums.Post) →
+    let m = markOf (c .before .before .before .args .m .now) in Marked (c .before .pass .last .1 .1 .0) (movedMark m (m .at + 1))
+plus-past t c =
+    let s = c .before .before .before in
+    let pass′ = c .before .pass .ensures in
+    pass-moves (lent (s .args .text .now) (s .args .bytes)) 43 (s .args .m .now) (pass′ .1) (pass′ .0) (s .pre .1 .0) (c .if1 .taken)
+
 plus-step : (t : ℕ) (c : sums-lts.Then1 (sums-calls t) (sums-at t) sums.Post) →
     Sums-step t (c .before .before .before) 43 (markOf (c .before .pass .last .1 .1 .0))
 plus-step t c =
     let s = c .before .before .before in
-    let pass′ = c .before .pass in
-    let e = sym (pass′ .ensures .1) ∙ c .if1 .taken in
-    paths.step (s .pre .0, s .pre .1 .1) (eqb-true _ 43 e) (omega arith) (pass′ .ensures .0 .1 ∙ pass-moves _ 43 _ e)
+    let e = next-told (lent (s .args .text .now) (s .args .bytes)) 43 (s .args .m .now) (c .before .pass .ensures .1) (omega arith) in
+    paths.step (s .pre .0, s .pre .1 .1) (eqb-true _ 43 (e ∙ c .if1 .taken)) (omega arith) (plus-past t c .1)
 
 sums-product-requires : (t : ℕ) → sums-lts.Need-product-requires (sums-calls t) (sums-at t) sums.Post
 sums-product-requires t c κs =
-    let n = chains.operand-needs plus (plus-step t (c .before .before)) in
-    (n .0, (lent-on (c .before .before .before .before .before .pre .1 .0) (c .before .before .before .pass .ensures .0 .0), n .1))
+    let n = chains.operand-needs plus (plus-step t (c .before .before)) in (n .0, (plus-past t (c .before .before) .0, n .1))
 
 sums-put-requires : (t : ℕ) → sums-lts.Need-put-requires (sums-calls t) (sums-at t) sums.Post
-sums-put-requires t c κs =
-    let product′ = c .before .before .product in
-    let n = chains.operator-needs plus (plus-step t (c .before .before .before .before .before)) (product′ .ensures .1) in
-    (product′ .ensures .0, n .0, n .1)
+sums-put-requires t c κs = tt
+
+-- the operator is put out
+plus-put : (t : ℕ) (c : sums-lts.After-put (sums-calls t) (sums-at t) sums.Post) →
+    let o = c .before .before .before in
+    let s = o .before .before .before .before .before .before in
+    Marked (c .put .last .1 .0) (putMark (markOf (o .product .last .1 .1 .1 .0)) (s .args .deep) 0)
+plus-put t c =
+    let o = c .before .before .before in
+    let s = o .before .before .before .before .before .before in
+    put-leaves (o .product .last .1 .1 .1 .0) (s .args .deep) 0 (o .product .ensures .0) (c .put .ensures .0)
 
 sums-sums-requires : (t : ℕ) → sums-lts.Need-sums-requires (sums-calls t) (sums-at t) sums.Post
 sums-sums-requires t c κs =
-    let put′ = c .before .before .put in
-    let n = chains.rest-needs plus (plus-step t (c .before .before .before .before .before .before .before .before))
-    (c .before .before .before .before .before .product .ensures .1) (put′ .ensures .0 .1, put′ .ensures .1) in (
-      n .0,
-      (
-        lent-on (c .before .before .before .before .before .before .before .before .before .before .before .pre .1 .0)
-            (put′ .ensures .0 .0),
-        n .1,
-      ),
-    )
+    let u = c .before .before in
+    let p = plus-put t u in
+    let n = chains.rest-needs plus (plus-step t (u .before .before .before .before .before .before))
+    (u .before .before .before .product .ensures .1) (p .1, u .put .ensures .1) in
+    (n .0, (p .0, n .1))
 
 sums-returns : (t : ℕ) → sums-lts.Need-returns (sums-calls t) (sums-at t) sums.Post
 sums-returns t c =
-    let put′ = c .before .before .before .put in (
+    let u = c .before .before .before in (
       c .sums .ensures .0,
-      chains.rest-path plus (plus-step t (c .before .before .before .before .before .before .before .before .before))
-          (c .before .before .before .before .before .before .product .ensures .1) (put′ .ensures .0 .1, put′ .ensures .1)
-          (c .sums .ensures .1),
+      chains.rest-path plus (plus-step t (u .before .before .before .before .before .before))
+          (u .before .before .before .product .ensures .1) (plus-put t u .1, u .put .ensures .1) (c .sums .ensures .1),
     )
 
 sums-returns-2 : (t : ℕ) → sums-lts.Need-returns-2 (sums-calls t) (sums-at t) sums.Post
 sums-returns-2 t c =
     let s = c .before .before .before in
-    let pass′ = c .before .pass in
-    let e = sym (pass′ .ensures .1) ∙ c .if1 .left in
-    (pass′ .ensures .0 .0, turned refl (pass′ .ensures .0 .1 ∙ pass-stays _ 43 _ e) (chains.rest-end plus (s .pre .1 .1) e))
+    let pass′ = c .before .pass .ensures in
+    let text = lent (s .args .text .now) (s .args .bytes) in
+    let e = next-told text 43 (s .args .m .now) (pass′ .1) (omega arith) in
+    let q = pass-stays text 43 (s .args .m .now) (pass′ .1) (pass′ .0) (c .if1 .left) in
+    (ap length q ∙ s .pre .1 .0, turned refl (ap markOf q) (chains.rest-end plus (s .pre .1 .1) (e ∙ c .if1 .left)))
 
 timer-pass-length-requires : (t : ℕ) → timer-lts.Need-pass-length-requires (timer-calls t) (timer-at t) timer.Post
-timer-pass-length-requires t c κs = c .before .pre .1 .0 .0 .five
+timer-pass-length-requires t c κs = tt
 
 timer-expect-requires : (t : ℕ) → timer-lts.Need-expect-requires (timer-calls t) (timer-at t) timer.Post
-timer-expect-requires t c κs = (
-  lent-on (c .before .before .before .pre .1 .0 .0) (c .before .pass-length .ensures .0 .0),
-  omega arith,
-)
+timer-expect-requires t c κs = tt
 
 timer-add-sum : (t : ℕ) → timer-lts.Need-add-sum (timer-calls t) (timer-at t) timer.Post
 timer-add-sum t c =
     let g = c .before .before .before .before .before .before .pre .1 .0 .1 in omega
     (arith, g .opened, g .within, g .short)
 
+-- the length and a comma are passed
+timer-length : (t : ℕ) (c : timer-lts.After-pass-length (timer-calls t) (timer-at t) timer.Post) →
+    let a = c .before .before .args in
+    Marked (c .pass-length .last .1 .1 .0) (lengthMark (lent (a .text .now) (a .bytes)) (markOf (a .m .now)))
+timer-length t c =
+    let s = c .before .before in
+    length-leaves (lent (s .args .text .now) (s .args .bytes)) (s .args .m .now) (s .pre .1 .0 .0) (c .pass-length .ensures .0)
+
+timer-comma : (t : ℕ) (c : timer-lts.After-expect (timer-calls t) (timer-at t) timer.Post) →
+    let a = c .before .before .before .before .args in
+    Marked (c .expect .last .1 .1 .0)
+    (expectMark (lent (a .text .now) (a .bytes)) 44 (markOf (c .before .before .pass-length .last .1 .1 .0)))
+timer-comma t c =
+    let a = c .before .before .before .before .args in
+    let l = c .before .before in
+    expect-leaves (lent (a .text .now) (a .bytes)) 44 (l .pass-length .last .1 .1 .0) (omega arith) (timer-length t l .0)
+    (c .expect .ensures)
+
 timer-sum-requires : (t : ℕ) → timer-lts.Need-sum-requires (timer-calls t) (timer-at t) timer.Post
 timer-sum-requires t c κs =
     let s = c .before .before .before .before .before .before in
-    let expect′ = c .before .before .expect in
-    let g = s .pre .1 .0 .1 in
-    let n = inner-needs (s .args .deep) g
-    (paths.timer-parted (s .args .deep) g (c .before .before .before .before .pass-length .ensures .0 .1)
-    (expect′ .ensures .1)) (s .pre .0) in
-    (n .0, (lent-on (s .pre .1 .0 .0) (expect′ .ensures .0), n .1))
+    let e = timer-comma t (c .before .before) in
+    let d = paths.timer-parted (s .args .deep) (s .pre .1 .0 .1) (timer-length t (c .before .before .before .before) .1) (e .1) in
+    let n = inner-needs (s .args .deep) (s .pre .1 .0 .1) d (s .pre .0) in
+    (n .0, (e .0, n .1))
 
 timer-expect-requires-2 : (t : ℕ) → timer-lts.Need-expect-requires-2 (timer-calls t) (timer-at t) timer.Post
-timer-expect-requires-2 t c κs = (
-  lent-on (c .before .before .before .before .before .before .before .before .pre .1 .0 .0)
-      (c .before .sum .ensures .0),
-  omega arith,
-)
+timer-expect-requires-2 t c κs = tt
 
 timer-mul-put : (t : ℕ) → timer-lts.Need-mul-put (timer-calls t) (timer-at t) timer.Post
 timer-mul-put t c =
     let length′ = c .before .before .before .before .before .before .before .before .before .pass-length in omega
-    (arith, capped-most _ _ (length′ .ensures .1))
+    (arith, capped-most _ _ (length′ .ensures .1 ∙ ticks-are _ _))
 
 timer-add-put : (t : ℕ) → timer-lts.Need-add-put (timer-calls t) (timer-at t) timer.Post
 timer-add-put t c =
     let length′ = c .before .before .before .before .before .before .before .before .before .pass-length in omega (
       arith,
-      capped-most _ _ (length′ .ensures .1),
+      capped-most _ _ (length′ .ensures .1 ∙ ticks-are _ _),
       c .before .before .before .before .before .before .before .before .before .before .before .pre .1 .1,
     )
 
 timer-put-requires : (t : ℕ) → timer-lts.Need-put-requires (timer-calls t) (timer-at t) timer.Post
-timer-put-requires t c κs =
-    let s = c .before .before .before .before .before .before .before .before .before .before .before in
-    let pass-length′ = c .before .before .before .before .before .before .before .before .before .pass-length in
-    let expect′ = c .before .before .before .before .before .before .before .expect in
-    let sum′ = c .before .before .before .before .sum in
-    let expect2′ = c .before .before .expect2 in
-    let n = paths.timer-needs (s .args .deep) (s .pre .1 .0 .1) (pass-length′ .ensures .0 .1) (expect′ .ensures .1) (sum′ .ensures .1)
-    (expect2′ .ensures .1) in
-    (expect2′ .ensures .0, n .0, n .1)
+timer-put-requires t c κs = tt
 
 timer-returns : (t : ℕ) → timer-lts.Need-returns (timer-calls t) (timer-at t) timer.Post
-unfolding markOf
 timer-returns t c =
     let s = c .before .before .before .before .before .before .before .before .before .before .before .before in
-    let pass-length′ = c .before .before .before .before .before .before .before .before .before .before .pass-length in
-    let expect′ = c .before .before .before .before .before .before .before .before .expect in
+    let l = c .before .before .before .before .before .before .before .before .before .before in
     let sum′ = c .before .before .before .before .before .sum in
     let expect2′ = c .before .before .before .expect2 in
-    let put′ = c .put in
     let a = s .args in
-    let g = s .pre .1 .0 .1 in
-    let p = passed (lent (a .text .now) (a .bytes)) (markOf (a .m .now)) (g .within) in
-    let q = ap (λ (j : Mark). j .at) (pass-length′ .ensures .0 .1) in
-    let v = number-lent (s .pre .1 .0 .0) (markOf (a .m .now) .at) (markOf (pass-length′ .last .1 .1 .0) .at) (omega (arith, p .on, q))
-    (omega (arith, p .within, q, text-long (s .pre .1 .0 .0))) in (
-      put′ .ensures .0 .0,
-      paths.timer-path (a .deep) g (pass-length′ .ensures .0 .1) (expect′ .ensures .1) (sum′ .ensures .1) (expect2′ .ensures .1)
-          (a .part) _
-          (pass-length′ .ensures .1 ∙ ap capped v) (put′ .ensures .1) (put′ .ensures .0 .1),
+    let e = timer-comma t (c .before .before .before .before .before .before .before .before) in
+    let e2 = expect-leaves (lent (a .text .now) (a .bytes)) 41 (sum′ .last .1 .1 .1 .0) (omega arith) (sum′ .ensures .0)
+    (expect2′ .ensures) in
+    let p = put-leaves (expect2′ .last .1 .1 .0) (a .deep) (l .pass-length .result) (e2 .0) (c .put .ensures .0) in (
+      p .0,
+      paths.timer-path (a .deep) (s .pre .1 .0 .1) (timer-length t l .1) (e .1) (sum′ .ensures .1) (e2 .1) (a .part)
+          (l .pass-length .result) (l .pass-length .ensures .1) (c .put .ensures .1) (p .1),
     )
 
 pub +factor+latch+product+products+sum+sums+timer-spec : {M : Type 1} → statement M

@@ -1,0 +1,2 @@
+-- Lemmas on the reader's steps.
+pub mod Stepping

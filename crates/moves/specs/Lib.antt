@@ -1,0 +1,2 @@
+-- What the reader's steps leave: definitions that mirror the code.
+pub mod Moves

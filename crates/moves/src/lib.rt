@@ -1,0 +1,128 @@
+// The steps of the formula reader that read no sum: each changes the words of a mark, and none makes a bad mark good.
+ghost use mathlib.Core.Path.{_≡_};
+ghost use Prim.Native.Nat.{max};
+ghost use Rattle.marks.specs.Marks.{markOf, lent};
+ghost use Rattle.openings.specs.Opening.{openKind};
+ghost use Rattle.moves.specs.Moves.{failed, movedTo, begun, isNext, passed, expected, lengthPassed, lengthTicks};
+ghost use Rattle.moves.specs.Moves.{putWords, putCode, leafWords, leafCode};
+use marks::AT;
+use marks::DEEPEST;
+use marks::LONGEST;
+use marks::OK;
+use marks::PARTS;
+use marks::next;
+use openings::opening;
+use openings::opening_bytes;
+use tokens::leaf_end;
+use tokens::leaf_word;
+use tokens::length_end;
+use tokens::ticks;
+
+// Makes a mark bad.
+fn fail(m: &mut [usize; 5])
+    ensures { λ _. ⌜ now (m .exit) ≡ failed (now (m .entry)) ⌝ }
+{
+    m[OK] = 0;
+}
+
+fn move_to(m: &mut [usize; 5], to: usize)
+    ensures { λ _. ⌜ now (m .exit) ≡ movedTo (now (m .entry)) to ⌝ }
+{
+    m[AT] = to;
+}
+
+// Passes what is next and begins a factor, and gives its kind; 0 where none is, the mark then staying.
+pub fn begin(text: &[u8; 1024], bytes: usize, m: &mut [usize; 5]) -> u64
+    ensures { λ r. ⌜ (now (m .exit) ≡ begun (lent (now (text .entry)) bytes) (now (m .entry)))
+        × (r ≡ openKind (lent (now (text .entry)) bytes) (markOf (now (m .entry)))) ⌝ }
+{
+    let first = opening(text, bytes, m);
+    if 0 < first {
+        let at = m[AT];
+        move_to(m, at + opening_bytes(first));
+    }
+    first
+}
+
+// Passes the byte `b` if it is next; 0, which stands for none, never is.
+pub fn pass(text: &[u8; 1024], bytes: usize, m: &mut [usize; 5], b: u8) -> bool
+    ensures { λ r. ⌜ (now (m .exit) ≡ passed (lent (now (text .entry)) bytes) b (now (m .entry)))
+        × (r ≡ isNext (lent (now (text .entry)) bytes) b (markOf (now (m .entry)))) ⌝ }
+{
+    if next(text, bytes, m) == b {
+        if 0 < b {
+            let at = m[AT];
+            move_to(m, at + 1);
+            return true;
+        }
+    }
+    false
+}
+
+// Passes the byte `b`; where it is not next, the mark is made bad.
+pub fn expect(text: &[u8; 1024], bytes: usize, m: &mut [usize; 5], b: u8)
+    ensures { λ _. ⌜ now (m .exit) ≡ expected (lent (now (text .entry)) bytes) b (now (m .entry)) ⌝ }
+{
+    if pass(text, bytes, m, b) {
+        return;
+    }
+    fail(m);
+}
+
+// Passes a length, and gives its ticks; 0 where none is next, the mark then made bad.
+pub fn pass_length(text: &[u8; 1024], bytes: usize, m: &mut [usize; 5]) -> usize
+    ensures { λ r. ⌜ (now (m .exit) ≡ lengthPassed (lent (now (text .entry)) bytes) (now (m .entry)))
+        × (r ≡ lengthTicks (lent (now (text .entry)) bytes) (markOf (now (m .entry)))) ⌝ }
+{
+    let end = length_end(text, bytes, m);
+    if 0 < end {
+        let n = ticks(text, m[AT], end);
+        move_to(m, end);
+        return n;
+    }
+    fail(m);
+    0
+}
+
+fn larger(a: usize, b: usize) -> usize
+    ensures { λ r. ⌜ r ≡ max a b ⌝ }
+{
+    if a < b { b } else { a }
+}
+
+// Puts a part's code word out, where the mark is good and the code has room.
+pub fn put(code: &mut [u64; 1024], m: &mut [usize; 5], word: u64, deep: usize, ticks: usize)
+    ensures { λ _. ⌜ (now (m .exit) ≡ putWords (now (m .entry)) deep ticks)
+        × (now (code .exit) ≡ putCode (markOf (now (m .entry))) word (now (code .entry))) ⌝ }
+{
+    if m[OK] == 1 {
+        let parts = m[PARTS];
+        if parts < 1024 {
+            code[parts] = word;
+            m[PARTS] = parts + 1;
+            m[DEEPEST] = larger(m[DEEPEST], deep);
+            m[LONGEST] = larger(m[LONGEST], ticks);
+        }
+    }
+}
+
+// Passes 0, 1 or a name and puts its part out; where none is next, the mark is made bad.
+pub fn leaf(
+    text: &[u8; 1024],
+    bytes: usize,
+    code: &mut [u64; 1024],
+    m: &mut [usize; 5],
+    deep: usize,
+)
+    ensures { λ _. ⌜ (now (m .exit) ≡ leafWords (lent (now (text .entry)) bytes) (now (m .entry)) deep)
+        × (now (code .exit) ≡ leafCode (lent (now (text .entry)) bytes) (now (m .entry)) (now (code .entry))) ⌝ }
+{
+    let end = leaf_end(text, bytes, m);
+    if 0 < end {
+        let word = leaf_word(text, bytes, m, end);
+        move_to(m, end);
+        put(code, m, word, deep, 0);
+        return;
+    }
+    fail(m);
+}
