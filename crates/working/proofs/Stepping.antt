@@ -28,7 +28,7 @@ use Rattle.applying.specs.PartCalls.{judgedFor, exactFor, partAnswer, PartInSlo
 use Rattle.machine.specs.Stack.{firstTaken, onTop, leafList, operationFault, stepFault, madeOn, stepped}
 use Rattle.machine.proofs.Leaves.{part-small, words-length}
 use Rattle.working.specs.declared.Next.{Next}
-use Rattle.working.specs.Slots.{Stands, Stacked, Room, Loaded, nextOf, placedIn, Fits, Stepped}
+use Rattle.working.specs.Slots.{listOn, Stands, Stacked, Room, Loaded, nextOf, placedIn, Fits, Stepped}
 use Rattle.working.proofs.SlotFacts.{below, push-slot, slot-of, stack-below}
 
 -- what an operation gave in a slot of 256 words or more: the fault that it has in one of 256, or its whole list, which is short
@@ -73,14 +73,6 @@ gave w a b slot answer after room h =
               let whole = take-at exact (drop (length exact) slot) (length exact) refl in
               (t, omega arith, rw (t, f, slot-short exact slot ec (omega arith)) whole);
         }
-
--- an operand's words, where the code takes them
-words-there : (work l : List ℕ) (slot count at : ℕ) → Stands work slot count l → at ≡ slot * mostWords → take (at + count - at)
-    (drop at work) ≡ l
-words-there work l slot count at s e =
-    let a : at + count - at ≡ count = omega arith in
-    let b : slot * mostWords ≡ mostWords * slot = omega arith in
-    rw (a, e, b) (s .there)
 
 -- a part that the stack does not fit
 stopped : (sheet text : List ℕ) (w : ℕ) (work counts : List ℕ) (base height : ℕ) (st : List (List ℕ)) → stepFault w st ≡ 12
@@ -160,15 +152,13 @@ module _ (w : ℕ) (work buffer counts : List ℕ) (base height taken : ℕ) (r 
         let d = second-slot in
         (omega (arith, r .low, r .few, p, c .long, c .short), omega (arith, r .low, r .few, p, d .long, d .short))
 
-    module _ (at above : ℕ) (at-is : at ≡ (base + (height - taken)) * mostWords) (above-is : above ≡ (base + (height - 1)) * mostWords)
-        (answer : Written) (buffer′ : List ℕ) (same : length buffer′ ≡ length buffer)
-        (h : PartInSlot w (take (at + getD counts (height - taken) 0 - at) (drop at work))
-        (take (above + getD counts (height - 1) 0 - above) (drop above work)) buffer answer buffer′) where
+    module _ (at : ℕ) (at-is : at ≡ (base + (height - taken)) * mostWords) (answer : Written) (buffer′ : List ℕ)
+        (same : length buffer′ ≡ length buffer)
+        (h : PartInSlot w (listOn work counts base (height - taken)) (listOn work counts base (height - 1)) buffer answer buffer′) where
       did : Gave (exactFor w (firstTaken taken st) (onTop st)) buffer′ (operationFault w (firstTaken taken st) (onTop st)) answer
       did =
-          let v = words-there work (firstTaken taken st) (base + (height - taken)) (getD counts (height - taken) 0) at first-slot at-is in
-          let u = words-there work (onTop st) (base + (height - 1)) (getD counts (height - 1) 0) above second-slot above-is in
-          gave w (firstTaken taken st) (onTop st) buffer answer buffer′ (r .wide) (rw (v, u) at h)
+          gave w (firstTaken taken st) (onTop st) buffer answer buffer′ (r .wide)
+          (rw (first-slot .there, second-slot .there) at h)
 
       some : operandsOf w ≡ 0 → ⊥
       some z = omega (arith, p)

@@ -11,6 +11,10 @@ use Rattle.calls.specs.Calls.{workWords}
 use Rattle.machine.specs.Stack.{leafList, stepFault, stepped}
 use Rattle.working.specs.declared.Next.{Next}
 
+-- the words that stand in the place-th slot from base on, as many as are counted there
+abbrev pub listOn : List ℕ → List ℕ → ℕ → ℕ → List ℕ
+listOn work counts base place = take (getD counts place 0) (drop (mostWords * (base + place)) work)
+
 -- the list stands at the front of a slot
 pub record Stands (work : List ℕ) (slot count : ℕ) (l : List ℕ) : Type 0 where
   pub long : count ≡ length l

@@ -2,15 +2,15 @@
 // code words are worked out as they are, so that every call has an answer.
 ghost use mathlib.Core.Path.{_≡_};
 ghost use mathlib.Core.List.{List, [], _∷_};
-ghost use Prim.Native.Nat.{ℕ, _+_, _/_, _≤_, _<_};
-ghost use lib.ListN.{length};
+ghost use Prim.Native.Nat.{ℕ, _+_, _*_, _/_, _≤_, _<_};
+ghost use lib.ListN.{length, getD};
 ghost use lib.Seq.{paste};
 ghost use Rattle.slices.specs.Bytes.{wordsIn};
 ghost use Rattle.signals.specs.Words.{mostWords};
 ghost use Rattle.calls.specs.Calls.{workWords};
 ghost use Rattle.code_words.specs.CodeWords.{operandsOf};
 ghost use Rattle.machine.specs.Stack.{RanOut};
-ghost use Rattle.working.specs.Slots.{Room, Ready, Loaded, nextOf, placedIn, Fits, Steps};
+ghost use Rattle.working.specs.Slots.{listOn, Room, Ready, Loaded, nextOf, placedIn, Fits, Steps};
 use signals::Written;
 
 // The work words that a stack needs.
@@ -130,6 +130,16 @@ fn place(work: &mut [u32], at: usize, words: &[u32], answer: Written, height: us
     }
 }
 
+// The list that stands in a slot, the place-th from base on.
+fn list_on<'a>(work: &'a [u32], counts: &[usize; 32], base: usize, place: usize) -> &'a [u32]
+    requires { ⌜ (place < 32) × ((base + place) * mostWords + getD (now counts) place 0 ≤ workWords) × (workWords ≤ length (now work)) ⌝ }
+    ensures { λ r. ⌜ now r ≡ listOn (now (work .entry)) (now (counts .entry)) base place ⌝ }
+{
+    let at = (base + place) * LIST_WORDS;
+    let end = at + counts[place];
+    &work[at..end]
+}
+
 // A part with operands, so many: its list in the place of its first operand's; 12 where there are fewer.
 fn operate(
     code: u64,
@@ -154,14 +164,11 @@ fn operate(
         };
     }
     let first = height - taken;
-    let second = height - 1;
-    let at = (base + first) * LIST_WORDS;
-    let end = at + counts[first];
-    let above = (base + second) * LIST_WORDS;
-    let last = above + counts[second];
     let w = &work[..];
-    let answer = applying::apply(code, &w[at..end], &w[above..last], buffer);
-    place(work, at, buffer, answer, first + 1)
+    let a = list_on(w, counts, base, first);
+    let b = list_on(w, counts, base, height - 1);
+    let answer = applying::apply(code, a, b, buffer);
+    place(work, (base + first) * LIST_WORDS, buffer, answer, first + 1)
 }
 
 // One part worked out, by the number of its operands.

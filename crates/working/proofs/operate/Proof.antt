@@ -5,10 +5,17 @@ use mathlib.Core.Path.{refl}
 use lib.ListN.{getD}
 use Rattle.signals.specs.Words.{mostWords}
 use Rattle.calls.specs.Calls.{workWords}
+use Rattle.applying.specs.PartCalls.{PartInSlot}
+use Rattle.working.specs.Slots.{listOn}
 use Rattle.working.proofs.Stepping.{too-low, operands-fit, operated-fits, operated-next}
 use borrow.Author.Needs.{needs}
 use Rattle.working.proofs.operate.Statement.{statement}
 use Rattle.working.proofs.operate.Tie as tie
+
+returns : tie.Need-returns
+returns c =
+    let start = c .before .before .before in
+    λ sheet text stack tall stacked. too-low sheet text _ _ _ _ _ _ stack (start .pre .1 .0) tall (c .if1 .taken)
 
 fits : (c : tie.Start) → c .args .taken ≤ c .args .height →
     ((c .args .base + (c .args .height - c .args .taken)) * mostWords + getD (c .args .counts .now) (c .args .height - c .args .taken) 0
@@ -18,88 +25,46 @@ fits c enough =
     let ready = c .pre .1 .1 in
     operands-fit _ _ _ _ _ _ _ (c .pre .0) (c .pre .1 .0) enough (ready .stack) (ready .tall) (ready .stacked)
 
-returns : tie.Need-returns
-returns c =
-    let start = c .before .before .before in
-    λ sheet text stack tall stacked. too-low sheet text _ _ _ _ _ _ stack (start .pre .1 .0) tall (c .if1 .taken)
+list-on-requires : tie.Need-list-on-requires
+list-on-requires c κs =
+    let start = c .before .before .before .before in
+    (omega (arith, start .pre .0 .few), fits start (c .before .if1 .left) .0, start .pre .0 .slots)
 
-sub-second : tie.Need-sub-second
-sub-second c = omega (arith, c .if1 .left, c .before .before .before .pre .1 .0)
+sub-list-on : tie.Need-sub-list-on
+sub-list-on c = search needs
 
-add-at : tie.Need-add-at
-add-at c = search needs
-
-mul-at : tie.Need-mul-at
-mul-at c = search needs
-
-mul-end : tie.Need-mul-end
-mul-end c = search needs
-
-element-copy-out-end : tie.Need-element-copy-out-end
-element-copy-out-end c = search needs
-
-add-end : tie.Need-add-end
-add-end c = let e = c .before in omega (arith, fits (e .before .before .before) (e .if1 .left) .0)
-
-add-above : tie.Need-add-above
-add-above c = search needs
-
-mul-above : tie.Need-mul-above
-mul-above c = search needs
-
-mul-last : tie.Need-mul-last
-mul-last c = search needs
-
-element-copy-out-last : tie.Need-element-copy-out-last
-element-copy-out-last c = search needs
-
-add-last : tie.Need-add-last
-add-last c = let e = c .before .before in omega (arith, fits (e .before .before .before) (e .if1 .left) .1)
-
-mul-apply : tie.Need-mul-apply
-mul-apply c = search needs
-
-sub-apply : tie.Need-sub-apply
-sub-apply c = search needs
-
-part-apply-start : tie.Need-part-apply-start
-part-apply-start c = search needs
-
-part-apply-end : tie.Need-part-apply-end
-part-apply-end c =
-    let e = c .before .before .before in
-    let start = e .before .before .before in
-    omega (arith, fits start (e .if1 .left) .0, start .pre .0 .slots)
-
-mul-apply-2 : tie.Need-mul-apply-2
-mul-apply-2 c = search needs
-
-sub-apply-2 : tie.Need-sub-apply-2
-sub-apply-2 c = search needs
-
-part-apply-start-2 : tie.Need-part-apply-start-2
-part-apply-start-2 c = search needs
-
-part-apply-end-2 : tie.Need-part-apply-end-2
-part-apply-end-2 c =
-    let e = c .before .before .before .before in
-    let start = e .before .before .before in
-    omega (arith, fits start (e .if1 .left) .1, start .pre .0 .slots)
+list-on-requires-2 : tie.Need-list-on-requires-2
+list-on-requires-2 c κs =
+    let start = c .before .before .before .before .before in
+    (omega (arith, start .pre .0 .few), fits start (c .before .before .if1 .left) .1, start .pre .0 .slots)
 
 apply-requires : tie.Need-apply-requires
 apply-requires c κs = search needs
 
+-- what the operation gave of the lists in the two slots
+given : (c : tie.After-apply) →
+    let a = c .before .before .before .before .before .before .before .before .args in
+    PartInSlot (a .code) (listOn (a .work .now) (a .counts .now) (a .base) (a .height - a .taken))
+    (listOn (a .work .now) (a .counts .now) (a .base) (a .height - 1)) (a .buffer .now) (c .apply .result) (c .apply .last .1 .1 .1 .0)
+given c = rw (c .before .before .before .list-on .ensures, c .before .before .list-on2 .ensures) at (c .apply .ensures)
+
 add-place : tie.Need-add-place
 add-place c = search needs
+
+mul-place : tie.Need-mul-place
+mul-place c = search needs
+
+add-place-2 : tie.Need-add-place-2
+add-place-2 c = search needs
 
 place-requires : tie.Need-place-requires
 place-requires c κs =
     let call = c .before .before .before .before in
-    let e = call .before .before .before .before .before .before .before in
+    let e = call .before .before .before .before .before in
     let start = e .before .before .before in
     let ready = start .pre .1 .1 in
-    operated-fits _ _ _ _ _ _ _ (start .pre .0) (start .pre .1 .0) (e .if1 .left) (ready .stack) (ready .tall) (ready .stacked) _ _
-    refl refl _ _ (call .apply .kept .1 .1 .1 .0) (call .apply .ensures)
+    operated-fits _ _ _ _ _ _ _ (start .pre .0) (start .pre .1 .0) (e .if1 .left) (ready .stack) (ready .tall) (ready .stacked) _
+    refl _ _ (call .apply .kept .1 .1 .1 .0) (given call)
 
 same-length : tie.Need-same-length
 same-length c = search needs
@@ -110,40 +75,25 @@ same-length-2 c = search needs
 returns-2 : tie.Need-returns-2
 returns-2 c =
     let call = c .before .before .before .before .before .before .before in
-    let e = call .before .before .before .before .before .before .before in
+    let e = call .before .before .before .before .before in
     let start = e .before .before .before in
     λ sheet text stack tall stacked.
     rw (c .before .before .place .ensures .0)
     (operated-next _ (start .args .work .now) _ (start .args .counts .now) _ _ _ (start .pre .0) (start .pre .1 .0) (e .if1 .left) stack
-    tall stacked _ _ refl refl _ _ (call .apply .kept .1 .1 .1 .0) (call .apply .ensures) sheet text _
-    (c .before .before .place .ensures .1))
+    tall stacked _ refl _ _ (call .apply .kept .1 .1 .1 .0) (given call) sheet text _ (c .before .before .place .ensures .1))
 
 pub operate-spec : {M : Type 1} → statement M
 operate-spec =
     tie.close
     (tie.spec
     returns
-    sub-second
-    add-at
-    mul-at
-    mul-end
-    element-copy-out-end
-    add-end
-    add-above
-    mul-above
-    mul-last
-    element-copy-out-last
-    add-last
-    mul-apply
-    sub-apply
-    part-apply-start
-    part-apply-end
-    mul-apply-2
-    sub-apply-2
-    part-apply-start-2
-    part-apply-end-2
+    list-on-requires
+    sub-list-on
+    list-on-requires-2
     apply-requires
     add-place
+    mul-place
+    add-place-2
     place-requires
     same-length
     same-length-2
