@@ -81,7 +81,8 @@ fn judge(
     g_codes: &[u64],
     work: &mut [u32],
 ) -> Verdict
-    requires { ⌜ (sheetFault (now sheet) ≡ 0) × Coded (now sheet) (now f) (now «f_codes») × Coded (now sheet) (now g) (now «g_codes») ⌝ }
+    requires { ⌜ (sheetFault (now sheet) ≡ 0) × Coded (now sheet) (now f) (now «f_codes») × Coded (now sheet) (now g)
+        (now «g_codes») ⌝ }
     ensures { λ r. ⌜ Judged (now (sheet .entry)) (now (f .entry)) (now (g .entry)) (now (work .entry)) r (now (work .exit)) ⌝ }
 {
     let answer = working::work_out(sheet, f, f_codes, work, 0);

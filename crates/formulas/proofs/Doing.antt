@@ -1,12 +1,12 @@
 -- What a path through a reader leaves, put together from what each of its steps leaves.
-use Prim.Native.Nat.{ℕ, zero, suc, _+_, _*_, _-_, _≤_, _<_, max}
+use Prim.Native.Nat.{ℕ, zero, suc, _+_, _*_, _-_, _≤_, _<_}
 use native.Mathlib.Omega.{arith}
 use native.Mathlib.Numerals.{add-one}
 use mathlib.Core.Path.{_≡_, refl, sym, ap, _∙_, subst}
 use mathlib.Core.Bool.{Bool, true, false, cond}
-use mathlib.Core.List.{List, [], _∷_, _++_}
+use mathlib.Core.List.{List}
 use lib.Dec.{ltb, eqb}
-use lib.ListN.{length, take, drop, set, length-set, length-drop}
+use lib.ListN.{length, drop, length-set}
 use lib.Seq.{take-suc-set}
 use borrow.Author.Tests.{eqb-true, ltb-true, lt-ltb}
 use Rattle.names.specs.Names.{digit}

@@ -2,14 +2,14 @@
 use Prim.Native.Nat.{ℕ, _+_, _-_, _≤_, _<_, min}
 use native.Mathlib.Omega.{arith}
 use native.Mathlib.Decide.{decLt}
-use mathlib.Core.Path.{_≡_, refl, sym, ap, _∙_, subst}
-use mathlib.Core.Bool.{Bool, true, false, cond}
+use mathlib.Core.Path.{_≡_, refl, sym, ap, _∙_}
+use mathlib.Core.Bool.{Bool, true, false}
 use mathlib.Core.List.{List}
 use lib.Dec.{leb, eqb}
 use lib.ListN.{length, drop, length-drop}
 use borrow.Author.Tests.{eqb-true, lt-ltb, le-ltb}
 use Rattle.names.specs.Names.{letter, nameByte}
-use Rattle.grammar.specs.Reader.{State, run, bad, stepped, put, leafAt}
+use Rattle.grammar.specs.Reader.{run, bad, stepped, put, leafAt}
 use Rattle.grammar.specs.Formula.{coded, nameWord}
 use Rattle.marks.specs.Marks.{Mark, markOf, nextMark}
 use Rattle.tokens.specs.Tokens.{leafEnd, leafWord}

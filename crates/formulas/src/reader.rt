@@ -1,6 +1,5 @@
 // Sum, product and factor readers that call each other: the rest of a chain, a latch and a timer are readers of their own.
-ghost use mathlib.Core.Path.{_≡_};
-ghost use Prim.Native.Nat.{_+_, _≤_, _<_};
+ghost use Prim.Native.Nat.{_+_, _<_};
 ghost use Rattle.marks.specs.Marks.{lent};
 ghost use Rattle.formulas.specs.Readers.{Begun, Left, SumRead, SumsRead, ProductRead, ProductsRead};
 ghost use Rattle.formulas.specs.Readers.{FactorRead, LatchRead, TimerRead};

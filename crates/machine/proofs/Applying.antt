@@ -8,7 +8,7 @@ use lib.Dec.{eqb}
 use lib.ListN.{length}
 use borrow.Author.Tests.{le-ltb, eqb-true}
 use Rattle.signals.specs.Moment.{M}
-use Rattle.signals.specs.Words.{mostWords, listFault, pairFault}
+use Rattle.signals.specs.Words.{listFault, pairFault}
 use Rattle.signals.specs.Answers.{firstOf, faultIn, writtenOf}
 use Rattle.signals.specs.declared.Written.the-variants.{Count, Refused}
 use Rattle.signals.proofs.FirstFault.{next-is}

@@ -13,7 +13,7 @@ use Rattle.signals.specs.Settled.{SettledFrom}
 use Rattle.signals.proofs.Settling.{settling}
 use Rattle.signals.proofs.Normal.{accepted-settled, accepted-normal}
 use Rattle.operations.specs.Calls.{exactOfOne, exactOfTwo, exactOfDelay, changesAfterM}
-use Rattle.grammar.specs.Tree.{Tree, Unary, Binary, unary, binary, invert, rise, fall, ton, tof, and, or, sr, rs, applyUnary, applyBinary}
+use Rattle.grammar.specs.Tree.{Tree, Unary, Binary, unary, binary, invert, rise, fall, ton, tof, and, or, sr, rs}
 use Rattle.signals.proofs.AnyDate.{one-list}
 use Rattle.format.specs.Reading.{sheetFault}
 use Rattle.calls.specs.OnSheet.{signalOn, settlingDate, exactOn}

@@ -1,10 +1,10 @@
 -- The lists of leaves: a constant's has one word, a name's is the one that the sheet gives it.
-use Prim.Native.Nat.{ℕ, _+_, suc, _/_, _%_, zero, _≤_, _<_, _^_}
+use Prim.Native.Nat.{ℕ, suc, _/_, _%_, zero, _≤_, _<_, _^_}
 use native.Mathlib.Omega.{arith}
 use mathlib.Core.Path.{_≡_, refl, sym, _∙_, ap}
 use mathlib.Core.Bool.{Bool, true, false, cond}
 use lib.Dec.{eqb}
-use mathlib.Core.List.{List, [], _∷_, _++_}
+use mathlib.Core.List.{List, [], _∷_}
 use lib.ListN.{length, take, drop, getD}
 use native.Mathlib.Decide.{ℕ-discrete}
 use borrow.Author.Tests.{eq-eqb, ne-eqb, le-ltb}

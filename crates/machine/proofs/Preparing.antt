@@ -13,8 +13,8 @@ use borrow.Author.Tests.{ltb-false}
 use Rattle.signals.specs.Moment.{M}
 use Rattle.signals.proofs.Truth.{and-left, and-right}
 use Rattle.grammar.specs.Kinds as kinds
-use Rattle.grammar.specs.Tree.{Tree, Leaf, Unary, Binary, leaf, unary, binary, down, up, name}
-use Rattle.grammar.specs.Code.{Part, operand, one, two, code, longest, ticksOf}
+use Rattle.grammar.specs.Tree.{Tree, Leaf, leaf, unary, binary, down, up, name}
+use Rattle.grammar.specs.Code.{Part, one, two, code, longest}
 use Rattle.grammar.specs.Formula.{partOf, codeOf, codeAfter, formulaFault, formulaTree, longestOf, partsOf, depthOf, accepted, nameAt}
 use Rattle.grammar.proofs.Coding.{code-exact}
 use Rattle.grammar.proofs.Reading.{reader-exact, parts-exact, longest-of}
@@ -28,7 +28,7 @@ use Rattle.format.proofs.Steps.{same-equal}
 use Rattle.calls.specs.OnSheet.{namesFound, leafFound}
 use Rattle.calls.proofs.FirstFault.{passed}
 use Rattle.calls.proofs.ReadingFaults.{derived}
-use Rattle.format.proofs.SheetLists.{Sound, AllSound, sheet-sound}
+use Rattle.format.proofs.SheetLists.{AllSound, sheet-sound}
 use Rattle.code_words.specs.CodeWords.{operandsOf}
 use Rattle.machine.specs.Machine.{leafOf, leafLooked, partLooked, allLooked, AllKnown, partsIn}
 use Rattle.machine.proofs.Leaves.{leaf-name, leaf-up, leaf-down}

@@ -12,8 +12,8 @@ use Rattle.signals.specs.Words.{mostWords, listFault}
 use Rattle.signals.specs.Answers.{firstOf, writtenOf}
 use Rattle.signals.specs.declared.Written.{Written}
 use Rattle.signals.proofs.FirstFault.{first-is, both-none}
-use Rattle.grammar.specs.Tree.{Tree, leaf, unary, binary}
-use Rattle.grammar.specs.Code.{Part, operand, one, two, code, work, top}
+use Rattle.grammar.specs.Tree.{Tree, unary, binary}
+use Rattle.grammar.specs.Code.{one, two, code, work, top}
 use Rattle.grammar.specs.Formula.{partOf, formulaTree}
 use Rattle.format.specs.Reading.{sheetFault}
 use Rattle.operations.specs.Calls.{partFault}
@@ -21,9 +21,9 @@ use Rattle.calls.specs.OnSheet.{exactOn}
 use Rattle.calls.specs.Calls.{neededWork, workFault, partsFault, workingFault, wordsOn}
 use Rattle.calls.specs.Work.{KeptWhen}
 use Rattle.code_words.specs.CodeWords.{operandsOf}
-use Rattle.applying.specs.PartCalls.{unaryOf, binaryOf, exactFor}
+use Rattle.applying.specs.PartCalls.{unaryOf, binaryOf}
 use Rattle.machine.specs.Machine.{leafOf, Known, AllKnown, InSlot, Coded}
-use Rattle.machine.specs.Stack.{operationFault, stepFault, madeOn, stepped, ranFault, ranStack, lowest, ranList, areaFault, RanOut}
+use Rattle.machine.specs.Stack.{stepFault, madeOn, stepped, ranFault, ranStack, lowest, ranList, areaFault, RanOut}
 use Rattle.machine.proofs.Answers.{refused-is}
 use Rattle.machine.proofs.Exact.{unary-exact, binary-exact, accepted-part}
 use Rattle.machine.proofs.Leaves.{leaf-words, leaf-fault}

@@ -4,7 +4,7 @@ use native.Mathlib.Omega.{arith}
 use mathlib.Core.Path.{_≡_, refl, sym, _∙_, ap}
 use mathlib.Core.List.{List, [], _∷_, _++_, append-assoc, append-nil}
 use lib.ListN.{length}
-use Rattle.grammar.specs.Tree.{Tree, Leaf, Unary, Binary, leaf, unary, binary}
+use Rattle.grammar.specs.Tree.{Tree, leaf, unary, binary}
 use Rattle.grammar.specs.Code.{Part, operand, one, two, code, work, top}
 use Rattle.grammar.proofs.Working.{worked as work-code}
 use Rattle.grammar.specs.Parts.{parts}

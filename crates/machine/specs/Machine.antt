@@ -18,8 +18,7 @@ use Rattle.names.specs.Names.{wellNamed}
 use Rattle.format.specs.Names.{among}
 use Rattle.format.specs.Reading.{signalsOn, names}
 use Rattle.format.specs.Calls.{lookupFault}
-use Rattle.calls.specs.OnSheet.{exactOn}
-use Rattle.calls.specs.Calls.{partsFault, readingFault, workFault, workingFault, wordsOn, claimFails}
+use Rattle.calls.specs.Calls.{readingFault, workFault, workingFault, wordsOn, claimFails}
 use Rattle.calls.specs.Work.{KeptWhen}
 use Rattle.operations.specs.Calls.{roomFault}
 

@@ -3,7 +3,7 @@ use Prim.Native.Nat.{ℕ, suc, _+_, _*_, _-_, _≤_, _<_}
 use native.Mathlib.Omega.{arith}
 use native.Mathlib.Decide.{ℕ-discrete}
 use native.Mathlib.Numerals.{add-one}
-use mathlib.Core.Path.{_≡_, refl, sym, _∙_, ap}
+use mathlib.Core.Path.{_≡_, refl, sym, _∙_}
 use mathlib.Core.Bool.{Bool, true, false}
 use mathlib.Core.List.{List, [], _∷_}
 use lib.Dec.{ltb}
@@ -11,7 +11,7 @@ use lib.ListN.{length, take, drop, getD, set, length-drop, drop-of-length-le}
 use lib.Seq.{drop-cons}
 use borrow.Author.Tests.{le-ltb, lt-ltb, ltb-false}
 use Rattle.signals.specs.Words.{mostWords}
-use Rattle.signals.specs.Answers.{firstOf, writtenOf}
+use Rattle.signals.specs.Answers.{firstOf}
 use Rattle.signals.specs.declared.Written.the-variants.{Count, Refused}
 use Rattle.signals.proofs.FirstFault.{first-is, next-is}
 use Rattle.calls.specs.Calls.{workWords}
@@ -19,7 +19,7 @@ use Rattle.code_words.specs.CodeWords.{operandsOf}
 use Rattle.machine.specs.Stack.{stepFault, stepped, ranFault, ranStack, lowest, ranList, areaFault, RanOut}
 use Rattle.machine.proofs.Answers.{refused-is, counted-is}
 use Rattle.working.specs.declared.Next.{Next}
-use Rattle.working.specs.Slots.{Stands, Stacked, Ready, Stepped, Steps}
+use Rattle.working.specs.Slots.{Stacked, Ready, Stepped, Steps}
 use Rattle.working.proofs.SlotFacts.{lowest-slot}
 
 -- the code words left, one by one

@@ -1,7 +1,7 @@
 -- The stack's slots: a list put into the topmost slot stands there, and the slots below are as they were.
 use Prim.Native.Nat.{ℕ, zero, suc, _+_, _*_, _-_, _≤_, _<_}
 use native.Mathlib.Omega.{arith}
-use mathlib.Core.Path.{_≡_, refl, sym, _∙_, ap}
+use mathlib.Core.Path.{_≡_, sym, _∙_, ap}
 use mathlib.Core.List.{List, [], _∷_, _++_, append-assoc}
 use lib.ListN.{length, take, drop, getD, set, take-append-drop}
 use lib.Seq.{paste, take-append-le, drop-append-le, take-at, drop-at, length-take-le, getD-set-same, getD-set-other}

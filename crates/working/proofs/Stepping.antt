@@ -4,9 +4,9 @@ use native.Mathlib.Omega.{arith}
 use mathlib.Core.Path.{_≡_, refl, sym, _∙_, ap}
 use mathlib.Core.Bool.{Bool, true, false, cond, _&&_}
 use mathlib.Core.List.{List, [], _∷_}
-use lib.Dec.{ltb, leb, eqb}
-use lib.ListN.{length, take, drop, getD, set, length-drop}
-use lib.Seq.{paste, take-length, take-at}
+use lib.Dec.{ltb, eqb}
+use lib.ListN.{length, take, drop, getD, length-drop}
+use lib.Seq.{take-length, take-at}
 use borrow.Author.Tests.{le-leb, le-ltb, lt-ltb, ltb-false, ne-eqb}
 use Rattle.slices.specs.Bytes.{Bytes, wordsIn}
 use Rattle.signals.specs.Words.{mostWords}
@@ -25,9 +25,8 @@ use Rattle.format.specs.Theorems.{decoded}
 use Rattle.calls.specs.Calls.{workWords}
 use Rattle.code_words.specs.CodeWords.{constantOf, operandsOf}
 use Rattle.applying.specs.PartCalls.{judgedFor, exactFor, partAnswer, PartInSlot}
-use Rattle.machine.specs.Stack.{firstTaken, onTop, leafList, operationFault, stepFault, madeOn, stepped}
+use Rattle.machine.specs.Stack.{firstTaken, onTop, leafList, operationFault, stepFault, madeOn}
 use Rattle.machine.proofs.Leaves.{part-small, words-length}
-use Rattle.working.specs.declared.Next.{Next}
 use Rattle.working.specs.Slots.{listOn, Stands, Stacked, Room, Loaded, nextOf, placedIn, Fits, Stepped}
 use Rattle.working.proofs.SlotFacts.{below, push-slot, slot-of, stack-below}
 
