@@ -2,7 +2,7 @@
 ghost use mathlib.Core.Path.{_≡_};
 ghost use lib.ListN.{drop};
 ghost use Rattle.format.specs.Reading.{signalSize};
-ghost use Rattle.format.specs.Walk.{placeAmong};
+ghost use Rattle.format.specs.Calls.{placeAmong};
 use format::Place;
 
 // Where on a sheet the first signal stands.

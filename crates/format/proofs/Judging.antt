@@ -18,7 +18,8 @@ use Rattle.slices.specs.Bytes.{low16, low32}
 use Rattle.format.specs.Reading.{mark, nameAt, wordCount, signalSize, laterWordsFault, sheetWordsFault, signalFault, signalsFault}
 use Rattle.format.specs.Reading.{frontFault, sheetFault, countOn, signalsFrom, names}
 use Rattle.format.specs.Calls.{placeFrom}
-use Rattle.format.specs.Walk.{Whole, sizeOf, placeAmong}
+use Rattle.format.specs.Walk.{Whole, sizeOf}
+use Rattle.format.specs.Calls.{placeAmong}
 use Rattle.format.specs.declared.Place.{Place}
 use Rattle.format.specs.declared.Place.the-variants.{At, Refused}
 use Rattle.signals.specs.Answers.{firstOf}

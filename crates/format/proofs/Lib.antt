@@ -14,6 +14,8 @@ pub mod ReadBack
 pub mod Appending
 pub mod Named
 pub mod SheetLists
+pub mod Judged
+pub mod SheetSize
 pub mod FaultNumbers
 pub mod Looked
 pub mod Theorems

@@ -17,8 +17,8 @@ use Rattle.slices.specs.Bytes.{low16}
 use Rattle.format.specs.Reading.{nameAt, wordCount, signalSize, signalFault, signalsFault, frontFault, sheetFault, countOn, signalsOn}
 use Rattle.format.specs.Reading.{signalsFrom, names}
 use Rattle.format.specs.Calls.{faultOfPlace, firstByte, byteCount, placeFor, placeFrom, placeOn, placeOf, lookupFault, lookupOf}
-use Rattle.format.specs.Calls.{partAt}
-use Rattle.format.specs.Walk.{Whole, placeAmong}
+use Rattle.format.specs.Calls.{partAt, placeAmong}
+use Rattle.format.specs.Walk.{Whole}
 use Rattle.format.specs.declared.Place.{Place}
 use Rattle.format.specs.declared.Place.the-variants.{At, Refused}
 use Rattle.signals.specs.Answers.{firstOf}

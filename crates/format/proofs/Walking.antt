@@ -13,7 +13,8 @@ use Rattle.format.specs.Names.{same, unpadded}
 use Rattle.slices.specs.Bytes.{low16, low32}
 use Rattle.format.specs.Reading.{nameAt, wordCount, signalSize, laterWordsFault, sheetWordsFault}
 use Rattle.format.specs.Calls.{placeFrom}
-use Rattle.format.specs.Walk.{Whole, wholeSignals, placeAmong}
+use Rattle.format.specs.Walk.{Whole}
+use Rattle.format.specs.Calls.{wholeSignals, placeAmong}
 use Rattle.format.specs.declared.Place.{Place}
 use Rattle.format.specs.declared.Place.the-variants.{At, Refused}
 

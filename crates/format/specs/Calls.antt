@@ -1,6 +1,6 @@
 -- Believed: The calls on sheets, by document 01: begin, check, lookup with its sister, append.
 use Prim.Native.Nat.{ℕ, zero, suc, _+_, _*_}
-use mathlib.Core.Bool.{not, cond, _||_}
+use mathlib.Core.Bool.{Bool, not, cond, _||_}
 use mathlib.Core.List.{List, [], _∷_, _++_}
 use lib.Dec.{leb, ltb, eqb}
 use lib.ListN.{length, take, drop}
@@ -53,6 +53,27 @@ placeOn sheet name = placeFrom name 7 (countOn sheet) (drop 7 sheet)
 -- A lookup's place: the first byte and the number of bytes of the signal's words on the sheet.
 unfoldable pub placeOf : List ℕ → List ℕ → Place
 placeOf sheet name = placeFor (lookupFault sheet name) (firstByte (placeOn sheet name)) (byteCount (placeOn sheet name))
+
+-- how many of the first n signals are whole, before the first that is not
+unfoldable pub wholeSignals : ℕ → List ℕ → ℕ
+wholeSignals zero rest = 0
+wholeSignals (suc n) rest =
+    cond (ltb (length rest) (signalSize rest)) 0 (suc (wholeSignals n (drop (signalSize rest) rest)))
+
+-- where the words of the signal with this name stand among those
+abbrev pub placeAmong : List ℕ → ℕ → ℕ → List ℕ → Place
+placeAmong name at n rest = placeFrom name at (wholeSignals n rest) rest
+
+-- a place, or 13 where there is none, 16 for what is no name
+abbrev pub orMissing : Bool → Place → Place
+orMissing named (At start count) = At start count
+orMissing named (Refused fault) = Refused (cond named 13 16)
+
+-- Where a name's words stand on a sheet that is judged already: what a lookup says on every accepted sheet; on any other, the place among
+-- the whole signals at its front.
+unfoldable pub placeJudged : List ℕ → List ℕ → Place
+placeJudged sheet name =
+    cond (eqb (sheetFault sheet) 0) (placeOf sheet name) (orMissing (wellNamed name) (placeAmong name 7 (countOn sheet) (drop 7 sheet)))
 
 -- the bytes of a sheet at a place, none when refused
 abbrev pub partAt : List ℕ → Place → List ℕ

@@ -1,8 +1,26 @@
 // Looking a name up on a sheet: its place, its words, and the fault.
 ghost use mathlib.Core.Path.{_≡_};
-ghost use Rattle.format.specs.Calls.{placeOf, lookupFault};
+ghost use Rattle.format.specs.Calls.{placeOf, placeJudged, lookupFault};
 ghost use Rattle.lookups.specs.LookedUp.{LookedUp};
 use format::Place;
+
+// Where the words of the signal with this name stand on a sheet that is judged already, as `locate` says of an accepted one; on any other,
+// where they stand among its whole signals.
+pub fn locate_judged(sheet: &[u8], name: &[u8]) -> Place
+    ensures { λ r. ⌜ r ≡ placeJudged (now (sheet .entry)) (now (name .entry)) ⌝ }
+{
+    let count = slices::read16(sheet, sheets::COUNT_AT);
+    let place = finding::find(sheet, count, name);
+    match place {
+        Place::At { start: _, count: _ } => place,
+        Place::Refused(_) => {
+            if names::well_named(name) {
+                return Place::Refused(13);
+            }
+            Place::Refused(16)
+        }
+    }
+}
 
 // Where the words of the signal with this name stand on a sheet; refused with the sheet's fault, 16 or 13.
 pub fn locate(sheet: &[u8], name: &[u8]) -> Place
@@ -12,12 +30,7 @@ pub fn locate(sheet: &[u8], name: &[u8]) -> Place
     if fault != 0 {
         return Place::Refused(fault);
     }
-    if names::well_named(name) {
-        let count = slices::read16(sheet, sheets::COUNT_AT);
-        finding::find(sheet, count, name)
-    } else {
-        Place::Refused(16)
-    }
+    locate_judged(sheet, name)
 }
 
 // The part of the sheet that is the words of the signal with this name, empty when refused.

@@ -13,29 +13,12 @@ use Rattle.signals.specs.Answers.{firstOf, faultIn, writtenOf}
 use Rattle.signals.specs.declared.Written.the-variants.{Count, Refused}
 use Rattle.signals.proofs.FirstFault.{next-is}
 use Rattle.operations.specs.Calls.{lengthFault, partFault}
-use Rattle.building.specs.Slots.{begins, slotAnswer}
 use Rattle.grammar.specs.Kinds as kinds
 use Rattle.grammar.specs.Tree.{Unary, invert, rise, fall, ton, tof}
 use Rattle.grammar.specs.Code.{ticksOf}
 use Rattle.code_words.specs.CodeWords.{operandsOf}
 use Rattle.applying.specs.PartCalls.{unaryOf, binaryIn, unaryFault, unaryExact, binaryExact, judgedFor, exactFor}
-use Rattle.applying.proofs.Numbering.{numbered}
-use Rattle.machine.specs.Stack.{operationFault}
 use Rattle.machine.proofs.PartCodes.{arity-one, arity-two}
-
--- the fault of an answer is the call's
-told-fault : (f : ℕ) (l : List ℕ) → faultIn (writtenOf f l) ≡ f
-unfolding writtenOf
-told-fault f l = go (eqb f 0) refl
-  where
-    go : (t : Bool) → eqb f 0 ≡ t → faultIn (cond t (Count (length l)) (Refused f)) ≡ f
-    go true e = sym (eqb-true f 0 e)
-    go false e = refl
-
-pub operation-fault : (w : ℕ) (a b : List ℕ) → judgedFor w a b ≡ 0 → operationFault w a b ≡ partFault (exactFor w a b)
-unfolding operationFault slotAnswer begins
-operation-fault w a b z =
-    rw z (ap faultIn (numbered (exactFor w a b)) ∙ told-fault (partFault (exactFor w a b)) (exactFor w a b))
 
 -- the operands of a part are accepted, and so is its length
 pub pair-ok : (a b : List ℕ) → listFault a ≡ 0 → listFault b ≡ 0 → pairFault a b ≡ 0

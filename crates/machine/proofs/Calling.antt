@@ -1,67 +1,103 @@
 -- The formula call and the claim from their pieces: the faults in document 01's order, the words, the verdict.
-use Prim.Native.Nat.{ℕ, _≤_}
+use Prim.Native.Nat.{ℕ}
+use native.Mathlib.Decide.{ℕ-discrete}
+use mathlib.Core.Logic.{_⊎_, inl, inr}
 use native.Mathlib.Omega.{arith}
 use mathlib.Core.Path.{_≡_, refl, sym, _∙_, ap}
-use mathlib.Core.List.{List}
-use lib.ListN.{length, take}
+use mathlib.Core.List.{List, [], _∷_}
+use lib.ListN.{length}
 use Rattle.signals.specs.Answers.{writtenOf, outputOf}
 use Rattle.signals.specs.declared.Written.{Written}
 use Rattle.signals.specs.declared.Written.the-variants as written
 use Rattle.building.specs.Building.{HandsOver}
 use Rattle.operations.proofs.JudgedCalls.{refused, passes-on}
 use Rattle.format.specs.Reading.{sheetFault}
-use Rattle.calls.specs.Calls.{workWords, neededWork, readingFault, workFault, workingFault, wordsOn, callFault, callAnswer, callOutput}
+use Rattle.calls.specs.Calls.{neededWork, readingFault, workFault, workingFault, wordsOn, callFault, callAnswer, callOutput}
 use Rattle.operations.specs.Calls.{roomFault}
-use Rattle.calls.proofs.NotRefused.{work-from}
-use Rattle.machine.specs.Machine.{runFault, Run}
-use Rattle.machine.proofs.Running.{workedFault, WorkedOut}
+use Rattle.machine.specs.Machine.{placedCodes, runFault, Run}
+use Rattle.machine.specs.Stack.{Runs, areaFault, RanOut}
+use Rattle.slices.specs.Bytes.{Bytes}
+use Rattle.calls.specs.Work.{KeptWhen}
+use Rattle.machine.proofs.FormulaRan.{Left, formula-ran}
 use Rattle.calls.specs.Work.{firstFault}
-use Rattle.machine.proofs.Answers.{counted, refused-by}
-use Rattle.machine.proofs.Exact.{short}
 use Rattle.signals.specs.Answers.{firstOf}
-use Rattle.signals.proofs.FirstFault.{both-none, next-is, first-assoc}
+use Rattle.signals.proofs.FirstFault.{first-is, next-is, first-assoc}
 
--- without 18 the work area is long enough
-pub enough-work : (sheet text : List ℕ) (work : ℕ) → workedFault sheet text work ≡ 0 → workWords ≤ work
-unfolding workedFault neededWork
-enough-work sheet text work z = work-from sheet work (both-none (workFault sheet work) (workingFault sheet text) z .0)
+-- the fault of a formula's parts, after 18
+unfoldable pub workedFault : List ℕ → List ℕ → ℕ → ℕ
+workedFault sheet text work = firstOf (workFault sheet work) (workingFault sheet text)
+
+-- 18 is the call's
+pub area-is : (sheet : List ℕ) (words : ℕ) → areaFault words ≡ workFault sheet words
+unfolding areaFault workFault neededWork
+area-is sheet words = refl
+
+-- a work area that was short, or was worked in
+abbrev pub Outcome : (sheet codes before after : List ℕ) (fault : ℕ) (end : List (List ℕ)) → Type 0
+Outcome sheet codes before after fault end =
+    ((workFault sheet (length before) ≡ 0 → ⊥) × (fault ≡ workFault sheet (length before)) × (after ≡ before))
+    ⊎ ((workFault sheet (length before) ≡ 0) × Runs sheet codes [] fault end)
+
+pub outcome : (sheet codes before after : List ℕ) (fault : ℕ) (end : List (List ℕ)) → RanOut sheet codes before after fault end
+    → Outcome sheet codes before after fault end
+outcome sheet codes before after fault end r = go (ℕ-discrete (workFault sheet (length before)) 0)
+  where
+    go : Dec (workFault sheet (length before) ≡ 0)
+        → ((workFault sheet (length before) ≡ 0 → ⊥) × (fault ≡ workFault sheet (length before)) × (after ≡ before))
+        ⊎ ((workFault sheet (length before) ≡ 0) × Runs sheet codes [] fault end)
+    go (yes z) = inr (z, r .runs (area-is sheet (length before) ∙ z))
+    go (no x) =
+        let q = r .short (λ z. x (sym (area-is sheet (length before)) ∙ z)) in
+        inl (x, q .0 ∙ area-is sheet (length before), q .1)
 
 -- a formula that was worked out
-module _ (sheet text before after : List ℕ) (answer : Written) (w : WorkedOut sheet text before after 0 answer) where
+module _ (sheet text before after : List ℕ) (ok : sheetFault sheet ≡ 0) (bytes : Bytes sheet) (read : readingFault sheet text ≡ 0)
+    (fault : ℕ) (end : List (List ℕ)) (r : RanOut sheet (placedCodes sheet text) before after fault end) where
+  left : Runs sheet (placedCodes sheet text) [] fault end → Left sheet text [] fault end
+  left q = formula-ran sheet text ok bytes read [] (omega arith) fault end q
+
+  pub worked-fault : fault ≡ workedFault sheet text (length before)
+  unfolding workedFault
+  worked-fault = go (outcome sheet _ before after fault end r)
+    where
+      go : Outcome sheet (placedCodes sheet text) before after fault end → fault ≡ firstOf (workFault sheet (length before)) (workingFault sheet text)
+      go (inl h) = h .1 ∙ sym (first-is _ _ (h .0))
+      go (inr h) = left (h .1) .fault-is ∙ sym (next-is _ _ (h .0))
+
+  pub worked-kept : KeptWhen (workFault sheet (length before)) before after
+  worked-kept x = go (outcome sheet _ before after fault end r)
+    where
+      go : Outcome sheet (placedCodes sheet text) before after fault end → after ≡ before
+      go (inl h) = h .2
+      go (inr h) = absurd (x (h .0))
+
+  pub on-top : fault ≡ 0 → end ≡ wordsOn sheet text ∷ []
+  on-top z = go (outcome sheet _ before after fault end r)
+    where
+      go : Outcome sheet (placedCodes sheet text) before after fault end → end ≡ wordsOn sheet text ∷ []
+      go (inl h) = absurd (h .0 (sym (h .1) ∙ z))
+      go (inr h) = left (h .1) .stack-is z
+
   whole : (room : ℕ) → firstOf (workedFault sheet text (length before)) (roomFault (wordsOn sheet text) room)
       ≡ runFault sheet text (length before) room
   unfolding runFault workedFault
   whole room = first-assoc (workFault sheet (length before)) (workingFault sheet text) (roomFault (wordsOn sheet text) room)
 
-  ran : (out out′ : List ℕ) (r : Written)
-      → (r ≡ writtenOf (firstOf (workedFault sheet text (length before)) (roomFault (wordsOn sheet text) (length out)))
+  ran : (out out′ : List ℕ) (a : Written)
+      → (a ≡ writtenOf (firstOf (workedFault sheet text (length before)) (roomFault (wordsOn sheet text) (length out)))
       (wordsOn sheet text))
       × (out′ ≡ outputOf (firstOf (workedFault sheet text (length before)) (roomFault (wordsOn sheet text) (length out)))
       (wordsOn sheet text) out)
-      → Run sheet text before out r out′ after
-  ran out out′ r h = let a = rw (whole (length out)) at h in record { answer-is = a .0; output-is = a .1; kept = w .kept }
+      → Run sheet text before out a out′ after
+  ran out out′ a h = let q = rw (whole (length out)) at h in record { answer-is = q .0; output-is = q .1; kept = worked-kept }
 
-  pub run-refused : (f : ℕ) → answer ≡ written.Refused f → (out : List ℕ) → Run sheet text before out (written.Refused f) out after
-  run-refused f e out =
-      let q = refused-by (workedFault sheet text (length before)) (wordsOn sheet text) f (sym (w .answer-is) ∙ e) in
-      ran out out (written.Refused f) (refused (workedFault sheet text (length before)) _ (wordsOn sheet text) out f (sym (q .0)) (q .1))
+  pub run-refused : (fault ≡ 0 → ⊥) → (out : List ℕ) → Run sheet text before out (written.Refused fault) out after
+  run-refused x out = ran out out (written.Refused fault) (refused (workedFault sheet text (length before)) _ (wordsOn sheet text) out fault worked-fault x)
 
-  module _ (n : ℕ) (e : answer ≡ written.Count n) where
-    given : (workedFault sheet text (length before) ≡ 0) × (n ≡ length (wordsOn sheet text))
-    given = counted (workedFault sheet text (length before)) (wordsOn sheet text) n (sym (w .answer-is) ∙ e)
-
-    run-words : take n after ≡ wordsOn sheet text
-    run-words = rw (given .1) (w .stands (given .0) .stands)
-
-    pub run-fits : length after ≡ length before → n ≤ length after
-    run-fits h =
-        let s = short (wordsOn sheet text) (w .stands (given .0) .accepted) in
-        omega (arith, given .1, enough-work sheet text (length before) (given .0))
-
-    pub run-counted : (out out′ : List ℕ) (r : Written) → HandsOver (take n after) out r out′ → Run sheet text before out r out′ after
-    run-counted out out′ r h =
-        ran out out′ r (passes-on (workedFault sheet text (length before)) (roomFault (wordsOn sheet text) (length out))
-        (wordsOn sheet text) out r out′ (given .0) (rw run-words at h))
+  pub run-handed : fault ≡ 0 → (out out′ : List ℕ) (a : Written) → HandsOver (wordsOn sheet text) out a out′ → Run sheet text before out a out′ after
+  run-handed z out out′ a h =
+      ran out out′ a (passes-on (workedFault sheet text (length before)) (roomFault (wordsOn sheet text) (length out))
+      (wordsOn sheet text) out a out′ (sym worked-fault ∙ z) h)
 
 -- the call
 module _ (sheet formula work out : List ℕ) where

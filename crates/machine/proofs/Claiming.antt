@@ -1,38 +1,34 @@
 -- The claim of two formulas from its pieces: the faults in document 01's order, then the verdict of the two signals.
-use Prim.Native.Nat.{ℕ, _+_, _-_, _≤_, max}
+use Prim.Native.Nat.{ℕ, max}
 use native.Mathlib.Omega.{arith}
 use mathlib.Core.Path.{_≡_, refl, sym, _∙_, ap}
-use mathlib.Core.List.{List}
+use mathlib.Core.List.{List, [], _∷_, _++_}
+use mathlib.Core.Logic.{_⊎_, inl, inr}
 use mathlib.Core.Option.{Option}
-use lib.ListN.{length, take, drop}
-use lib.Seq.{take-take}
+use lib.ListN.{length}
 use borrow.Author.Tests.{eq-eqb, ne-eqb}
-use Rattle.signals.specs.Words.{mostWords, listFault, lastDate}
-use Rattle.signals.specs.declared.Written.{Written}
-use Rattle.signals.specs.declared.Written.the-variants as written
+use Rattle.signals.specs.Words.{listFault, lastDate}
 use Rattle.signals.specs.declared.Verdict.{Verdict}
 use Rattle.signals.specs.declared.Verdict.the-variants.{Refused}
 use Rattle.signals.proofs.Settling.{settled-later}
 use Rattle.grammar.specs.Tree.{Tree}
 use Rattle.grammar.specs.Formula.{formulaTree}
-use Rattle.grammar.specs.Parts.{parts}
 use Rattle.signals.proofs.AnyDate.{one-verdict}
 use Rattle.questions.specs.Questions.{impliesOf, laterLast}
 use Rattle.signals.specs.Words.{pairFault}
 use Rattle.format.specs.Reading.{sheetFault}
 use Rattle.calls.specs.OnSheet.{exactOn, signalOn, settlingDate}
-use Rattle.calls.specs.Calls.{readingFault, workFault, neededWork, partsFault, workingFault, claimFault, claimFails, claimVerdict}
-use Rattle.calls.specs.Calls.{workWords, wordsOn, claimAnswer}
+use Rattle.calls.specs.Calls.{readingFault, workFault, workingFault, wordsOn, claimFault, claimFails, claimVerdict, claimAnswer}
 use Rattle.calls.proofs.Settles.{settles}
-use Rattle.calls.proofs.NotRefused.{work-ok}
-use Rattle.machine.specs.Machine.{InSlot, judgeFault, Judged, claimOnFault, ClaimOn}
-use Rattle.calls.specs.Work.{firstClaimFault}
-use Rattle.machine.proofs.Exact.{signal-is, settled-at, short}
-use Rattle.machine.proofs.Answers.{counted, refused-by}
-use Rattle.machine.proofs.Running.{workedFault, WorkedOut}
-use Rattle.machine.proofs.Calling.{enough-work}
+use Rattle.machine.specs.Machine.{placedCodes, judgeFault, Judged, claimOnFault, ClaimOn}
+use Rattle.machine.specs.Stack.{Runs, RanOut}
+use Rattle.calls.specs.Work.{KeptWhen, firstClaimFault}
+use Rattle.slices.specs.Bytes.{Bytes, Words}
+use Rattle.machine.proofs.Exact.{signal-is, settled-at}
+use Rattle.machine.proofs.FormulaRan.{formula-ran, in-a-row}
+use Rattle.machine.proofs.Calling.{Outcome, outcome}
 use Rattle.signals.specs.Answers.{firstOf, judgedBy, verdictFor}
-use Rattle.signals.proofs.FirstFault.{first-is, next-is, both-none, first-assoc}
+use Rattle.signals.proofs.FirstFault.{first-is, next-is, first-assoc}
 
 -- faults in their order
 pub by-first : (f g rest : ℕ) (v : Option ℕ) → g ≡ f → (f ≡ 0 → ⊥) → Refused f ≡ verdictFor (firstOf g rest) v
@@ -66,77 +62,70 @@ compared sheet ok t u a b =
     (settled-later _ _ m (settles sheet ok t) (omega arith))
     (settled-later _ _ m (settles sheet ok u) (omega arith)))
 
--- G worked out above F's list, in a work area that is long enough
-module _ (sheet g before after : List ℕ) (answer : Written) (w : WorkedOut sheet g before after 1 answer)
-    (long : workWords ≤ length before) where
-  only-parts : workedFault sheet g (length before) ≡ workingFault sheet g
-  unfolding workedFault neededWork
-  only-parts = next-is (workFault sheet (length before)) (workingFault sheet g) (work-ok sheet (length before) long)
+-- both formulas worked out, F's list below G's
+module _ (sheet f g before after : List ℕ) (ok : sheetFault sheet ≡ 0) (bytes : Bytes sheet) (readF : readingFault sheet f ≡ 0)
+    (readG : readingFault sheet g ≡ 0) (fault : ℕ) (end : List (List ℕ))
+    (r : RanOut sheet (placedCodes sheet f ++ placedCodes sheet g) before after fault end) where
+  abbrev Ended : Type 0
+  Ended =
+      (fault ≡ firstOf (workingFault sheet f) (workingFault sheet g))
+      × (fault ≡ 0 → (end ≡ wordsOn sheet g ∷ wordsOn sheet f ∷ [])
+      × (listFault (wordsOn sheet f) ≡ 0) × (listFault (wordsOn sheet g) ≡ 0) × Words (wordsOn sheet f) × Words (wordsOn sheet g))
 
-  pub compare-refused : (f : ℕ) (v : Option ℕ) → answer ≡ written.Refused f → Refused f ≡ verdictFor (workingFault sheet g) v
-  compare-refused f v e =
-      let q = refused-by (workedFault sheet g (length before)) (wordsOn sheet g) f (sym (w .answer-is) ∙ e) in
-      by-one f (workingFault sheet g) v (sym only-parts ∙ q .0) (q .1)
+  ended : Runs sheet (placedCodes sheet f ++ placedCodes sheet g) [] fault end → Ended
+  ended q = let b = in-a-row sheet (placedCodes sheet f) (placedCodes sheet g) [] fault end q in go (b .middle) (b .ran)
+    where
+      go : (middle : List (List ℕ))
+          → (Runs sheet (placedCodes sheet f) [] 0 middle × Runs sheet (placedCodes sheet g) middle fault end)
+          ⊎ ((fault ≡ 0 → ⊥) × Runs sheet (placedCodes sheet f) [] fault middle)
+          → Ended
+      go middle (inl h) =
+          let a = formula-ran sheet f ok bytes readF [] (omega arith) 0 middle (h .0) in
+          let b = formula-ran sheet g ok bytes readG (wordsOn sheet f ∷ []) (omega arith) fault end (rw (a .stack-is refl) at (h .1)) in (
+            b .fault-is ∙ sym (next-is (workingFault sheet f) _ (sym (a .fault-is))),
+            λ z. (b .stack-is z, a .accepted refl, b .accepted z, a .small refl, b .small z),
+          )
+      go middle (inr h) =
+          let a = formula-ran sheet f ok bytes readF [] (omega arith) fault middle (h .1) in
+          (a .fault-is ∙ sym (first-is (workingFault sheet f) _ (λ z. h .0 (a .fault-is ∙ z))), λ z. absurd (h .0 z))
 
-  module _ (n : ℕ) (e : answer ≡ written.Count n) where
-    given : (workedFault sheet g (length before) ≡ 0) × (n ≡ length (wordsOn sheet g))
-    given = counted (workedFault sheet g (length before)) (wordsOn sheet g) n (sym (w .answer-is) ∙ e)
+  pub judged-fault : fault ≡ judgeFault sheet f g (length before)
+  unfolding judgeFault
+  judged-fault = go (outcome sheet _ before after fault end r)
+    where
+      go : Outcome sheet (placedCodes sheet f ++ placedCodes sheet g) before after fault end
+          → fault ≡ firstOf (workFault sheet (length before)) (firstOf (workingFault sheet f) (workingFault sheet g))
+      go (inl h) = h .1 ∙ sym (first-is _ _ (h .0))
+      go (inr h) = ended (h .1) .0 ∙ sym (next-is _ _ (h .0))
 
-    pub compare-short : n ≤ mostWords
-    compare-short = let s = short (wordsOn sheet g) (w .stands (given .0) .accepted) in omega (arith, given .1)
+  judged-kept : KeptWhen (workFault sheet (length before)) before after
+  judged-kept x = go (outcome sheet _ before after fault end r)
+    where
+      go : Outcome sheet (placedCodes sheet f ++ placedCodes sheet g) before after fault end → after ≡ before
+      go (inl h) = h .2
+      go (inr h) = absurd (x (h .0))
 
-    pub compare-done : (ok : sheetFault sheet ≡ 0) (t : Tree) (m : ℕ) → m ≤ mostWords → InSlot before 0 m (exactOn sheet t) → (r : Verdict)
-        → r ≡ impliesOf (take m after) (take (mostWords + n - mostWords) (drop mostWords after)) → r ≡ verdictFor (workingFault sheet g)
-        (claimFails sheet t (formulaTree g))
+  pub judge-refused : (fault ≡ 0 → ⊥) → Judged sheet f g before (Refused fault) after
+  judge-refused x = record { answer-is = by-one fault _ _ (sym judged-fault) x; kept = judged-kept }
+
+  -- without a fault the two lists stand on the stack, accepted
+  module _ (z : fault ≡ 0) where
+    pub stands : (end ≡ wordsOn sheet g ∷ wordsOn sheet f ∷ [])
+        × (listFault (wordsOn sheet f) ≡ 0) × (listFault (wordsOn sheet g) ≡ 0) × Words (wordsOn sheet f) × Words (wordsOn sheet g)
+    stands = go (outcome sheet _ before after fault end r)
+      where
+        go : Outcome sheet (placedCodes sheet f ++ placedCodes sheet g) before after fault end
+            → (end ≡ wordsOn sheet g ∷ wordsOn sheet f ∷ [])
+            × (listFault (wordsOn sheet f) ≡ 0) × (listFault (wordsOn sheet g) ≡ 0) × Words (wordsOn sheet f) × Words (wordsOn sheet g)
+        go (inl h) = absurd (h .0 (sym (h .1) ∙ z))
+        go (inr h) = ended (h .1) .1 z
+
+    pub judge-done : (v : Verdict) → v ≡ impliesOf (wordsOn sheet f) (wordsOn sheet g) → Judged sheet f g before v after
     unfolding wordsOn
-    compare-done ok t m h s r x =
-        let k : mostWords + n - mostWords ≡ n = omega arith in
-        let slot = w .stands (given .0) in
-        let second : take n (drop mostWords after) ≡ exactOn sheet (formulaTree g) = rw (given .1) (slot .stands) in
-        let cut : take m (take mostWords after) ≡ take m (take mostWords before) = ap (take m) (w .below) in
-        let first : take m after ≡ exactOn sheet t =
-        sym (take-take m mostWords after h) ∙ cut ∙ take-take m mostWords before h ∙ s .stands in
-        let y : r ≡ impliesOf (exactOn sheet t) (exactOn sheet (formulaTree g)) = rw (k, second, first) at x in
-        y ∙ compared sheet ok t (formulaTree g) (s .accepted) (slot .accepted) ∙ by-none (workingFault sheet g) _
-        (sym only-parts ∙ given .0)
-
--- F worked out
-module _ (sheet f g before after : List ℕ) (answer : Written) (w : WorkedOut sheet f before after 0 answer) where
-  whole : (v : Option ℕ) → verdictFor (firstOf (workedFault sheet f (length before)) (workingFault sheet g)) v
-      ≡ verdictFor (judgeFault sheet f g (length before)) v
-  unfolding judgeFault workedFault
-  whole v = ap (λ k. verdictFor k v) (first-assoc (workFault sheet (length before)) (workingFault sheet f) (workingFault sheet g))
-
-  pub judge-refused : (x : ℕ) → answer ≡ written.Refused x → Judged sheet f g before (Refused x) after
-  judge-refused x e =
-      let q = refused-by (workedFault sheet f (length before)) (wordsOn sheet f) x (sym (w .answer-is) ∙ e) in
-      record {
-        answer-is = by-first x (workedFault sheet f (length before)) (workingFault sheet g) _ (q .0) (q .1) ∙ whole _;
-        kept = w .kept;
-      }
-
-  module _ (n : ℕ) (e : answer ≡ written.Count n) where
-    known : (workedFault sheet f (length before) ≡ 0) × (n ≡ length (wordsOn sheet f))
-    known = counted (workedFault sheet f (length before)) (wordsOn sheet f) n (sym (w .answer-is) ∙ e)
-
-    pub judge-long : workWords ≤ length before
-    judge-long = enough-work sheet f (length before) (known .0)
-
-    pub judge-short : n ≤ mostWords
-    judge-short = let s = short (wordsOn sheet f) (w .stands (known .0) .accepted) in omega (arith, known .1)
-
-    pub judge-done : (r : Verdict) (last : List ℕ)
-        → ((t : Tree) → partsFault sheet (parts t) ≡ 0 → InSlot after 0 n (exactOn sheet t) → r ≡ verdictFor (workingFault sheet g)
-        (claimFails sheet t (formulaTree g)))
-        → Judged sheet f g before r last
-    unfolding wordsOn workingFault workedFault
-    judge-done r last h =
-        let both = both-none (workFault sheet (length before)) (workingFault sheet f) (known .0) in
-        let slot = rw (← (known .1)) at (w .stands (known .0)) in
+    judge-done v e =
         record {
-          answer-is = by-next (workedFault sheet f (length before)) (workingFault sheet g) _ r (known .0)
-              (h (formulaTree f) (both .1) slot) ∙ whole _;
-          kept = λ x. absurd (x (both .0));
+          answer-is = e ∙ compared sheet ok (formulaTree f) (formulaTree g) (stands .1) (stands .2) ∙ by-none _ _ (sym judged-fault ∙ z);
+          kept = judged-kept;
         }
 
 -- from G's reading on

@@ -1,14 +1,18 @@
 -- The exact answer of an operation on its operands' normal lists is the normal list of the tree that it makes.
-use Prim.Native.Nat.{ℕ, _≤_}
+use Prim.Native.Nat.{ℕ, zero, suc, _≤_}
 use native.Mathlib.Omega.{arith}
 use mathlib.Core.Path.{_≡_, refl, _∙_, ap, fun-ext}
 use mathlib.Core.Bool.{Bool, true, false, cond, _&&_, _||_}
-use mathlib.Core.List.{List}
+use mathlib.Core.List.{List, [], _∷_}
 use lib.Dec.{ltb}
 use lib.ListN.{length}
 use borrow.Author.Tests.{ltb-false}
 use Rattle.signals.specs.Signal.{Signal, NOT, rising, falling, SR, RS, TON, TOF, AND, OR, connective, cell}
-use Rattle.signals.specs.Words.{mostWords, signalOf, lastDate, listOf, listFault}
+use Rattle.signals.specs.Moment.{M}
+use Rattle.signals.specs.Words.{mostWords, signalOf, lastDate, listOf, listFault, dateOf}
+use Rattle.slices.specs.Bytes.{Words}
+use Rattle.signals.proofs.Truth.{true-false}
+use Rattle.signals.proofs.WordFacts.{date-bounds}
 use Rattle.signals.specs.Settled.{SettledFrom}
 use Rattle.signals.proofs.Settling.{settling}
 use Rattle.signals.proofs.Normal.{accepted-settled, accepted-normal}
@@ -104,3 +108,23 @@ module _ (sheet : List ℕ) (ok : sheetFault sheet ≡ 0) where
           → length (exactOn sheet t) ≤ mostWords
       size true e z = absurd (omega arith)
       size false e z = ltb-false mostWords (length (exactOn sheet t)) e
+
+-- and its words have 32 bits
+neither : (a b : Bool) → (a || b) ≡ false → (a ≡ false) × (b ≡ false)
+neither true b h = (h, absurd (true-false h))
+neither false b h = (refl, h)
+
+on-dates : (l : List ℕ) → changesAfterM l ≡ false → Words l
+unfolding changesAfterM
+on-dates [] h i = omega arith
+on-dates (w ∷ ws) h zero = let d = ltb-false M (dateOf w) (neither (ltb M (dateOf w)) _ h .0) in omega (arith, date-bounds w)
+on-dates (w ∷ ws) h (suc i) = on-dates ws (neither (ltb M (dateOf w)) _ h .1) i
+
+pub words-part : (l : List ℕ) → partFault l ≡ 0 → Words l
+unfolding partFault
+words-part l z = on-dates l (go (ltb mostWords (length l)) (changesAfterM l) refl z)
+  where
+    go : (a b : Bool) → changesAfterM l ≡ b → _≡_ {A = ℕ} (cond a 5 (cond b 6 0)) 0 → changesAfterM l ≡ false
+    go true b e z = absurd (omega arith)
+    go false true e z = absurd (omega arith)
+    go false false e z = e

@@ -11,7 +11,7 @@ use Rattle.grammar.specs.Code.{Part, operand, one, two}
 use Rattle.grammar.specs.Formula.{partOf, plainPart, timedPart, nameAt}
 use Rattle.code_words.specs.CodeWords.{arity, operandsOf}
 use Rattle.applying.specs.PartCalls.{unaryOf, binaryOf}
-use Rattle.machine.specs.Machine.{leafOf}
+use Rattle.machine.proofs.KnownParts.{leafOf}
 
 -- what holds of each number below n, one after the other
 Each : ℕ → (ℕ → Type 0) → Type 0

@@ -1,37 +1,38 @@
 -- Reading a formula for a sheet: its code words, its names on the sheet, its lengths.
-use Prim.Native.Nat.{ℕ, zero, suc, _+_, _/_, _%_, _≤_, _<_}
+use Prim.Native.Nat.{ℕ, zero, suc, _/_, _%_, _≤_}
 use native.Mathlib.Decide.{ℕ-discrete}
 use native.Mathlib.Omega.{arith}
-use native.Mathlib.Numerals.{add-one}
-use mathlib.Core.Path.{_≡_, refl, sym, _∙_, ap}
+use mathlib.Core.Path.{_≡_, refl, sym, _∙_, ap, ap₂}
 use mathlib.Core.Bool.{Bool, true, false, cond, not, _&&_, _||_, and-assoc, and-true}
 use mathlib.Core.List.{List, [], _∷_, _++_, map}
 use lib.Dec.{eqb, ltb}
-use lib.ListN.{length, take, drop, getD, length-map, drop-of-length-le}
-use lib.Seq.{take-at, drop-cons, getD-take, length-take-le}
-use borrow.Author.Tests.{ltb-false}
+use lib.ListN.{length, length-map}
+use borrow.Author.Tests.{ltb-false, eq-eqb, ne-eqb}
 use Rattle.signals.specs.Moment.{M}
 use Rattle.signals.proofs.Truth.{and-left, and-right}
 use Rattle.grammar.specs.Kinds as kinds
 use Rattle.grammar.specs.Tree.{Tree, Leaf, leaf, unary, binary, down, up, name}
 use Rattle.grammar.specs.Code.{Part, one, two, code, longest}
-use Rattle.grammar.specs.Formula.{partOf, codeOf, codeAfter, formulaFault, formulaTree, longestOf, partsOf, depthOf, accepted, nameAt}
+use Rattle.grammar.specs.Formula.{partOf, codeOf, formulaFault, formulaTree, longestOf, partsOf, depthOf, accepted}
 use Rattle.grammar.proofs.Coding.{code-exact}
 use Rattle.grammar.proofs.Reading.{reader-exact, parts-exact, longest-of}
 use Rattle.grammar.proofs.Faults.{fine-of}
-use Rattle.grammar.proofs.Storing.{code-after-front}
 use Rattle.names.specs.Names.{wellNamed}
 use Rattle.format.specs.Names.{same, among}
 use Rattle.format.specs.Reading.{sheetFault, signalsOn, names, Entry, nameOf}
-use Rattle.format.specs.Calls.{lookupFault}
+use Rattle.format.specs.Calls.{lookupFault, byteCount, placeOf, placeJudged}
+use Rattle.format.proofs.Judged.{judged-accepted}
+use Rattle.slices.specs.Bytes.{Bytes}
 use Rattle.format.proofs.Steps.{same-equal}
 use Rattle.calls.specs.OnSheet.{namesFound, leafFound}
 use Rattle.calls.proofs.FirstFault.{passed}
 use Rattle.calls.proofs.ReadingFaults.{derived}
 use Rattle.format.proofs.SheetLists.{AllSound, sheet-sound}
 use Rattle.code_words.specs.CodeWords.{operandsOf}
-use Rattle.machine.specs.Machine.{leafOf, leafLooked, partLooked, allLooked, AllKnown, partsIn}
-use Rattle.machine.proofs.Leaves.{leaf-name, leaf-up, leaf-down}
+use Rattle.machine.specs.Machine.{placedName, placedWord, placedCodes, wordFound, allFound}
+use Rattle.machine.proofs.KnownParts.{leafOf, leafLooked, partLooked, allLooked, AllKnown}
+use Rattle.machine.proofs.Leaves.{leaf-name, leaf-up, leaf-down, name-kind, name-count, same-word, placed-name, found-plain}
+use Rattle.machine.proofs.Leaves.{part-some, part-missing}
 use Rattle.machine.proofs.PartCodes.{part-leaf, part-one, part-two, name-none, arity-small}
 use Rattle.signals.specs.Answers.{firstOf}
 
@@ -136,24 +137,8 @@ module _ (text : List ℕ) (fine : formulaFault text ≡ 0) where
       let m : length (codeOf text) ≡ length (partsOf text) = sym (length-map (codeOf text) (partOf text)) ∙ ap length (code-is ∙ sym p) in
       omega (arith, clear .1)
 
-  pub parts-there : (codes old : List ℕ) → codes ≡ codeAfter text old → 32 ≤ length old → partsIn text codes (length (codeOf text)) ≡ code
-      (formulaTree text)
-  unfolding partsIn
-  parts-there codes old e h =
-      let s = code-short in
-      rw (
-        e,
-        code-after-front text old fine (omega arith),
-        take-at (codeOf text) (drop (length (codeOf text)) old)
-            (length (codeOf text)) refl,
-      ) code-is
-
--- one code word's name
-pub looked-name : (sheet text : List ℕ) (w : ℕ) (n : List ℕ) (fault : ℕ) → w % 16 ≡ kinds.NAME → n ≡ nameAt text (w / 256) (w / 16 % 16)
-    → fault ≡ lookupFault sheet n → eqb fault 0 ≡ partLooked sheet (partOf text w)
-looked-name sheet text w n fault e en ef = rw (part-leaf text w (name-none (w % 16) e), leaf-name text w e, ef, en)
-
-pub looked-other : (sheet text : List ℕ) (w : ℕ) → (w % 16 ≡ kinds.NAME → ⊥) → true ≡ partLooked sheet (partOf text w)
+-- a code word's name is found on an accepted sheet exactly where a lookup finds it
+looked-other : (sheet text : List ℕ) (w : ℕ) → (w % 16 ≡ kinds.NAME → ⊥) → true ≡ partLooked sheet (partOf text w)
 looked-other sheet text w ne = go (operandsOf w) refl (arity-small (w % 16))
   where
     leafy : Dec (w % 16 ≡ kinds.UP) → true ≡ leafLooked sheet (leafOf text w)
@@ -166,39 +151,30 @@ looked-other sheet text w ne = go (operandsOf w) refl (arity-small (w % 16))
     go (suc (suc zero)) e h = rw (part-two text w e)
     go (suc (suc (suc k))) e h = absurd (omega arith)
 
--- the parts left after i
-unfoldable pub rest : List ℕ → List ℕ → ℕ → ℕ → List Part
-rest text codes n i = map (partOf text) (drop i (take n codes))
+module _ (sheet text : List ℕ) (ok : sheetFault sheet ≡ 0) (bytes : Bytes sheet) where
+  found-name : (n : List ℕ) → wordFound (placedName (placeJudged sheet n)) ≡ eqb (lookupFault sheet n) 0
+  unfolding wordFound
+  found-name n = rw (judged-accepted sheet n ok) (go (ℕ-discrete (lookupFault sheet n) 0))
+    where
+      go : Dec (lookupFault sheet n ≡ 0)
+          → not (eqb (placedName (placeOf sheet n) % 16) kinds.NAME && eqb (placedName (placeOf sheet n) / 16 % 512) 0)
+          ≡ eqb (lookupFault sheet n) 0
+      go (yes z) =
+          rw (name-kind (placeOf sheet n), name-count (placeOf sheet n), eq-eqb _ _ z)
+          (ap not (ne-eqb (byteCount (placeOf sheet n) / 4 % 512) 0 (λ e. absurd (omega (arith, part-some sheet n bytes z .0, part-some sheet n bytes z .1)))))
+      go (no x) = rw (name-kind (placeOf sheet n), name-count (placeOf sheet n), ne-eqb _ _ x, part-missing sheet n x)
 
-pub rest-next : (text codes : List ℕ) (n i : ℕ) → n ≤ length codes → i < n → rest text codes n i ≡ partOf text
-    (getD codes i 0) ∷ rest text codes n (i + 1)
-unfolding rest
-rest-next text codes n i h l =
-    let long : length (take n codes) ≡ n = length-take-le n codes h in
-    let g : getD (take n codes) i 0 ≡ getD codes i 0 = getD-take n codes i 0 l in
-    rw (add-one, drop-cons (take n codes) i 0 (omega arith), g)
+  found-word : (w : ℕ) → wordFound (placedWord sheet text w) ≡ partLooked sheet (partOf text w)
+  found-word w = go (ℕ-discrete (w % 16) kinds.NAME)
+    where
+      go : Dec (w % 16 ≡ kinds.NAME) → wordFound (placedWord sheet text w) ≡ partLooked sheet (partOf text w)
+      go (yes e) = rw (placed-name sheet text w e, part-leaf text w (name-none (w % 16) e), leaf-name text w e) (found-name _)
+      go (no x) = rw (same-word sheet text w x) (found-plain w x ∙ looked-other sheet text w x)
 
-pub rest-none : (text codes : List ℕ) (n i : ℕ) → n ≤ length codes → n ≤ i → rest text codes n i ≡ []
-unfolding rest
-rest-none text codes n i h l =
-    let long : length (take n codes) ≡ n = length-take-le n codes h in
-    rw (drop-of-length-le (take n codes) {i = i} (omega arith))
+  found-words : (ws : List ℕ) → allFound (map (placedWord sheet text) ws) ≡ allLooked sheet (map (partOf text) ws)
+  unfolding allFound allLooked
+  found-words [] = refl
+  found-words (w ∷ ws) = ap₂ _&&_ (found-word w) (found-words ws)
 
--- the loop over all of them
-module _ (sheet text codes : List ℕ) (n : ℕ) where
-  pub all-of : allLooked sheet (partsIn text codes n) ≡ allLooked sheet (rest text codes n 0)
-  unfolding partsIn rest
-  all-of = refl
-
-  pub none-left : (i : ℕ) → n ≤ length codes → n ≤ i → allLooked sheet (rest text codes n i) ≡ true
-  unfolding allLooked
-  none-left i h l = rw (rest-none text codes n i h l)
-
-  module _ (i : ℕ) (h : n ≤ length codes) (l : i < n) (b : Bool) (e : b ≡ partLooked sheet (partOf text (getD codes i 0))) where
-    pub next-true : b ≡ true → allLooked sheet (rest text codes n i) ≡ allLooked sheet (rest text codes n (i + 1))
-    unfolding allLooked
-    next-true t = rw (rest-next text codes n i h l, ← e, t)
-
-    pub next-false : b ≡ false → allLooked sheet (rest text codes n i) ≡ false
-    unfolding allLooked
-    next-false t = rw (rest-next text codes n i h l, ← e, t)
+  pub names-found : formulaFault text ≡ 0 → allFound (placedCodes sheet text) ≡ namesFound sheet (formulaTree text)
+  names-found fine = found-words (codeOf text) ∙ ap (allLooked sheet) (code-is text fine) ∙ looked-tree sheet ok (formulaTree text)

@@ -1,26 +1,25 @@
 -- The answers of the calls on sheets are small: a sheet has at most 32 signals of at most 1,034 bytes.
-use Prim.Native.Nat.{ℕ, zero, suc, _+_, _-_, _*_, _<_, _≤_}
+use Prim.Native.Nat.{ℕ, _+_, _*_, _<_, _≤_}
 use native.Mathlib.Omega.{arith}
 use mathlib.Core.Path.{_≡_, refl, sym, ap, _∙_}
 use mathlib.Core.Bool.{Bool, true, false, not, cond, _||_}
 use mathlib.Core.Logic.{inl, inr}
 use mathlib.Core.List.{List, [], _∷_, _++_}
 use lib.Dec.{eqb, ltb, leb}
-use lib.ListN.{length, drop, length-append, length-drop}
-use borrow.Author.Tests.{eqb-true}
+use lib.ListN.{length, length-append}
 use Rattle.signals.specs.Words.{listFault}
 use Rattle.signals.specs.Answers.{writtenOf}
 use Rattle.slices.specs.Bytes.{bytes16}
 use Rattle.names.specs.Names.{wellNamed}
 use Rattle.format.specs.Names.{among}
-use Rattle.format.specs.Reading.{signalSize, wordCount, nameAt, signalFault, signalsFault, sheetFault, countOn, signalsOn, names, Entry}
+use Rattle.format.specs.Reading.{sheetFault, signalsOn, names, Entry}
 use Rattle.format.specs.Reading.{entry}
 use Rattle.format.specs.Writing.{entryBytes, entriesBytes, sheetBytes}
 use Rattle.format.specs.Calls.{faultOfPlace, beginFault, lookupFault, placeOf, appended, appendFault}
 use Rattle.format.specs.declared.Place.{Place}
 use Rattle.format.specs.declared.Place.the-variants as place
-use Rattle.format.proofs.Judging.{sound}
-use Rattle.format.proofs.Locating.{front-none, signals-none, place-within, lookup-none, place-fault}
+use Rattle.format.proofs.Locating.{place-within, lookup-none, place-fault}
+use Rattle.format.proofs.SheetSize.{sheet-short}
 use Rattle.format.proofs.Fields.{named-short}
 use Rattle.format.proofs.Filling.{two, length-entry}
 use Rattle.format.proofs.Accepting.{listed-some}
@@ -29,7 +28,6 @@ use Rattle.format.proofs.SheetLists.{Sound, AllSound, sheet-sound}
 use Rattle.format.proofs.FaultNumbers.{OfSheets, sheet-of}
 use Rattle.packing.proofs.SmallAnswers.{SmallWritten, SmallPlace, choice, list-small, written-small}
 use Rattle.signals.specs.Answers.{firstOf}
-use Rattle.signals.proofs.FirstFault.{both-none}
 
 pub sheet-small : (sheet : List ℕ) → sheetFault sheet < 65536
 sheet-small sheet = go (sheetFault sheet) (sheet-of sheet)
@@ -46,24 +44,6 @@ pub begin-small : (room : ℕ) → SmallWritten (writtenOf (beginFault room) (sh
 unfolding beginFault
 begin-small room =
     written-small _ _ (choice (ltb room (length (sheetBytes []))) 7 0 (omega arith) (omega arith)) (λ z. empty-short)
-
-signals-short : (earlier : List (List ℕ)) (n : ℕ) (rest : List ℕ) → signalsFault earlier n rest ≡ 0 → length rest ≤ 1034 * n
-unfolding signalsFault signalSize firstOf
-signals-short earlier zero rest z = last (eqb (length rest) 0) refl z
-  where
-    last : (t : Bool) → eqb (length rest) 0 ≡ t → _≡_ {A = ℕ} (cond t 0 15) 0 → length rest ≤ 0
-    last true e k = omega (arith, eqb-true (length rest) 0 e)
-    last false e k = absurd (omega arith)
-signals-short earlier (suc n) rest z =
-    let e = both-none (signalFault earlier rest) _ z in
-    let m = sound earlier rest (e .0) .most in
-    let h = signals-short (earlier ++ nameAt rest ∷ []) n (drop (10 + 4 * wordCount rest) rest) (e .1) in
-    omega (arith, length-drop (10 + 4 * wordCount rest) rest)
-
-sheet-short : (sheet : List ℕ) → sheetFault sheet ≡ 0 → length sheet ≤ 33095
-sheet-short sheet z =
-    let f = front-none sheet z .few in
-    omega (arith, signals-short [] (countOn sheet) (drop 7 sheet) (signals-none sheet z), length-drop 7 sheet)
 
 lookup-small : (sheet name : List ℕ) → lookupFault sheet name < 65536
 unfolding lookupFault firstOf

@@ -1,69 +1,67 @@
--- A formula read for a sheet that is accepted: 10, 11, 8, 12, 13, or the code words of its parts.
+-- A formula read for a sheet that is accepted: 10, 11, 8, 12, 13, or the code words of its parts with the places of its names.
 use Prim.Native.Nat.{ℕ, _≤_}
 use native.Mathlib.Omega.{arith}
 use mathlib.Core.Path.{_≡_, refl, sym, _∙_, ap}
-use mathlib.Core.Bool.{Bool, true, false, cond}
-use mathlib.Core.List.{List}
+use mathlib.Core.List.{List, _++_}
 use mathlib.Core.Logic.{_⊎_, inl, inr}
-use lib.ListN.{length, take, length-take}
+use lib.ListN.{length, take, drop, length-map}
+use lib.Seq.{take-at}
 use borrow.Author.Tests.{eq-eqb}
+use Rattle.slices.specs.Bytes.{Bytes}
 use Rattle.signals.specs.Answers.{firstOf}
 use Rattle.signals.specs.declared.Written.{Written}
 use Rattle.signals.specs.declared.Written.the-variants.{Count, Refused}
 use Rattle.signals.proofs.FirstFault.{both-none, first-is, next-is}
 use Rattle.grammar.specs.Formula.{formulaFault, formulaTree, codeOf}
-use Rattle.grammar.proofs.Storing.{code-after-length}
 use Rattle.format.specs.Reading.{sheetFault}
-use Rattle.calls.specs.OnSheet.{namesFound}
 use Rattle.calls.specs.Calls.{readingFault}
 use Rattle.calls.proofs.FirstFault.{zero-or-not}
-use Rattle.machine.specs.Machine.{partsIn, Coded}
-use Rattle.machine.proofs.Preparing.{looked-tree, known-tree, lengths-small, code-short, parts-there}
+use Rattle.machine.specs.Machine.{placedWord, placedCodes, Coded}
+use Rattle.machine.proofs.Preparing.{names-found, code-short}
+use Rattle.machine.proofs.FormulaRan.{read-fine}
 use Rattle.machine.proofs.Answers.{counted, refused-by}
-use Rattle.preparing.specs.Preparing.{preparingFault, PreparesFor, judgedFault, judgedCode, JudgesAndPrepares}
+use Rattle.preparing.specs.Preparing.{preparingFault, placedAfter, PreparesFor, judgedFault, judgedCode, JudgesAndPrepares}
 
-same : (sheet text : List ℕ) → sheetFault sheet ≡ 0 → preparingFault sheet text ≡ readingFault sheet text
-unfolding preparingFault readingFault
-same sheet text ok = rw (looked-tree sheet ok (formulaTree text))
+module _ (sheet text : List ℕ) (bytes : Bytes sheet) (ok : sheetFault sheet ≡ 0) where
+  same : preparingFault sheet text ≡ readingFault sheet text
+  unfolding preparingFault readingFault
+  same = go (zero-or-not (formulaFault text))
+    where
+      go : (formulaFault text ≡ 0) ⊎ (¬ (formulaFault text ≡ 0)) → preparingFault sheet text ≡ readingFault sheet text
+      go (inl z) = rw (names-found sheet text ok bytes z)
+      go (inr x) = first-is (formulaFault text) _ x ∙ sym (first-is (formulaFault text) _ x)
 
-module _ (sheet text codes old : List ℕ) (answer : Written) (ok : sheetFault sheet ≡ 0)
-    (p : PreparesFor sheet text old answer codes) where
-  pub read-refused : (f : ℕ) → answer ≡ Refused f → (readingFault sheet text ≡ f) × (f ≡ 0 → ⊥)
-  read-refused f e =
-      let q = refused-by (preparingFault sheet text) (codeOf text) f (sym (p .0) ∙ e) in
-      (sym (same sheet text ok) ∙ q .0, q .1)
+  module _ (codes old : List ℕ) (answer : Written) (p : PreparesFor sheet text old answer codes) where
+    pub read-refused : (f : ℕ) → answer ≡ Refused f → (readingFault sheet text ≡ f) × (f ≡ 0 → ⊥)
+    read-refused f e =
+        let q = refused-by (preparingFault sheet text) (codeOf text) f (sym (p .0) ∙ e) in
+        (sym same ∙ q .0, q .1)
 
-  module _ (n : ℕ) (e : answer ≡ Count n) where
-    pub read-fine : readingFault sheet text ≡ 0
-    read-fine = sym (same sheet text ok) ∙ counted (preparingFault sheet text) (codeOf text) n (sym (p .0) ∙ e) .0
+    module _ (n : ℕ) (e : answer ≡ Count n) where
+      pub read-none : readingFault sheet text ≡ 0
+      read-none = sym same ∙ counted (preparingFault sheet text) (codeOf text) n (sym (p .0) ∙ e) .0
 
-    fine : (formulaFault text ≡ 0) × (namesFound sheet (formulaTree text) ≡ true)
-    unfolding readingFault
-    fine = let q = both-none (formulaFault text) _ read-fine in (q .0, named (namesFound sheet (formulaTree text)) (q .1))
-      where
-        named : (b : Bool) → _≡_ {A = ℕ} (cond b 0 13) 0 → b ≡ true
-        named true h = refl
-        named false h = absurd (omega arith)
+      count : n ≡ length (codeOf text)
+      count = counted (preparingFault sheet text) (codeOf text) n (sym (p .0) ∙ e) .1
 
-    few : n ≤ 32
-    few = let s = code-short text (fine .0) in omega (arith, counted (preparingFault sheet text) (codeOf text) n (sym (p .0) ∙ e) .1)
+      stored : codes ≡ placedCodes sheet text ++ drop (length (codeOf text)) old
+      unfolding placedAfter
+      stored = p .1 ∙ rw (eq-eqb (formulaFault text) 0 (read-fine sheet text read-none .0))
 
-    pub few-codes : length old ≡ 32 → n ≤ length codes
-    few-codes long = let l = ap length (p .1) ∙ code-after-length text old in omega (arith, few)
+      pub few-codes : n ≤ 32
+      few-codes = let s = code-short text (read-fine sheet text read-none .0) in omega (arith, count)
 
-    pub coded : length old ≡ 32 → Coded sheet text (take n codes)
-    unfolding partsIn
-    coded long =
-        let k = counted (preparingFault sheet text) (codeOf text) n (sym (p .0) ∙ e) .1 in
-        let s = length-take n codes in
-        record {
-          few = omega (arith, few);
-          parts-are = rw k (parts-there text (fine .0) codes old (p .1) (omega arith));
-          known = known-tree sheet ok (formulaTree text) (fine .1) (lengths-small text (fine .0));
-        }
+      pub coded : Coded sheet text (take n codes)
+      coded =
+          let long : n ≡ length (placedCodes sheet text) = count ∙ sym (length-map (codeOf text) (placedWord sheet text)) in
+          record {
+            read = read-none;
+            placed = ap (take n) stored ∙ take-at (placedCodes sheet text) (drop (length (codeOf text)) old) n (sym long);
+          }
 
 -- the same after the sheet's faults
-module _ (sheet text codes old : List ℕ) (answer : Written) (p : JudgesAndPrepares sheet text old answer codes) where
+module _ (sheet text : List ℕ) (bytes : Bytes sheet) (codes old : List ℕ) (answer : Written)
+    (p : JudgesAndPrepares sheet text old answer codes) where
   pub judged-refused : (f : ℕ) → answer ≡ Refused f → (firstOf (sheetFault sheet) (readingFault sheet text) ≡ f) × (f ≡ 0 → ⊥)
   unfolding judgedFault
   judged-refused f e =
@@ -72,7 +70,7 @@ module _ (sheet text codes old : List ℕ) (answer : Written) (p : JudgesAndPrep
     where
       go : (sheetFault sheet ≡ 0) ⊎ (¬ (sheetFault sheet ≡ 0))
           → firstOf (sheetFault sheet) (readingFault sheet text) ≡ judgedFault sheet text
-      go (inl z) = ap (firstOf (sheetFault sheet)) (sym (same sheet text z))
+      go (inl z) = ap (firstOf (sheetFault sheet)) (sym (same sheet text bytes z))
       go (inr x) = first-is (sheetFault sheet) _ x ∙ sym (first-is (sheetFault sheet) (preparingFault sheet text) x)
 
   module _ (n : ℕ) (e : answer ≡ Count n) where
@@ -88,11 +86,8 @@ module _ (sheet text codes old : List ℕ) (answer : Written) (p : JudgesAndPrep
       rw (eq-eqb (sheetFault sheet) 0 sheet-fine) at (p .1),
     )
 
-    pub judged-fine : readingFault sheet text ≡ 0
-    judged-fine = read-fine sheet text codes old answer sheet-fine prepares n e
+    pub judged-few : n ≤ 32
+    judged-few = few-codes sheet text bytes sheet-fine codes old answer prepares n e
 
-    pub judged-few : length old ≡ 32 → n ≤ length codes
-    judged-few = few-codes sheet text codes old answer sheet-fine prepares n e
-
-    pub judged-coded : length old ≡ 32 → Coded sheet text (take n codes)
-    judged-coded = coded sheet text codes old answer sheet-fine prepares n e
+    pub judged-coded : Coded sheet text (take n codes)
+    judged-coded = coded sheet text bytes sheet-fine codes old answer prepares n e

@@ -1,31 +1,34 @@
--- Mirrored: Reading a formula for a sheet as a call: 10, 11, 8, 12 of the formula, then 13 where a name's lookup has a fault.
+-- Mirrored: Reading a formula for a sheet as a call: 10, 11, 8, 12 of the formula, then 13 where a name is not found.
 use Prim.Native.Nat.{ℕ}
 use mathlib.Core.Path.{_≡_}
 use mathlib.Core.Bool.{cond}
-use mathlib.Core.List.{List}
+use mathlib.Core.List.{List, _++_}
 use lib.Dec.{eqb}
+use lib.ListN.{length, drop}
 use Rattle.signals.specs.Answers.{firstOf, writtenOf}
 use Rattle.signals.specs.declared.Written.{Written}
-use Rattle.grammar.specs.Code.{code}
-use Rattle.grammar.specs.Formula.{formulaFault, formulaTree, codeOf, codeAfter}
+use Rattle.grammar.specs.Formula.{formulaFault, codeOf}
 use Rattle.format.specs.Reading.{sheetFault}
-use Rattle.machine.specs.Machine.{allLooked}
+use Rattle.machine.specs.Machine.{placedCodes, allFound}
 
--- on a sheet that is refused every lookup has its fault, so that a formula with a name gets 13 there
+-- on a sheet that is refused a name is sought among the whole signals at its front
 unfoldable pub preparingFault : List ℕ → List ℕ → ℕ
-preparingFault sheet text = firstOf (formulaFault text) (cond (allLooked sheet (code (formulaTree text))) 0 13)
+preparingFault sheet text = firstOf (formulaFault text) (cond (allFound (placedCodes sheet text)) 0 13)
 
--- its answer, and the code words after it: those of a formula without 10, 11, 8, 12
+-- the code words after it: those of a formula without 10, 11, 8, 12, with the places of its names
+unfoldable pub placedAfter : List ℕ → List ℕ → List ℕ → List ℕ
+placedAfter sheet text codes = cond (eqb (formulaFault text) 0) (placedCodes sheet text ++ drop (length (codeOf text)) codes) codes
+
 abbrev pub PreparesFor : List ℕ → List ℕ → List ℕ → Written → List ℕ → Type 0
 PreparesFor sheet text codes answer after =
-    (answer ≡ writtenOf (preparingFault sheet text) (codeOf text)) × (after ≡ codeAfter text codes)
+    (answer ≡ writtenOf (preparingFault sheet text) (codeOf text)) × (after ≡ placedAfter sheet text codes)
 
 -- the same after the sheet's faults
 unfoldable pub judgedFault : List ℕ → List ℕ → ℕ
 judgedFault sheet text = firstOf (sheetFault sheet) (preparingFault sheet text)
 
 unfoldable pub judgedCode : List ℕ → List ℕ → List ℕ → List ℕ
-judgedCode sheet text codes = cond (eqb (sheetFault sheet) 0) (codeAfter text codes) codes
+judgedCode sheet text codes = cond (eqb (sheetFault sheet) 0) (placedAfter sheet text codes) codes
 
 abbrev pub JudgesAndPrepares : List ℕ → List ℕ → List ℕ → Written → List ℕ → Type 0
 JudgesAndPrepares sheet text codes answer after =

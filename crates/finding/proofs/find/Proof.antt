@@ -9,7 +9,7 @@ use lib.ListN.{length, drop, length-drop}
 use denote.Ref.{now}
 use Rattle.slices.proofs.Steps.{part-rest}
 use Rattle.format.specs.Reading.{signalSize}
-use Rattle.format.specs.Walk.{placeAmong}
+use Rattle.format.specs.Calls.{placeAmong}
 use Rattle.format.proofs.Walking.{size-least, place-short, place-end, place-cut, found, not-here}
 use Rattle.finding.proofs.find.Statement.{statement}
 use Rattle.finding.proofs.find.Tie as tie

@@ -1,20 +1,21 @@
--- `preparing::found` looks a part's name up on the sheet.
-use Rattle.machine.proofs.Preparing.{looked-name, looked-other}
+-- `preparing::found` meets its contract.
 use borrow.Author.Needs.{needs}
+use Prim.Native.Nat.{_/_, _%_}
+use mathlib.Core.Path.{_≡_, refl}
+use borrow.Author.Tests.{eq-eqb, ne-eqb}
+use Rattle.grammar.specs.Kinds as kinds
+use Rattle.preparing.proofs.Placing.{found-some, found-other}
 use Rattle.preparing.proofs.found.Statement.{statement}
 use Rattle.preparing.proofs.found.Tie as tie
 
-name-in-requires : tie.Need-name-in-requires
-name-in-requires c κs = search needs
-
-lookup-fault-requires : tie.Need-lookup-fault-requires
-lookup-fault-requires c κs = search needs
-
 returns : tie.Need-returns
-returns c = looked-name _ _ _ _ _ (c .before .before .if1 .taken) (c .before .name-in .ensures) (c .lookup-fault .ensures)
+returns c = found-some _ _ (c .before .if1 .taken) (c .if2 .taken)
 
 returns-2 : tie.Need-returns-2
-returns-2 c = looked-other _ _ _ (c .if1 .left)
+returns-2 c = found-other _ _ (c .before .if1 .taken) (c .if2 .left)
+
+returns-3 : tie.Need-returns-3
+returns-3 c = search needs
 
 pub found-spec : {M : Type 1} → statement M
-found-spec = tie.close (tie.spec name-in-requires lookup-fault-requires returns returns-2)
+found-spec = tie.close (tie.spec returns returns-2 returns-3)

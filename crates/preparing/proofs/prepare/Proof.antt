@@ -1,7 +1,7 @@
--- `preparing::prepare` meets its contract: the formula is read, then its names are looked up.
+-- `preparing::prepare` meets its contract: the formula is read, then its names are placed.
+use borrow.Author.Needs.{needs}
 use native.Mathlib.Omega.{arith}
 use Rattle.preparing.proofs.Reading.{refused, few, found, lacking}
-use borrow.Author.Needs.{needs}
 use Rattle.preparing.proofs.prepare.Statement.{statement}
 use Rattle.preparing.proofs.prepare.Tie as tie
 
@@ -11,12 +11,12 @@ read-requires c κs = search needs
 enum-known-answer : tie.Need-enum-known-answer
 enum-known-answer c = search needs
 
-names-found-requires : tie.Need-names-found-requires
-names-found-requires c κs =
-    let reading = c .before .before .before .before .before in
+place-names-requires : tie.Need-place-names-requires
+place-names-requires c κs =
+    let reading = c .before .before .before .before in
     let start = reading .before .before .before .before in
     let n = few (start .args .sheet .now) (start .args .text .now) _ (start .args .codes .now) _
-    (reading .read .ensures .0) (reading .read .ensures .1) _ (c .before .before .before .answer .given .1) in
+    (reading .read .ensures .0) (reading .read .ensures .1) _ (c .before .before .answer .given .1) in
     omega arith
 
 enum-known-answer-2 : tie.Need-enum-known-answer-2
@@ -24,19 +24,21 @@ enum-known-answer-2 c = search needs
 
 returns : tie.Need-returns
 returns c =
-    let reading = c .before .before .before .before .before .before .before in
+    let names = c .before in
+    let reading = names .before .before .before .before .before in
     let start = reading .before .before .before .before in
     found (start .args .sheet .now) (start .args .text .now) _ (start .args .codes .now) _
-    (reading .read .ensures .0) (reading .read .ensures .1) _ (c .before .before .before .before .before .answer .given .1)
-    (omega arith) _ (c .before .names-found .ensures) (c .if1 .taken)
+    (reading .read .ensures .0) (reading .read .ensures .1) _ (names .before .before .before .answer .given .1)
+    (omega arith) _ _ (names .place-names .ensures) (c .if1 .taken)
 
 returns-2 : tie.Need-returns-2
 returns-2 c =
-    let reading = c .before .before .before .before .before .before .before in
+    let names = c .before in
+    let reading = names .before .before .before .before .before in
     let start = reading .before .before .before .before in
     lacking (start .args .sheet .now) (start .args .text .now) _ (start .args .codes .now) _
-    (reading .read .ensures .0) (reading .read .ensures .1) _ (c .before .before .before .before .before .answer .given .1)
-    (omega arith) _ (c .before .names-found .ensures) (c .if1 .left)
+    (reading .read .ensures .0) (reading .read .ensures .1) _ (names .before .before .before .answer .given .1)
+    (omega arith) _ _ (names .place-names .ensures) (c .if1 .left)
 
 returns-3 : tie.Need-returns-3
 returns-3 c =
@@ -51,7 +53,7 @@ prepare-spec =
     (tie.spec
     read-requires
     enum-known-answer
-    names-found-requires
+    place-names-requires
     enum-known-answer-2
     returns
     returns-2

@@ -1,0 +1,3 @@
+-- A source's words: what the functions read, and the list that a source names.
+pub mod SourceWords
+pub mod Sourcing
