@@ -12,7 +12,7 @@
  * inputs or each other. Inputs are only read.
  *
  * Stack. The proofs do not speak of it. A call needs at most SGL_STACK_BYTES bytes of stack, whatever its input: the readers of
- * a formula call each other as deep as its text goes, 64 bytes a bracket, and it has at most 1,024 bytes. Most calls need 12 KB.
+ * a formula call each other as deep as its text goes, 64 bytes a bracket, and it has at most 1,024 bytes. Most calls need 4 KB.
  *
  * Results.
  *   uint32_t  65536 * fault + count of the words (for sheets, bytes) written. Where the call tells a value: + 1 for yes or up,

@@ -19,7 +19,7 @@ use Rattle.moves.specs.Moves.{failed, putCode, leafWords, leafCode}
 use Rattle.formulas.specs.Readers.{viewOf, Ready, Done}
 use Rattle.grammar.proofs.Bytes.{by-cond}
 use Rattle.formulas.proofs.MarkSteps.{badMark, movedMark, putMark, moved-leaves, failed-leaves, put-leaves}
-use Rattle.formulas.proofs.Doing.{view-next, starting, moving-by, putting, becoming, turned}
+use Rattle.formulas.proofs.Doing.{view-next, kept, starting, moving-by, putting, becoming, turned}
 
 abbrev pub LeafRead : List ℕ → ℕ → Mark → List ℕ → List ℕ → Mark → Type 0
 LeafRead text deep m old new r = Done (λ n. leafAt coded text deep) 0 text m old new r
@@ -60,48 +60,49 @@ leaf-bounds text m h =
           within = omega (arith, run-most nameByte (drop (m .at) text), length-drop (m .at) text);
         }
 
-module _ (text old : List ℕ) (m : Mark) (deep : ℕ) (g : Ready text old m deep) where
+module _ (text : List ℕ) (m : Mark) (deep : ℕ) (out : List ℕ) where
   -- what is put out for a constant or name
   leaf-put : 0 < leafEnd text m →
-      leafAt coded text deep (viewOf m old)
-      ≡ put (leafWord (nextMark text m) (m .at) (leafEnd text m)) deep 0 (stepped (leafEnd text m - m .at) (viewOf m old))
+      leafAt coded text deep (viewOf m out)
+      ≡ put (leafWord (nextMark text m) (m .at) (leafEnd text m)) deep 0 (stepped (leafEnd text m - m .at) (viewOf m out))
   unfolding leafAt leafEnd leafWord
   leaf-put h =
       go (eqb (nextMark text m) 48) refl (eqb (nextMark text m) 49) refl (letter (nextMark text m)) refl (leb (count text m) 8) refl h
     where
-      after : (w k n : ℕ) → k ≡ n → put w deep 0 (stepped k (viewOf m old)) ≡ put w deep 0 (stepped n (viewOf m old))
-      after w k n e = ap (λ (j : ℕ). put w deep 0 (stepped j (viewOf m old))) e
+      after : (w k n : ℕ) → k ≡ n → put w deep 0 (stepped k (viewOf m out)) ≡ put w deep 0 (stepped n (viewOf m out))
+      after w k n e = ap (λ (j : ℕ). put w deep 0 (stepped j (viewOf m out))) e
 
       go : (p : Bool) → eqb (nextMark text m) 48 ≡ p → (q : Bool) → eqb (nextMark text m) 49 ≡ q → (r : Bool) →
           letter (nextMark text m) ≡ r →
           (s : Bool) → leb (count text m) 8 ≡ s → 0 < leafEnd text m →
-          leafAt coded text deep (viewOf m old)
-          ≡ put (leafWord (nextMark text m) (m .at) (leafEnd text m)) deep 0 (stepped (leafEnd text m - m .at) (viewOf m old))
-      go true p q e r f s k pos = rw (view-next text m old, p) (after 0 1 (m .at + 1 - m .at) (omega arith))
-      go false p true e r f s k pos = rw (view-next text m old, p, e) (after 1 1 (m .at + 1 - m .at) (omega arith))
+          leafAt coded text deep (viewOf m out)
+          ≡ put (leafWord (nextMark text m) (m .at) (leafEnd text m)) deep 0 (stepped (leafEnd text m - m .at) (viewOf m out))
+      go true p q e r f s k pos = rw (view-next text m out, p) (after 0 1 (m .at + 1 - m .at) (omega arith))
+      go false p true e r f s k pos = rw (view-next text m out, p, e) (after 1 1 (m .at + 1 - m .at) (omega arith))
       go false p false e true f true k pos =
           let n : count text m ≡ m .at + count text m - m .at = omega arith in
-          rw (view-next text m old, p, e, f, k)
-          (ap (λ (j : ℕ). put (nameWord (m .at) j) deep 0 (stepped j (viewOf m old))) n ∙ refl)
+          rw (view-next text m out, p, e, f, k)
+          (ap (λ (j : ℕ). put (nameWord (m .at) j) deep 0 (stepped j (viewOf m out))) n ∙ refl)
       go false p false e true f false k pos = let z : 0 < 0 = rw (p, e, f, k) at pos in absurd (omega arith)
       go false p false e false f s k pos = let z : 0 < 0 = rw (p, e, f) at pos in absurd (omega arith)
 
-  leaf-none : leafEnd text m ≤ 0 → leafAt coded text deep (viewOf m old) ≡ bad (viewOf m old)
+  leaf-none : leafEnd text m ≤ 0 → leafAt coded text deep (viewOf m out) ≡ bad (viewOf m out)
   unfolding leafAt leafEnd
   leaf-none h =
       go (eqb (nextMark text m) 48) refl (eqb (nextMark text m) 49) refl (letter (nextMark text m)) refl (leb (count text m) 8) refl h
     where
       go : (p : Bool) → eqb (nextMark text m) 48 ≡ p → (q : Bool) → eqb (nextMark text m) 49 ≡ q → (r : Bool) →
           letter (nextMark text m) ≡ r →
-          (s : Bool) → leb (count text m) 8 ≡ s → leafEnd text m ≤ 0 → leafAt coded text deep (viewOf m old) ≡ bad (viewOf m old)
+          (s : Bool) → leb (count text m) 8 ≡ s → leafEnd text m ≤ 0 → leafAt coded text deep (viewOf m out) ≡ bad (viewOf m out)
       go true p q e r f s k none = let z : m .at + 1 ≤ 0 = rw p at none in absurd (omega arith)
       go false p true e r f s k none = let z : m .at + 1 ≤ 0 = rw (p, e) at none in absurd (omega arith)
       go false p false e true f true k none =
           let z : m .at + count text m ≤ 0 = rw (p, e, f, k) at none in
           absurd (omega (arith, run-some nameByte text m (none-at-0 true) (letter-name (nextMark text m) f)))
-      go false p false e true f false k none = rw (view-next text m old, p, e, f, k) refl
-      go false p false e false f s k none = rw (view-next text m old, p, e, f) refl
+      go false p false e true f false k none = rw (view-next text m out, p, e, f, k) refl
+      go false p false e false f s k none = rw (view-next text m out, p, e, f) refl
 
+module _ (text old : List ℕ) (m : Mark) (deep : ℕ) (g : Ready text old m deep) where
   module _ (h : 0 < leafEnd text m) where
     ends : Leaf text m (leafEnd text m)
     ends = leaf-bounds text m (g .within) h
@@ -123,14 +124,21 @@ module _ (text old : List ℕ) (m : Mark) (deep : ℕ) (g : Ready text old m dee
         let e : w ≡ leafWord (nextMark text m) (m .at) (leafEnd text m) = rw (from, to) at e in
         let d = putting w deep 0 g past strict in
         turned (qn ∙ ap (λ (y : Mark). putCode y w old) q) (qr ∙ ap (λ (y : Mark). putMark y deep 0) q)
-        (becoming d (λ n. leaf-put h ∙ ap (λ (v : ℕ). put v deep 0 (stepped (leafEnd text m - m .at) (viewOf m old))) (sym e)))
+        (becoming d (λ n out.
+        leaf-put text m deep out h ∙ ap (λ (v : ℕ). put v deep 0 (stepped (leafEnd text m - m .at) (viewOf m out))) (sym e)))
 
   bad-path : leafEnd text m ≤ 0 → (r : Mark) → r ≡ badMark m → LeafRead text deep m old old r
   unfolding bad
   bad-path h r q =
       turned refl q
-      (becoming {G = λ n s. bad s} (record { same = λ n h. refl; room = g .room; within = g .within; on = omega arith; few = omega arith })
-      (λ n. leaf-none h))
+      (becoming {G = λ n s. bad s} (record {
+        same = λ n h s v. kept bad refl (λ out. refl) v;
+        room = g .room;
+        within = g .within;
+        on = omega arith;
+        few = omega arith;
+      })
+      (λ n out. leaf-none text m deep out h))
 
 -- what `leaf` leaves
 pub leaf-leaves : (m : List ℕ) {text old new r : List ℕ} {deep : ℕ} → length m ≡ 5 → Ready text old (markOf m) deep →

@@ -13,7 +13,7 @@ use Rattle.marks.specs.Marks.{Mark, markOf, nextMark}
 use Rattle.openings.specs.Opening.{openKind, openBytes}
 use Rattle.tokens.specs.Tokens.{lengthEnd}
 use Rattle.openings.proofs.Openings.{none-bytes}
-use Rattle.moves.specs.Moves.{failed, movedTo, begun, isNext, passed, expected, lengthPassed, hasRoom, putWords}
+use Rattle.moves.specs.Moves.{failed, movedTo, begun, isNext, passed, expected, lengthPassed, isCounted, putWords}
 
 -- the words of a mark
 abbrev pub Marked : List ℕ → Mark → Type 0
@@ -33,7 +33,7 @@ lengthMark text m = cond (ltb 0 (lengthEnd text m)) (movedMark m (lengthEnd text
 
 unfoldable pub putMark : Mark → ℕ → ℕ → Mark
 putMark m deep ticks =
-    cond (hasRoom m) (record {
+    cond (isCounted m) (record {
       ok = m .ok;
       at = m .at;
       parts = m .parts + 1;
@@ -70,7 +70,7 @@ pub put-leaves : (m : List ℕ) (deep ticks : ℕ) {r : List ℕ} → length m �
 unfolding markOf putWords putMark
 put-leaves m deep ticks h q =
     rw q (five (λ (x : List ℕ). Marked (putWords x deep ticks) (putMark (markOf x) deep ticks))
-    (λ a b c d e. go (hasRoom (markOf (a ∷ b ∷ c ∷ d ∷ e ∷ []))) a b c d e) m h)
+    (λ a b c d e. go (isCounted (markOf (a ∷ b ∷ c ∷ d ∷ e ∷ []))) a b c d e) m h)
   where
     go : (t : Bool) (a b c d e : ℕ) →
         Marked (cond t (a ∷ b ∷ (c + 1) ∷ max d deep ∷ max e ticks ∷ []) (a ∷ b ∷ c ∷ d ∷ e ∷ []))

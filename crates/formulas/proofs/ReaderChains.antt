@@ -31,10 +31,10 @@ module _ {text : List ℕ} {deep byte kind level : ℕ} {operand rest whole : �
 
   pub whole-path : {mid new : List ℕ} {x r : Mark} → Done operand level text m old mid x → Done rest 1 text x mid new r →
       Done whole (suc level) text m old new r
-  whole-path p s = finishing (calling p s (omega (arith, p .on, p .within, C .above))) (λ n. C .begins n (viewOf m old))
+  whole-path p s = finishing (calling p s (omega (arith, p .on, p .within, C .above))) (λ n out. C .begins n (viewOf m out))
 
   pub rest-end : eqb (nextMark text m) byte ≡ false → Done rest 1 text m old old m
-  rest-end e = finishing (starting 0 g) (λ n. C .goes-on n (viewOf m old) ∙ rw (view-next text m old, e) refl)
+  rest-end e = finishing (starting 0 g) (λ n out. C .goes-on n (viewOf m out) ∙ rw (view-next text m out, e) refl)
 
 -- past the operator's byte
 module _ {text : List ℕ} {deep byte kind level : ℕ} {operand rest whole : ℕ → State ℕ → State ℕ}
@@ -62,4 +62,4 @@ module _ {text : List ℕ} {deep byte kind level : ℕ} {operand rest whole : �
       pub rest-path : {new : List ℕ} {r : Mark} → Done rest 1 text z mid2 new r → Done rest 1 text m old new r
       rest-path s =
           finishing (calling joined s (omega (arith, beyond, joined .within)))
-          (λ n. C .goes-on n (viewOf m old) ∙ rw (view-next text m old, eq-eqb _ _ (k .next)) refl)
+          (λ n out. C .goes-on n (viewOf m out) ∙ rw (view-next text m out, eq-eqb _ _ (k .next)) refl)

@@ -22,8 +22,8 @@ use Rattle.openings.proofs.Openings.{blockMark, Opens, opens, prefix-above}
 use Rattle.grammar.proofs.Branches.{BlockNext, latch-is, timer-is}
 use Rattle.formulas.proofs.MarkSteps.{movedMark, expectMark, lengthMark, putMark}
 use Rattle.formulas.proofs.LeafPaths.{LeafRead}
-use Rattle.formulas.proofs.Doing.{view-next, ready-deeper, starting, turned, moving, moving-by, expecting, passing, calling}
-use Rattle.formulas.proofs.Doing.{putting, closing, finishing, ticks-are}
+use Rattle.formulas.proofs.Doing.{view-next, view-length, ready-deeper, starting, turned, moving, moving-by, expecting, passing}
+use Rattle.formulas.proofs.Doing.{calling, putting, closing, finishing, ticks-are}
 
 -- a reader of the level, of measure t, began at m, where the byte b is next; x is past it
 pub record Step (text old : List ℕ) (m : Mark) (deep level t b : ℕ) (x : Mark) : Type 0 where
@@ -67,7 +67,7 @@ module _ {text old : List ℕ} {m : Mark} {deep t b : ℕ} {x : Mark} (k : Step 
   unfolding factorAt
   prefix-path kind pk pos p w =
       finishing (turned (w .1) (w .0) (putting kind deep 0 (k .ready) (deeper (omega arith) p) (own-byte k p)))
-      (λ n. rw (view-next text m old, k .next, ← pk, lt-ltb 0 kind pos) refl)
+      (λ n out. rw (view-next text m out, k .next, ← pk, lt-ltb 0 kind pos) refl)
 
 -- an open bracket
 pub brackets-path : {text old mid : List ℕ} {m : Mark} {deep t : ℕ} {x y r : Mark} → Step text old m deep 2 t 40 x →
@@ -75,7 +75,7 @@ pub brackets-path : {text old mid : List ℕ} {m : Mark} {deep t : ℕ} {x y r :
     r ≡ expectMark text 41 y → FactorRead text deep m old mid r
 unfolding factorAt prefixKind
 brackets-path {text} {old} {m = m} k p w =
-    finishing (turned refl w (expecting 41 (omega arith) (deeper k (omega arith) p))) (λ n. rw (view-next text m old, k .next) refl)
+    finishing (turned refl w (expecting 41 (omega arith) (deeper k (omega arith) p))) (λ n out. rw (view-next text m out, k .next) refl)
 
 pub positive : (n : ℕ) → (n ≡ 0 → ⊥) → 0 < n
 positive zero h = absurd (h refl)
@@ -123,7 +123,7 @@ module _ {text old : List ℕ} {m : Mark} {deep t first : ℕ} {x : Mark} (k : O
       let u = says .leaf e in
       let none : blockMark text m ≡ 0 = u .2 ∙ e in
       finishing (calling (starting 1 (k .ready)) (subst (λ (y : Mark). LeafRead text deep y old new r) (stays e) s) (omega arith))
-      (λ n. rw (view-next text m old, u .0, u .1, none) refl)
+      (λ n out. rw (view-next text m out, u .0, u .1, none) refl)
 
   -- a block
   module _ (high : kinds.TON ≤ first) (other : first ≡ BRACKET → ⊥) where
@@ -139,29 +139,29 @@ module _ {text old : List ℕ} {m : Mark} {deep t first : ℕ} {x : Mark} (k : O
     pub block-needs : (5 * (length text - x .at) + deep + 6 < t) × Ready text old x (deep + 1)
     block-needs = (omega (arith, on, word .within, k .falls), ready-deeper (k .ready) word on)
 
-    block-next : BlockNext text (viewOf m old) first
+    block-next : (out : List ℕ) → BlockNext text (viewOf m out) first
     unfolding blockAt
-    block-next =
+    block-next out =
         let u = says .block (omega arith) other in
         record {
-          no-prefix = ap prefixKind (view-next text m old) ∙ u .0;
-          no-bracket = ap (λ (b : ℕ). eqb b 40) (view-next text m old) ∙ u .1;
+          no-prefix = ap prefixKind (view-next text m out) ∙ u .0;
+          no-bracket = ap (λ (b : ℕ). eqb b 40) (view-next text m out) ∙ u .1;
           here = u .2;
           some = omega arith;
         }
 
     read : {F : ℕ → State ℕ → State ℕ} {new : List ℕ} {r : Mark} → Done F 5 text x old new r →
-        ((n : ℕ) → factorAt coded text (suc n) deep (viewOf m old) ≡ F n (stepped (blockBytes first) (viewOf m old))) →
+        ((n : ℕ) (out : List ℕ) → factorAt coded text (suc n) deep (viewOf m out) ≡ F n (stepped (blockBytes first) (viewOf m out))) →
         FactorRead text deep m old new r
     read s e = finishing (calling word s (omega (arith, on, word .within))) e
 
     pub opened-latch : {new : List ℕ} {r : Mark} → kinds.AND ≤ first → LatchRead text first deep x old new r
         → FactorRead text deep m old new r
-    opened-latch h s = read s (λ n. latch-is coded deep n block-next h)
+    opened-latch h s = read s (λ n out. latch-is coded deep n (block-next out) h)
 
     pub opened-timer : {new : List ℕ} {r : Mark} → first < kinds.AND → TimerRead text first deep x old new r
         → FactorRead text deep m old new r
-    opened-timer h s = read s (λ n. timer-is coded deep n block-next h)
+    opened-timer h s = read s (λ n out. timer-is coded deep n (block-next out) h)
 
 -- sum,sum) after SR( or RS(
 module _ {text old : List ℕ} {m : Mark} (deep : ℕ) (g : Ready text old m (deep + 1)) where
@@ -180,7 +180,7 @@ module _ {text old : List ℕ} {m : Mark} (deep : ℕ) (g : Ready text old m (de
       pub latch-path : {new : List ℕ} {r : Mark} (kind : ℕ) → new ≡ putCode y3 kind mid2 → r ≡ putMark y3 deep 0 →
           LatchRead text kind deep m old new r
       unfolding latchAt
-      latch-path kind q w = finishing (turned q w (putting kind deep 0 g closed (closing both q3))) (λ n. refl)
+      latch-path kind q w = finishing (turned q w (putting kind deep 0 g closed (closing both q3))) (λ n out. refl)
 
   -- length,sum) after TON( or TOF(
   module _ {p : Mark} (qp : p ≡ lengthMark text m) {y2 : Mark} (q2 : y2 ≡ expectMark text 44 p) where
@@ -197,8 +197,8 @@ module _ {text old : List ℕ} {m : Mark} (deep : ℕ) (g : Ready text old m (de
       timer-closed : Done (λ n s. expect text 41 (sumAt coded text n (deep + 1) (expect text 44 (passLength text s)))) 4 text m old mid y3
       timer-closed = turned refl q3 (expecting 41 (omega arith) body)
 
-      to-at : p .at ≡ (passLength text (viewOf m old)) .at
-      to-at = ap (λ (j : State ℕ). j .at) (measured .same (5 * (length text - m .at) + 4) (omega arith))
+      to-at : (out : List ℕ) → p .at ≡ (passLength text (viewOf m out)) .at
+      to-at out = ap (λ (j : Mark). j .at) qp ∙ ap (λ (j : State ℕ). j .at) (view-length text m out)
 
       pub timer-path : {new : List ℕ} {r : Mark} (kind n : ℕ) → n ≡ lengthTicks text m →
           new ≡ putCode y3 (n * 16 + kind) mid → r ≡ putMark y3 deep n → TimerRead text kind deep m old new r
@@ -206,4 +206,4 @@ module _ {text old : List ℕ} {m : Mark} (deep : ℕ) (g : Ready text old m (de
       timer-path kind n e q w =
           let e : n ≡ capped (valueBetween text (m .at) (p .at)) =
           e ∙ ticks-are text m ∙ ap (λ (j : Mark). capped (valueBetween text (m .at) (j .at))) (sym qp) in
-          finishing (turned q w (putting (n * 16 + kind) deep n g timer-closed (closing body q3))) (λ j. rw (← to-at, ← e) refl)
+          finishing (turned q w (putting (n * 16 + kind) deep n g timer-closed (closing body q3))) (λ j out. rw (← to-at out, ← e) refl)

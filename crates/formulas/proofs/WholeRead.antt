@@ -8,17 +8,17 @@ use mathlib.Core.Bool.{Bool, true, false, cond, not, _&&_, _||_}
 use mathlib.Core.List.{List, [], _∷_, _++_}
 use lib.Dec.{ltb, eqb}
 use lib.ListN.{length, take, drop, length-map, length-append, length-drop, length-take}
-use lib.Seq.{length-take-le, take-append-seam, sets}
+use lib.Seq.{take-all, take-append-seam, sets}
 use borrow.Author.Tests.{eq-eqb, ne-eqb, lt-ltb, le-ltb}
 use Rattle.slices.specs.Slices.{putAt}
 use Rattle.signals.specs.Moment.{M}
 use Rattle.signals.specs.Answers.{writtenOf}
 use Rattle.signals.specs.declared.Written.the-variants as written
-use Rattle.grammar.specs.Reader.{State, readText}
+use Rattle.grammar.specs.Reader.{State, start, readText}
 use Rattle.texts.specs.Lengths.{capped}
 use Rattle.grammar.specs.Formula.{spelled, coded, partOf, accepted, partsOf, depthOf, longestOf, formulaFault, codeOf, codeAfter}
 use Rattle.marks.specs.Marks.{Mark, markOf, markFault, lent}
-use Rattle.formulas.specs.Readers.{viewOf, Ready, SumRead, Begun}
+use Rattle.formulas.specs.Readers.{Shows, Ready, SumRead, Begun}
 use Rattle.grammar.proofs.Coding.{coded-run, cutPart}
 use Rattle.marks.proofs.Marking.{lent-most}
 use Rattle.slices.proofs.Placing.{put-fits}
@@ -26,7 +26,7 @@ use Rattle.slices.proofs.Placing.{put-fits}
 abbrev pub first : Mark
 first = record { ok = true; at = 0; parts = 0; deepest = 0; longest = 0 }
 
-ready-first : (text old : List ℕ) → length text ≤ 1024 → length old ≡ 1024 → Ready text old first 0
+ready-first : (text old : List ℕ) → length text ≤ 1024 → length old ≡ 32 → Ready text old first 0
 ready-first text old h r = record { short = h; room = r; within = omega arith; fewer = omega arith; opened = omega arith }
 
 -- a text that was put on a blank page is the page's front
@@ -44,7 +44,7 @@ laid text blank page e b h =
 abbrev pub begin : List ℕ
 begin = 1 ∷ 0 ∷ 0 ∷ 0 ∷ 0 ∷ []
 
-pub begun : (page : List ℕ) (bytes : ℕ) {words : List ℕ} → length words ≡ 1024 → Begun page bytes words begin 0
+pub begun : (page : List ℕ) (bytes : ℕ) {words : List ℕ} → length words ≡ 32 → Begun page bytes words begin 0
 unfolding markOf
 begun page bytes {words} w = (refl, ready-first (lent page bytes) words (omega (arith, lent-most page bytes)) w)
 
@@ -108,39 +108,34 @@ few-words m bytes e = go (m .ok) refl (decLt (m .at) bytes) (decLt M (m .longest
         rw (k, le-ltb (m .at) bytes (omega (arith, a)), le-ltb M (m .longest) (omega (arith, l)), lt-ltb 32 (m .parts) h) at e in
         absurd (omega arith)
 
-module _ (text old new : List ℕ) (m : Mark) (d : SumRead text 0 first old new m) (some : length text ≡ 0 →
-    ⊥) (short : length text ≤ 1024) where
-  view : viewOf m new ≡ readText coded text
+module _ (text old new : List ℕ) (m : Mark) (d : SumRead text 0 first old new m) where
+  shows : Shows m new (readText coded text)
   unfolding readText
-  view = d .same (5 * length text + 4) (omega arith)
-
-  few : m .parts ≤ 1024
-  few = omega (arith, d .few, d .within)
-
-  pub few-parts : m .parts ≤ length new
-  few-parts = omega (arith, few, d .room)
-
-  pub words-are : take (m .parts) new ≡ codeOf text
-  unfolding codeOf
-  words-are = ap (λ (s : State ℕ). s .out) view
+  shows = d .same (5 * length text + 4) (omega arith) start (record { view = refl; count = refl; words = refl })
 
   pub words-length : length (codeOf text) ≡ m .parts
-  words-length = ap length (sym words-are) ∙ length-take-le (m .parts) new few-parts
+  unfolding codeOf
+  words-length = shows .count
+
+  -- of at most 32 parts all words are there
+  pub words-are : m .parts ≤ 32 → take (m .parts) new ≡ codeOf text
+  unfolding codeOf
+  words-are h = sym (shows .words) ∙ take-all 32 (codeOf text) (omega (arith, words-length))
 
   same-ok : readText (spelled text) text .ok ≡ m .ok
-  same-ok = sym (coded-run text .ok) ∙ ap (λ (s : State ℕ). s .ok) (sym view)
+  same-ok = sym (coded-run text .ok) ∙ ap (λ (s : State ℕ). s .ok) (shows .view)
 
   same-at : readText (spelled text) text .at ≡ m .at
-  same-at = sym (coded-run text .at) ∙ ap (λ (s : State ℕ). s .at) (sym view)
+  same-at = sym (coded-run text .at) ∙ ap (λ (s : State ℕ). s .at) (shows .view)
 
   same-depth : depthOf text ≡ m .deepest
   unfolding depthOf
-  same-depth = sym (coded-run text .deepest) ∙ ap (λ (s : State ℕ). s .deepest) (sym view)
+  same-depth = sym (coded-run text .deepest) ∙ ap (λ (s : State ℕ). s .deepest) (shows .view)
 
   same-longest : ltb M (longestOf text) ≡ ltb M (m .longest)
   unfolding longestOf
   same-longest =
-      sym (capped-over (longestOf text)) ∙ ap (ltb M) (sym (coded-run text .longest) ∙ ap (λ (s : State ℕ). s .longest) (sym view))
+      sym (capped-over (longestOf text)) ∙ ap (ltb M) (sym (coded-run text .longest) ∙ ap (λ (s : State ℕ). s .longest) (shows .view))
 
   same-count : length (partsOf text) ≡ m .parts
   unfolding partsOf codeOf
@@ -148,9 +143,9 @@ module _ (text old new : List ℕ) (m : Mark) (d : SumRead text 0 first old new 
       sym (length-map (partsOf text) cutPart) ∙ ap length (sym (coded-run text .out)) ∙ length-map (codeOf text) (partOf text)
       ∙ words-length
 
-  pub fault-is : formulaFault text ≡ markFault m (length text)
+  pub fault-is : (length text ≡ 0 → ⊥) → length text ≤ 1024 → formulaFault text ≡ markFault m (length text)
   unfolding formulaFault accepted markFault
-  fault-is =
+  fault-is some short =
       rw (
         ne-eqb (length text) 0 some,
         le-ltb 1024 (length text) short,

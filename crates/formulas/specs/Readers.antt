@@ -7,23 +7,29 @@ use Rattle.grammar.specs.Formula.{coded}
 use Rattle.grammar.specs.Reader.{State, sumAt, sumsAt, productAt, productsAt, factorAt, latchAt, timerAt}
 use Rattle.marks.specs.Marks.{Mark, markOf, lent}
 
--- the state that a mark and the code words put out are
+-- the state of a reader that is at a mark and has put these words out
 abbrev pub viewOf : Mark → List ℕ → State ℕ
-viewOf m code = record { ok = m .ok; at = m .at; out = take (m .parts) code; deepest = m .deepest; longest = m .longest }
+viewOf m out = record { ok = m .ok; at = m .at; out = out; deepest = m .deepest; longest = m .longest }
 
--- where a reader may begin: the text is short enough, the code words have room, and no more parts are out, nor more brackets open, than
+-- what a mark and 32 code words show of a state: all of it but the words put out after the 32nd, which are only counted
+pub record Shows (m : Mark) (code : List ℕ) (s : State ℕ) : Type 0 where
+  pub view : s ≡ viewOf m (s .out)
+  pub count : length (s .out) ≡ m .parts
+  pub words : take 32 (s .out) ≡ take (m .parts) code
+
+-- where a reader may begin: the text is short enough, the code words are 32, and no more parts are out, nor more brackets open, than
 -- bytes passed
 pub record Ready (text code : List ℕ) (m : Mark) (deep : ℕ) : Type 0 where
   pub short : length text ≤ 1024
-  pub room : length code ≡ 1024
+  pub room : length code ≡ 32
   pub within : m .at ≤ length text
   pub fewer : m .parts ≤ m .at
   pub opened : deep ≤ m .at
 
 -- what a reader that mirrors F leaves: each part that it put out has a byte of its own
 pub record Done (F : ℕ → State ℕ → State ℕ) (level : ℕ) (text : List ℕ) (m : Mark) (old new : List ℕ) (r : Mark) : Type 0 where
-  pub same : (n : ℕ) → 5 * (length text - m .at) + level ≤ n → viewOf r new ≡ F n (viewOf m old)
-  pub room : length new ≡ 1024
+  pub same : (n : ℕ) → 5 * (length text - m .at) + level ≤ n → (s : State ℕ) → Shows m old s → Shows r new (F n s)
+  pub room : length new ≡ 32
   pub within : r .at ≤ length text
   pub on : m .at ≤ r .at
   pub few : r .parts + m .at ≤ m .parts + r .at

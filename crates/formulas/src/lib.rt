@@ -33,7 +33,7 @@ fn read_page(page: &[u8; 1024], bytes: usize, code: &mut [u64; 32]) -> Written
     requires { ⌜ (length (now page) ≡ 1024) × (0 < bytes) × (bytes ≤ 1024) ⌝ }
     ensures { λ r. ⌜ CallOfRead (lent (now (page .entry)) bytes) (now (code .entry)) r (now (code .exit)) ⌝ }
 {
-    let mut words = [0u64; 1024];
+    let mut words = [0u64; 32];
     let mut m = [0usize; 5];
     m[OK] = 1;
     reader::sum(page, bytes, &mut words, &mut m, 0);

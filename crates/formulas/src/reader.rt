@@ -15,7 +15,7 @@ use moves::put;
 pub(crate) fn sum(
     text: &[u8; 1024],
     bytes: usize,
-    code: &mut [u64; 1024],
+    code: &mut [u64; 32],
     m: &mut [usize; 5],
     deep: usize,
 )
@@ -28,7 +28,7 @@ pub(crate) fn sum(
 }
 
 // {"+" product}
-fn sums(text: &[u8; 1024], bytes: usize, code: &mut [u64; 1024], m: &mut [usize; 5], deep: usize)
+fn sums(text: &[u8; 1024], bytes: usize, code: &mut [u64; 32], m: &mut [usize; 5], deep: usize)
     requires { ⌜ Begun (now text) bytes (now code) (now m) deep ⌝ }
     ensures { λ _. ⌜ Left (SumsRead (lent (now (text .entry)) bytes) deep) (now (m .entry))
         (now (code .entry)) (now (code .exit)) (now (m .exit)) ⌝ }
@@ -41,7 +41,7 @@ fn sums(text: &[u8; 1024], bytes: usize, code: &mut [u64; 1024], m: &mut [usize;
 }
 
 // product = factor {"." factor}
-fn product(text: &[u8; 1024], bytes: usize, code: &mut [u64; 1024], m: &mut [usize; 5], deep: usize)
+fn product(text: &[u8; 1024], bytes: usize, code: &mut [u64; 32], m: &mut [usize; 5], deep: usize)
     requires { ⌜ Begun (now text) bytes (now code) (now m) deep ⌝ }
     ensures { λ _. ⌜ Left (ProductRead (lent (now (text .entry)) bytes) deep) (now (m .entry))
         (now (code .entry)) (now (code .exit)) (now (m .exit)) ⌝ }
@@ -51,13 +51,7 @@ fn product(text: &[u8; 1024], bytes: usize, code: &mut [u64; 1024], m: &mut [usi
 }
 
 // {"." factor}
-fn products(
-    text: &[u8; 1024],
-    bytes: usize,
-    code: &mut [u64; 1024],
-    m: &mut [usize; 5],
-    deep: usize,
-)
+fn products(text: &[u8; 1024], bytes: usize, code: &mut [u64; 32], m: &mut [usize; 5], deep: usize)
     requires { ⌜ Begun (now text) bytes (now code) (now m) deep ⌝ }
     ensures { λ _. ⌜ Left (ProductsRead (lent (now (text .entry)) bytes) deep) (now (m .entry))
         (now (code .entry)) (now (code .exit)) (now (m .exit)) ⌝ }
@@ -70,7 +64,7 @@ fn products(
 }
 
 // factor = "!" factor, "^" factor, "~" factor, "(" sum ")", "0", "1", name, or a block
-fn factor(text: &[u8; 1024], bytes: usize, code: &mut [u64; 1024], m: &mut [usize; 5], deep: usize)
+fn factor(text: &[u8; 1024], bytes: usize, code: &mut [u64; 32], m: &mut [usize; 5], deep: usize)
     requires { ⌜ Begun (now text) bytes (now code) (now m) deep ⌝ }
     ensures { λ _. ⌜ Left (FactorRead (lent (now (text .entry)) bytes) deep) (now (m .entry))
         (now (code .entry)) (now (code .exit)) (now (m .exit)) ⌝ }
@@ -101,7 +95,7 @@ fn factor(text: &[u8; 1024], bytes: usize, code: &mut [u64; 1024], m: &mut [usiz
 fn latch(
     text: &[u8; 1024],
     bytes: usize,
-    code: &mut [u64; 1024],
+    code: &mut [u64; 32],
     m: &mut [usize; 5],
     part: u64,
     deep: usize,
@@ -121,7 +115,7 @@ fn latch(
 fn timer(
     text: &[u8; 1024],
     bytes: usize,
-    code: &mut [u64; 1024],
+    code: &mut [u64; 32],
     m: &mut [usize; 5],
     part: u64,
     deep: usize,

@@ -17,7 +17,7 @@ pub const DEEPEST: usize = 3;
 pub const LONGEST: usize = 4;
 
 // The most parts that a formula has, the largest depth, and M, the largest length.
-const MOST_PARTS: usize = 32;
+pub const MOST_PARTS: usize = 32;
 
 const MOST_DEPTH: usize = 16;
 

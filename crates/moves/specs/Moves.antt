@@ -39,17 +39,21 @@ lengthPassed text m = cond (ltb 0 (lengthEnd text (markOf m))) (movedTo m (lengt
 unfoldable pub lengthTicks : List ℕ → Mark → ℕ
 lengthTicks text m = cond (ltb 0 (lengthEnd text m)) (capped (valueBetween text (m .at) (lengthEnd text m))) 0
 
--- whether a part is put out: all is well, and its code word has room
-unfoldable pub hasRoom : Mark → Bool
-hasRoom m = m .ok && ltb (m .parts) 1024
+-- whether a part is counted: all is well, and fewer than 1,024 are
+unfoldable pub isCounted : Mark → Bool
+isCounted m = m .ok && ltb (m .parts) 1024
 
 unfoldable pub putWords : List ℕ → ℕ → ℕ → List ℕ
 putWords m deep ticks =
-    cond (hasRoom (markOf m))
+    cond (isCounted (markOf m))
     (set (set (set m 2 (markOf m .parts + 1)) 3 (max (markOf m .deepest) deep)) 4 (max (markOf m .longest) ticks)) m
 
+-- a code word is stored where its place is one of the first 32
+unfoldable pub storedAt : List ℕ → ℕ → ℕ → List ℕ
+storedAt code place word = cond (ltb place 32) (set code place word) code
+
 unfoldable pub putCode : Mark → ℕ → List ℕ → List ℕ
-putCode m word code = cond (hasRoom m) (set code (m .parts) word) code
+putCode m word code = cond (m .ok) (storedAt code (m .parts) word) code
 
 -- a constant or name is passed, then its part put out
 unfoldable pub leafWords : List ℕ → List ℕ → ℕ → List ℕ

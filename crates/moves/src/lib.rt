@@ -4,10 +4,11 @@ ghost use Prim.Native.Nat.{max};
 ghost use Rattle.marks.specs.Marks.{markOf, lent};
 ghost use Rattle.openings.specs.Opening.{openKind};
 ghost use Rattle.moves.specs.Moves.{failed, movedTo, begun, isNext, passed, expected, lengthPassed, lengthTicks};
-ghost use Rattle.moves.specs.Moves.{putWords, putCode, leafWords, leafCode};
+ghost use Rattle.moves.specs.Moves.{storedAt, putWords, putCode, leafWords, leafCode};
 use marks::AT;
 use marks::DEEPEST;
 use marks::LONGEST;
+use marks::MOST_PARTS;
 use marks::OK;
 use marks::PARTS;
 use marks::next;
@@ -90,15 +91,24 @@ fn larger(a: usize, b: usize) -> usize
     if a < b { b } else { a }
 }
 
-// Puts a part's code word out, where the mark is good and the code has room.
-pub fn put(code: &mut [u64; 1024], m: &mut [usize; 5], word: u64, deep: usize, ticks: usize)
+// Stores a code word, where its place is one of the first 32.
+fn store(code: &mut [u64; 32], place: usize, word: u64)
+    ensures { λ _. ⌜ now (code .exit) ≡ storedAt (now (code .entry)) place word ⌝ }
+{
+    if place < MOST_PARTS {
+        code[place] = word;
+    }
+}
+
+// Puts a part's code word out, where the mark is good: of more than 32 parts only the first are stored, and up to 1,024 are counted.
+pub fn put(code: &mut [u64; 32], m: &mut [usize; 5], word: u64, deep: usize, ticks: usize)
     ensures { λ _. ⌜ (now (m .exit) ≡ putWords (now (m .entry)) deep ticks)
         × (now (code .exit) ≡ putCode (markOf (now (m .entry))) word (now (code .entry))) ⌝ }
 {
     if m[OK] == 1 {
         let parts = m[PARTS];
+        store(code, parts, word);
         if parts < 1024 {
-            code[parts] = word;
             m[PARTS] = parts + 1;
             m[DEEPEST] = larger(m[DEEPEST], deep);
             m[LONGEST] = larger(m[LONGEST], ticks);
@@ -107,13 +117,7 @@ pub fn put(code: &mut [u64; 1024], m: &mut [usize; 5], word: u64, deep: usize, t
 }
 
 // Passes 0, 1 or a name and puts its part out; where none is next, the mark is made bad.
-pub fn leaf(
-    text: &[u8; 1024],
-    bytes: usize,
-    code: &mut [u64; 1024],
-    m: &mut [usize; 5],
-    deep: usize,
-)
+pub fn leaf(text: &[u8; 1024], bytes: usize, code: &mut [u64; 32], m: &mut [usize; 5], deep: usize)
     ensures { λ _. ⌜ (now (m .exit) ≡ leafWords (lent (now (text .entry)) bytes) (now (m .entry)) deep)
         × (now (code .exit) ≡ leafCode (lent (now (text .entry)) bytes) (now (m .entry)) (now (code .entry))) ⌝ }
 {

@@ -8,7 +8,7 @@ use lib.Seq.{sets}
 use Rattle.marks.specs.Marks.{markOf, markFault, lent}
 use Rattle.formulas.specs.Readers.{SumRead}
 use Rattle.formulas.proofs.WholeRead.{first, begun, lent-all, refused-is, written-is}
-use Rattle.formulas.proofs.WholeRead.{few-words, few-parts, words-are, words-length, fault-is}
+use Rattle.formulas.proofs.WholeRead.{few-words, words-are, words-length, fault-is}
 use Rattle.formulas.proofs.read_page.Statement.{statement}
 use Rattle.formulas.proofs.read_page.Tie as tie
 
@@ -18,12 +18,12 @@ array-write-m c = search needs
 sum-requires : tie.Need-sum-requires
 sum-requires c κs =
     let s = c .before .before in
-    begun (s .args .page .now) (s .args .bytes) (length-replicate {A = ℕ} 1024 0)
+    begun (s .args .page .now) (s .args .bytes) (length-replicate {A = ℕ} 32 0)
 
 -- the text is read to the mark that its words hold
 read-to : (c : tie.After-sum) →
     let a = c .before .before .before .args in
-    SumRead (lent (a .page .now) (a .bytes)) 0 first (replicate 1024 0) (c .sum .last .1 .1 .0) (markOf (c .sum .last .1 .1 .1 .0))
+    SumRead (lent (a .page .now) (a .bytes)) 0 first (replicate 32 0) (c .sum .last .1 .1 .0) (markOf (c .sum .last .1 .1 .1 .0))
 unfolding markOf
 read-to c = c .sum .ensures .1
 
@@ -46,15 +46,17 @@ array-read-parts c = search needs
 slice-aggregate-copy : tie.Need-slice-aggregate-copy
 slice-aggregate-copy c = search needs
 
+-- without a fault there are at most 32 parts
+few : (c : tie.Then1) → markOf (c .before .before .before .sum .last .1 .1 .1 .0) .parts ≤ 32
+few c =
+    let s = c .before .before .before .before .before .before in
+    few-words _ (s .args .bytes) (sym (c .before .fault-of .ensures) ∙ c .if1 .taken)
+
 copy-requires : tie.Need-copy-requires
 unfolding markOf
 copy-requires c κs =
     let t = c .before .before in
-    let u = t .before .before .before in
-    let s = u .before .before .before in (
-      few-parts _ _ _ _ (read-to u) (some s) (short s),
-      few-words _ (s .args .bytes) (sym (t .before .fault-of .ensures) ∙ t .if1 .taken),
-    )
+    (omega (arith, few t, read-to (t .before .before .before) .room), few t)
 
 returns : tie.Need-returns
 unfolding markOf
@@ -67,8 +69,8 @@ returns c =
     let d = read-to u in
     let f = fault-is text _ _ _ d (some s) (short s) ∙ ap (markFault _) (all s) in
     written-is text (a .code .now) (c .copy .last .1 .1 .0) _ (f ∙ sym (t .before .fault-of .ensures) ∙ t .if1 .taken)
-    (sym (words-length text _ _ _ d (some s) (short s)))
-    (c .copy .ensures ∙ ap (sets (a .code .now) 0) (words-are text _ _ _ d (some s) (short s)))
+    (sym (words-length text _ _ _ d))
+    (c .copy .ensures ∙ ap (sets (a .code .now) 0) (words-are text _ _ _ d (few t)))
 
 returns-2 : tie.Need-returns-2
 returns-2 c =
