@@ -54,18 +54,27 @@ fn claim_text(claim: &Claim) -> String {
 /// A claim call.
 pub type ClaimCall = fn(&[u8], &[u8], &[u8], &mut [u32]) -> u64;
 
+/// A claim refused by check 18 or before leaves the work area as it was.
+fn is_kept(verdict: u64, work: &[u32], old: &[u32]) -> bool {
+    matches!(verdict >> 40, 0 | 5 | 6) || work == old
+}
+
 /// Claims of a set, and their formulas by themselves: the first difference, or how they came out.
 pub fn claims(set: Set, seed: u64, count: usize, other: ClaimCall) -> Result<Tally, String> {
     let mut random = set.random(seed);
     let mut tally = Tally::default();
-    let (mut first, mut second) = (vec![1; 2 * generate::WORK_WORDS], vec![2; 2 * generate::WORK_WORDS]);
     for _ in 0..count {
         let claim = generate::claim(&mut random, set);
-        let (first, second) = (&mut first[..claim.work], &mut second[..claim.work]);
+        let old = vec![7; claim.work];
+        let (first, second) = (&mut old.clone(), &mut old.clone());
         let ours = ffi::claim(&claim.sheet, &claim.f, &claim.g, first);
         let others = other(&claim.sheet, &claim.f, &claim.g, second);
         if ours != others {
-            return Err(format!("{}\nours: {}\nplain: {}", claim_text(&claim), verdict_text(ours), verdict_text(others)));
+            let (ours, others) = (verdict_text(ours), verdict_text(others));
+            return Err(format!("{}\nours: {ours}\nplain: {others}", claim_text(&claim)));
+        }
+        if !is_kept(ours, first, &old) || !is_kept(ours, second, &old) {
+            return Err(format!("{}\nthe work area was written: {}", claim_text(&claim), verdict_text(ours)));
         }
         tally.count(ours);
         for (letter, formula) in [("F", &claim.f), ("G", &claim.g)] {
@@ -125,7 +134,9 @@ pub fn lists(seed: u64, count: usize, calls: &[ListCall]) -> Result<(usize, usiz
             if (ours, &out) != (others, &other_out) {
                 let Given { number, a, b } = given;
                 let (name, words) = (call.name, format!("number {number}\na {a:?}\nb {b:?}\noutput of {room} words"));
-                return Err(format!("{name}\n{words}\nours: {ours}, output {out:?}\nplain: {others}, output {other_out:?}"));
+                return Err(format!(
+                    "{name}\n{words}\nours: {ours}, output {out:?}\nplain: {others}, output {other_out:?}"
+                ));
             }
             if ours >> 16 == 0 || call.name == "implies" && ours >> 40 == 0 {
                 answered += 1;

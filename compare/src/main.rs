@@ -20,10 +20,15 @@ const USAGE: &str = "compare [--equal | ROW]";
 
 /// Wrong engines in the place of plain: the check must tell each of them from ours.
 fn wrong_ones_are_told() -> Result<(), String> {
-    let told = |name: &str, found: bool| if found { Ok(()) } else { Err(format!("the check does not tell {name} from ours")) };
+    let told =
+        |name: &str, found: bool| if found { Ok(()) } else { Err(format!("the check does not tell {name} from ours")) };
     let turned = equal::claims(Set::Small, SEED, 300, |sheet, f, g, work| plain::claim(sheet, g, f, work));
     told("the claim of G to F", turned.is_err())?;
-    let rs_for_sr = ListCall { name: "sr", ours: |x, out| ffi::sr(&x.a, &x.b, out).into(), plain: |x, out| plain::rs(&x.a, &x.b, out).into() };
+    let rs_for_sr = ListCall {
+        name: "sr",
+        ours: |x, out| ffi::sr(&x.a, &x.b, out).into(),
+        plain: |x, out| plain::rs(&x.a, &x.b, out).into(),
+    };
     told("RS in the place of SR", equal::lists(SEED, 300, &[rs_for_sr]).is_err())?;
     let word_more = ListCall {
         name: "not",

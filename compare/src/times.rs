@@ -1,5 +1,5 @@
 //! Processor time of both, in turns.
-use crate::generate::{self, turns, Claim, Set, MOST_WORDS, WORK_WORDS};
+use crate::generate::{self, turns, Claim, Set, MOST_WORDS, MOST_WORK};
 use crate::random::Random;
 use crate::{ffi, plain};
 use std::hint::black_box;
@@ -36,12 +36,12 @@ impl Times {
             return;
         }
         if self.rows == 0 {
+            println!("medians of {} repetitions in turns; from, to: the middle half of the ratios", self.repetitions);
             println!("{:<18} {:>10} {:>10} {:>7} {:>7} {:>7}", "row", "ours ns", "plain ns", "ratio", "from", "to");
         }
         self.rows += 1;
-        time(2, &mut ours);
         let mut rounds = 1;
-        while time(rounds, &mut plain) < LEAST {
+        while time(rounds, &mut ours).min(time(rounds, &mut plain)) < LEAST {
             rounds *= 2;
         }
         let (mut of_ours, mut of_plain, mut ratios) = (Vec::new(), Vec::new(), Vec::new());
@@ -70,17 +70,27 @@ impl Times {
     }
 
     fn claims(&mut self, name: &str, claims: &[Claim]) {
-        let (mut work, mut other_work) = (vec![0; WORK_WORDS], vec![0; WORK_WORDS]);
+        let (mut work, mut other_work) = (vec![0; MOST_WORK], vec![0; MOST_WORK]);
         let ours = || {
             for claim in claims {
                 let work = &mut work[..claim.work];
-                black_box(ffi::claim(black_box(&claim.sheet), black_box(&claim.f), black_box(&claim.g), black_box(work)));
+                black_box(ffi::claim(
+                    black_box(&claim.sheet),
+                    black_box(&claim.f),
+                    black_box(&claim.g),
+                    black_box(work),
+                ));
             }
         };
         let plain = || {
             for claim in claims {
                 let work = &mut other_work[..claim.work];
-                black_box(plain::claim(black_box(&claim.sheet), black_box(&claim.f), black_box(&claim.g), black_box(work)));
+                black_box(plain::claim(
+                    black_box(&claim.sheet),
+                    black_box(&claim.f),
+                    black_box(&claim.g),
+                    black_box(work),
+                ));
             }
         };
         self.row(name, claims.len(), ours, plain);
@@ -90,9 +100,10 @@ impl Times {
     pub fn set(&mut self, set: Set, seed: u64) {
         let mut random = set.random(seed);
         let count = if set == Set::Largest { 24 } else { 300 };
-        let mut work = vec![0; WORK_WORDS];
+        let mut work = vec![0; MOST_WORK];
         let drawn = (0..count).map(|_| generate::claim(&mut random, set));
-        let is_answered = |claim: &Claim| ffi::claim(&claim.sheet, &claim.f, &claim.g, &mut work[..claim.work]) >> 40 == 0;
+        let is_answered =
+            |claim: &Claim| ffi::claim(&claim.sheet, &claim.f, &claim.g, &mut work[..claim.work]) >> 40 == 0;
         let (answered, refused): (Vec<Claim>, Vec<Claim>) = drawn.partition(is_answered);
         self.claims(set.name(), &answered);
         self.claims(&format!("{}-refused", set.name()), &refused);

@@ -1,5 +1,5 @@
 //! Damage to a claim, after which it is mostly refused: each fault that a claim can meet, and near misses.
-use super::Claim;
+use super::{Claim, MOST_WORK};
 use crate::random::Random;
 
 /// Where the signals of a sheet stand, as far as they are whole.
@@ -25,7 +25,9 @@ fn damage_sheet(random: &mut Random, sheet: &mut Vec<u8>) {
         3 => sheet.truncate(anywhere),
         4 => sheet.truncate(sheet.len() - 1),
         5 => sheet.extend_from_slice(&[0; 9][..random.between(1, 9)]),
-        6 if sheet.len() > 5 => sheet[5] = random.pick(&[sheet[5].wrapping_sub(1), sheet[5] + 1, 32, 33, 255]),
+        6 if sheet.len() > 5 => {
+            sheet[5] = random.pick(&[sheet[5].wrapping_sub(1), sheet[5].wrapping_add(1), 32, 33, 255])
+        }
         _ if places.is_empty() => sheet.push(0),
         7 => sheet[random.pick(&places) + random.below(8)] = random.pick(b"A_0a\0\xff{`/:"),
         8 => {
@@ -51,6 +53,10 @@ fn damage_sheet(random: &mut Random, sheet: &mut Vec<u8>) {
     }
 }
 
+/// Lengths at M and past it, and texts that are no lengths.
+const LENGTHS: [&str; 8] =
+    ["1073741823", "1073741824", "4294967297", "99999999999999999999", "1000000000", "00", "05", ""];
+
 fn damage_formula(random: &mut Random, text: &mut Vec<u8>) {
     const LETTERS: &[u8] = b"abz019!^~().+,SRTONF \0\xff\n";
     if text.is_empty() {
@@ -58,19 +64,21 @@ fn damage_formula(random: &mut Random, text: &mut Vec<u8>) {
     }
     let at = random.below(text.len());
     let own = String::from_utf8_lossy(text).into_owned();
-    match random.below(16) {
+    match random.below(17) {
         0 => text.clear(),
         1 => *text = random.pick(&["!", "0.", "(1", "a+"]).repeat(random.between(500, 1100)).into_bytes(),
         2 => *text = ["(".repeat(random.between(10, 520)), "0".to_string()].concat().into_bytes(),
-        3 => text[at] = random.pick(LETTERS),
-        4 => text[at] = random.pick(LETTERS),
+        3 | 4 => text[at] = random.pick(LETTERS),
         5 => text.insert(at, random.pick(LETTERS)),
         6 => {
             text.remove(at);
         }
         7 => text.extend_from_slice(random.pick(&[".nosuch", "+nosuch9", ".abcdefghi", ".A", "+00", "."]).as_bytes()),
-        8 => *text = format!("{}({},{own})", random.pick(&["TON", "TOF"]), random.pick(&["1073741824", "4294967296", "9".repeat(40).as_str()])).into_bytes(),
-        9 => *text = format!("{}({},{own})", random.pick(&["TON", "TOF"]), random.pick(&["1073741823", "00", "05", "", "-1", "1000000000"])).into_bytes(),
+        8 | 9 => {
+            let block = random.pick(&["TON", "TOF"]);
+            let length = random.pick(&LENGTHS);
+            *text = format!("{block}({length},{own})").into_bytes();
+        }
         10 => text.extend_from_slice("+0".repeat(random.between(8, 20)).as_bytes()),
         11 => text.extend_from_slice("+0".repeat(random.between(8, 480)).as_bytes()),
         12 => *text = ["!".repeat(random.between(8, 18)), format!("({own})")].concat().into_bytes(),
@@ -79,6 +87,8 @@ fn damage_formula(random: &mut Random, text: &mut Vec<u8>) {
             *text = ["(".repeat(n), own, ")".repeat(n)].concat().into_bytes();
         }
         14 => *text = format!("{}({own},{own})", random.pick(&["SR", "RS", "SS", "TO"])).into_bytes(),
+        // at the longest formula
+        15 => *text = ["!".repeat(random.between(1022, 1026).saturating_sub(own.len())), own].concat().into_bytes(),
         _ => text.truncate(at),
     }
 }
@@ -88,7 +98,7 @@ pub fn damage(random: &mut Random, claim: &mut Claim) {
         0..=3 => damage_sheet(random, &mut claim.sheet),
         4..=5 => damage_formula(random, &mut claim.f),
         6..=7 => damage_formula(random, &mut claim.g),
-        _ => claim.work = random.pick(&[0, 1, 8191, 4096]),
+        _ => claim.work = random.pick(&[0, 1, 8191, 8191, 8193, MOST_WORK]),
     }
     // two faults at once show their order
     if random.one_in(4) {

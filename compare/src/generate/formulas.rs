@@ -93,7 +93,8 @@ impl Writer<'_> {
             text.push(')');
             return;
         }
-        let (operator, own, after) = if kind < 4 { ('+', Place::Sum, Place::Product) } else { ('.', Place::Product, Place::Factor) };
+        let (operator, own, after) =
+            if kind < 4 { ('+', Place::Sum, Place::Product) } else { ('.', Place::Product, Place::Factor) };
         let bracketed = own < place;
         if bracketed {
             text.push('(');

@@ -6,9 +6,11 @@ mod lists;
 use crate::random::Random;
 use formulas::{Lengths, Writer};
 pub use lists::{turns, MOST_WORDS};
-use lists::{Dates, M};
+use lists::{Dates, M, STEP};
 
-pub const WORK_WORDS: usize = 8192;
+/// The words that a work area needs, and the most that one has here.
+const WORK_WORDS: usize = 8192;
+pub const MOST_WORK: usize = 10_000;
 
 #[derive(Clone, Copy, PartialEq)]
 pub enum Set {
@@ -86,9 +88,11 @@ fn sheet(random: &mut Random, set: Set) -> (Vec<u8>, Vec<String>) {
     let mut bytes = b"SGL\x01\x00".to_vec();
     bytes.extend((count as u16).to_le_bytes());
     let mut names = Vec::new();
+    // two long lists of dates of their own can have an answer over 256 words
+    let long = set == Set::Mixed && random.one_in(6);
     for number in 0..count {
         let name = name(random, number);
-        let (words, dates) = shape(random, set);
+        let (words, dates) = if long { (random.between(150, MOST_WORDS), Dates::By(1000)) } else { shape(random, set) };
         let list = lists::list(random, words, dates);
         let mut field = [0; 8];
         field[..name.len()].copy_from_slice(name.as_bytes());
@@ -100,14 +104,16 @@ fn sheet(random: &mut Random, set: Set) -> (Vec<u8>, Vec<String>) {
     (bytes, names)
 }
 
-/// Two formulas: half of the pairs are such that the first implies the second on every sheet.
+/// Two formulas: about a third of the pairs are such that the first implies the second on every sheet.
 fn pair(writer: &mut Writer, set: Set) -> (String, String) {
     if set == Set::Largest {
-        if writer.random.one_in(2) {
+        if writer.random.one_in(3) {
             let h = writer.formula(29);
             return (format!("{}.({h})", writer.leaf()), format!("{h}+{}", writer.leaf()));
         }
-        return (writer.formula(31), writer.formula(31));
+        // nothing fails before the delay, which ends anywhere among the dates
+        let delay = STEP * writer.random.below(MOST_WORDS);
+        return (format!("TON({delay},1).({})", writer.formula(28)), writer.formula(31));
     }
     let (least, most) = match set {
         Set::Small => (1, 7),
@@ -117,7 +123,7 @@ fn pair(writer: &mut Writer, set: Set) -> (String, String) {
     let parts = writer.random.between(least, most);
     let h = writer.formula(parts);
     let length = formulas::length(writer.random, writer.lengths);
-    match writer.random.below(10) {
+    match writer.random.below(16) {
         0 => (h.clone(), h),
         1 => (format!("({h}).{}", writer.leaf()), h),
         2 => (h.clone(), format!("{h}+{}", writer.leaf())),

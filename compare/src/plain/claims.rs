@@ -56,15 +56,15 @@ impl<'a> Stack<'a> {
         self.height = place + 1;
     }
 
-    fn step(&mut self, part: Part, words: &[u8]) -> Result<(), u32> {
+    fn step(&mut self, sheet: &Sheet, part: Part) -> Result<(), u32> {
         let free = self.entries[self.height].slot;
         match part {
             Part::Constant(up) => {
                 self.slots[free][0] = up as u32;
                 self.replace(0, 1);
             }
-            Part::Name(_) => {
-                let count = load(words, &mut self.slots[free]);
+            Part::Name(_, place) => {
+                let count = load(sheet.words(place), &mut self.slots[free]);
                 self.replace(0, count);
             }
             Part::One(operation) => {
@@ -85,50 +85,34 @@ impl<'a> Stack<'a> {
     }
 
     /// The parts of a formula: 5 or 6 at the first that meets one; else its list is on top.
-    fn work_out(&mut self, formula: &OnSheet) -> Result<(), u32> {
-        for (part, words) in formula.formula.parts().iter().zip(&formula.words) {
-            self.step(*part, words)?;
+    fn work_out(&mut self, sheet: &Sheet, formula: &Formula) -> Result<(), u32> {
+        for part in formula.parts() {
+            self.step(sheet, *part)?;
         }
         Ok(())
     }
 }
 
-/// A formula, and for each part that is a name the bytes of its words.
-struct OnSheet<'a> {
-    formula: Formula,
-    words: [&'a [u8]; MOST_PARTS],
-}
-
-impl<'a> OnSheet<'a> {
-    /// Faults 10, 11, 8, 12, 13.
-    fn read(sheet: &Sheet<'a>, text: &[u8]) -> Result<OnSheet<'a>, u32> {
-        let formula = Formula::read(text)?;
-        let mut words: [&[u8]; MOST_PARTS] = [&[]; MOST_PARTS];
-        for (part, words) in formula.parts().iter().zip(&mut words) {
-            if let Part::Name(name) = part {
-                *words = sheet.find(name)?;
-            }
-        }
-        Ok(OnSheet { formula, words })
-    }
-}
-
-pub fn evaluate(sheet: &[u8], formula: &[u8], work: &mut [u32], out: &mut [u32]) -> Result<usize, u32> {
+/// The formula call: sheet faults; 10, 11, 8, 12, 13; 18; 5 or 6; 7.
+pub fn evaluate(sheet: &[u8], text: &[u8], work: &mut [u32], out: &mut [u32]) -> Result<usize, u32> {
     let sheet = Sheet::judge(sheet)?;
-    let formula = OnSheet::read(&sheet, formula)?;
+    let mut formula = Formula::new();
+    formula.read_for(&sheet, text)?;
     let mut stack = Stack::new(work)?;
-    stack.work_out(&formula)?;
+    stack.work_out(&sheet, &formula)?;
     let list = stack.list(0);
     out.get_mut(..list.len()).ok_or(7u32)?.copy_from_slice(list);
     Ok(list.len())
 }
 
-pub fn claim(sheet: &[u8], f: &[u8], g: &[u8], work: &mut [u32]) -> Result<Verdict, u32> {
+/// The claim: sheet faults; F's 10, 11, 8, 12, 13; G's; 18; F's 5 or 6; G's. G is worked out above F's list.
+pub fn claim(sheet: &[u8], f_text: &[u8], g_text: &[u8], work: &mut [u32]) -> Result<Verdict, u32> {
     let sheet = Sheet::judge(sheet)?;
-    let f = OnSheet::read(&sheet, f)?;
-    let g = OnSheet::read(&sheet, g)?;
+    let (mut f, mut g) = (Formula::new(), Formula::new());
+    f.read_for(&sheet, f_text)?;
+    g.read_for(&sheet, g_text)?;
     let mut stack = Stack::new(work)?;
-    stack.work_out(&f)?;
-    stack.work_out(&g)?;
+    stack.work_out(&sheet, &f)?;
+    stack.work_out(&sheet, &g)?;
     Ok(operations::implication(stack.list(0), stack.list(1)))
 }

@@ -1,7 +1,7 @@
 //! Formulas: read by recursive descent into parts in the order in which they are worked out.
 use super::lists::M;
 use super::operations::{One, Two, AND, OR};
-use super::sheets::Name;
+use super::sheets::{Name, Place, Sheet};
 
 const MOST_BYTES: usize = 1024;
 const MOST_DEPTH: usize = 16;
@@ -10,11 +10,13 @@ pub const MOST_PARTS: usize = 32;
 #[derive(Clone, Copy)]
 pub enum Part {
     Constant(bool),
-    Name(Name),
+    /// Its place is known once it is found on a sheet.
+    Name(Name, Place),
     One(One),
     Two(Two),
 }
 
+/// Room for the parts of a formula.
 pub struct Formula {
     parts: [Part; MOST_PARTS],
     count: usize,
@@ -26,7 +28,7 @@ struct Wrong;
 struct Reader<'a> {
     text: &'a [u8],
     at: usize,
-    formula: Formula,
+    formula: &'a mut Formula,
     too_long: bool,
     too_deep: bool,
 }
@@ -164,19 +166,22 @@ impl Reader<'_> {
             length += 1;
             self.at += 1;
         }
-        self.put(Part::Name(name), depth);
+        self.put(Part::Name(name, Place::default()), depth);
         Ok(())
     }
 }
 
 impl Formula {
-    /// Faults 10, 11, 8, 12.
-    pub fn read(text: &[u8]) -> Result<Formula, u32> {
+    pub fn new() -> Formula {
+        Formula { parts: [Part::Constant(false); MOST_PARTS], count: 0 }
+    }
+
+    /// Reads a text: 10, 11, 8, 12.
+    fn read(&mut self, text: &[u8]) -> Result<(), u32> {
         if text.is_empty() || text.len() > MOST_BYTES {
             return Err(10);
         }
-        let formula = Formula { parts: [Part::Constant(false); MOST_PARTS], count: 0 };
-        let mut reader = Reader { text, at: 0, formula, too_long: false, too_deep: false };
+        let mut reader = Reader { text, at: 0, formula: self, too_long: false, too_deep: false };
         if reader.sum(0).is_err() || reader.at < text.len() {
             return Err(11);
         }
@@ -186,7 +191,18 @@ impl Formula {
         if reader.formula.count > MOST_PARTS || reader.too_deep {
             return Err(12);
         }
-        Ok(reader.formula)
+        Ok(())
+    }
+
+    /// Reads a text for a sheet: 10, 11, 8, 12, 13.
+    pub fn read_for(&mut self, sheet: &Sheet, text: &[u8]) -> Result<(), u32> {
+        self.read(text)?;
+        for part in &mut self.parts[..self.count] {
+            if let Part::Name(name, place) = part {
+                *place = sheet.find(name)?;
+            }
+        }
+        Ok(())
     }
 
     pub fn parts(&self) -> &[Part] {

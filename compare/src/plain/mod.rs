@@ -1,5 +1,5 @@
-//! The same evaluation in plain Rust: safe, straightforward, optimised by the compiler only. The calls have the shape of ours, their answers
-//! packed into one number as include/rascrunel.h says.
+//! The same evaluation in plain Rust: safe, straightforward, optimised by the compiler only. The calls have the shape of ours,
+//! their answers packed into one number as include/rascrunel.h says.
 #![forbid(unsafe_code)]
 mod answers;
 mod claims;

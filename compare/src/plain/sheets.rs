@@ -8,7 +8,14 @@ const MOST_SIGNALS: usize = 32;
 /// A name of 1 to 8 characters, padded with zeros.
 pub type Name = [u8; 8];
 
-/// A sheet that was judged and accepted.
+/// Where the words of a signal stand among the signals of a sheet, in bytes.
+#[derive(Clone, Copy, Default)]
+pub struct Place {
+    start: u16,
+    end: u16,
+}
+
+/// A sheet that was judged and accepted: its signals, and how many.
 pub struct Sheet<'a> {
     signals: &'a [u8],
     count: usize,
@@ -23,16 +30,18 @@ fn well_named(name: &Name) -> bool {
         && padding.iter().all(|&byte| byte == 0)
 }
 
-/// The bytes of the words of the signal with a name, among the first signals.
-fn find<'a>(mut signals: &'a [u8], count: usize, name: &Name) -> Option<&'a [u8]> {
+/// Where the words of the signal with a name stand, if it is one of the first signals.
+fn find(signals: &[u8], count: usize, name: &Name) -> Option<Place> {
+    let mut at = 0;
     for _ in 0..count {
-        let (held, rest) = signals.split_first_chunk::<8>()?;
-        let (words, rest) = rest.split_first_chunk::<2>()?;
-        let (part, rest) = rest.split_at_checked(4 * u16::from_le_bytes(*words) as usize)?;
+        let (held, rest) = signals[at..].split_first_chunk::<8>()?;
+        let (words, _) = rest.split_first_chunk::<2>()?;
+        let start = at + 10;
+        let end = start + 4 * u16::from_le_bytes(*words) as usize;
         if held == name {
-            return Some(part);
+            return Some(Place { start: start as u16, end: end as u16 });
         }
-        signals = rest;
+        at = end;
     }
     None
 }
@@ -81,7 +90,7 @@ impl<'a> Sheet<'a> {
             }
             let (words, rest) = rest.split_first_chunk::<2>().ok_or(15u32)?;
             let words = u16::from_le_bytes(*words) as usize;
-            if words < 1 || words > WORDS {
+            if !(1..=WORDS).contains(&words) {
                 return Err(17);
             }
             judge_words(&rest[..rest.len().min(4 * words)])?;
@@ -94,8 +103,13 @@ impl<'a> Sheet<'a> {
         }
     }
 
-    /// The bytes of a signal's words; 13.
-    pub fn find(&self, name: &Name) -> Result<&'a [u8], u32> {
+    /// The signal with a name; 13.
+    pub fn find(&self, name: &Name) -> Result<Place, u32> {
         find(self.signals, self.count, name).ok_or(13)
+    }
+
+    /// The bytes of a signal's words.
+    pub fn words(&self, place: Place) -> &'a [u8] {
+        &self.signals[place.start as usize..place.end as usize]
     }
 }
