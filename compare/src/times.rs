@@ -116,7 +116,10 @@ impl Times {
         let a = turns(&mut random, words, 0);
         let b = turns(&mut random, words, 1);
         macro_rules! call {
-            (|$out:ident| $call:ident($($argument:expr),*)) => {
+            (|$out:ident| $call:ident($($argument:expr),*)) => {{
+                let mut $out = [0u32; MOST_WORDS];
+                assert_eq!(ffi::$call($($argument),*) >> 16, 0, "{}-{words} is refused", stringify!($call));
+                black_box(&mut $out);
                 self.row(
                     &format!("{}-{words}", stringify!($call)),
                     CALLS,
@@ -135,7 +138,7 @@ impl Times {
                         black_box(&mut $out);
                     },
                 )
-            };
+            }};
         }
         call!(|out| connective(8, &a, &b, &mut out));
         call!(|out| not(&a, &mut out));
