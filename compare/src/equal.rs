@@ -1,0 +1,149 @@
+//! Both give each call the same answer: the same number, and the same words in the whole of the output.
+use crate::generate::{self, Claim, Given, Set, MOST_WORDS};
+use crate::random::Random;
+use crate::{ffi, plain};
+use std::fmt::Write;
+
+/// How many claims hold, fail, and are refused with each fault.
+#[derive(Default)]
+pub struct Tally {
+    pub holds: usize,
+    pub fails: usize,
+    pub refused: [usize; 19],
+}
+
+impl Tally {
+    fn count(&mut self, verdict: u64) {
+        match (verdict >> 40) as usize {
+            0 if verdict == 0 => self.holds += 1,
+            0 => self.fails += 1,
+            fault => self.refused[fault] += 1,
+        }
+    }
+
+    pub fn all_refused(&self) -> usize {
+        self.refused.iter().sum()
+    }
+}
+
+fn verdict_text(verdict: u64) -> String {
+    match (verdict >> 40, verdict % 2) {
+        (0, _) if verdict == 0 => "holds".to_string(),
+        (0, 0) => format!("fails at {}", verdict / 2),
+        (0, _) => format!("fails after {}", verdict / 2),
+        (fault, _) => format!("refused {fault}"),
+    }
+}
+
+fn written_text(written: u32, out: &[u32]) -> String {
+    match written / 65536 {
+        0 => format!("{} words, output {out:?}", written % 65536),
+        fault => format!("refused {fault}, output {out:?}"),
+    }
+}
+
+fn claim_text(claim: &Claim) -> String {
+    let mut hex = String::new();
+    for byte in &claim.sheet {
+        write!(hex, "{byte:02x}").unwrap();
+    }
+    let (f, g) = (claim.f.escape_ascii(), claim.g.escape_ascii());
+    format!("sheet {hex}\nF {f}\nG {g}\nwork area of {} words", claim.work)
+}
+
+/// A claim call.
+pub type ClaimCall = fn(&[u8], &[u8], &[u8], &mut [u32]) -> u64;
+
+/// A claim refused by check 18 or before leaves the work area as it was.
+fn is_kept(verdict: u64, work: &[u32], old: &[u32]) -> bool {
+    matches!(verdict >> 40, 0 | 5 | 6) || work == old
+}
+
+/// Claims of a set, and their formulas by themselves: the first difference, or how they came out.
+pub fn claims(set: Set, seed: u64, count: usize, other: ClaimCall) -> Result<Tally, String> {
+    let mut random = set.random(seed);
+    let mut tally = Tally::default();
+    for _ in 0..count {
+        let claim = generate::claim(&mut random, set);
+        let old = vec![7; claim.work];
+        let (first, second) = (&mut old.clone(), &mut old.clone());
+        let ours = ffi::claim(&claim.sheet, &claim.f, &claim.g, first);
+        let others = other(&claim.sheet, &claim.f, &claim.g, second);
+        if ours != others {
+            let (ours, others) = (verdict_text(ours), verdict_text(others));
+            return Err(format!("{}\nours: {ours}\nplain: {others}", claim_text(&claim)));
+        }
+        if !is_kept(ours, first, &old) || !is_kept(ours, second, &old) {
+            return Err(format!("{}\nthe work area was written: {}", claim_text(&claim), verdict_text(ours)));
+        }
+        tally.count(ours);
+        for (letter, formula) in [("F", &claim.f), ("G", &claim.g)] {
+            let room = if random.one_in(4) { random.below(20) } else { MOST_WORDS };
+            let (mut out, mut other_out) = (vec![7; room], vec![7; room]);
+            let ours = ffi::evaluate(&claim.sheet, formula, first, &mut out);
+            let others = plain::evaluate(&claim.sheet, formula, second, &mut other_out);
+            if (ours, &out) != (others, &other_out) {
+                let (ours, others) = (written_text(ours, &out), written_text(others, &other_out));
+                return Err(format!("{}\n{letter} by itself\nours: {ours}\nplain: {others}", claim_text(&claim)));
+            }
+        }
+    }
+    Ok(tally)
+}
+
+/// A call on lists, its answer as a number, made by either.
+pub struct ListCall {
+    pub name: &'static str,
+    pub ours: fn(&Given, &mut [u32]) -> u64,
+    pub plain: fn(&Given, &mut [u32]) -> u64,
+}
+
+macro_rules! list_calls {
+    ($(|$given:ident, $out:ident| $call:ident($($argument:expr),*)),* $(,)?) => {
+        [$(ListCall {
+            name: stringify!($call),
+            ours: |$given, $out| ffi::$call($($argument),*).into(),
+            plain: |$given, $out| plain::$call($($argument),*).into(),
+        }),*]
+    };
+}
+
+pub const LIST_CALLS: [ListCall; 9] = list_calls![
+    |given, out| not(&given.a, out),
+    |given, out| rising(&given.a, out),
+    |given, out| falling(&given.a, out),
+    |given, out| ton(given.number, &given.a, out),
+    |given, out| tof(given.number, &given.a, out),
+    |given, out| connective(given.number, &given.a, &given.b, out),
+    |given, out| sr(&given.a, &given.b, out),
+    |given, out| rs(&given.a, &given.b, out),
+    |given, _out| implies(&given.a, &given.b),
+];
+
+/// Every call on lists that are drawn: the first difference, or how many calls were answered and how many refused.
+pub fn lists(seed: u64, count: usize, calls: &[ListCall]) -> Result<(usize, usize), String> {
+    let mut random = Random(seed);
+    let (mut answered, mut refused) = (0, 0);
+    for _ in 0..count {
+        let given = generate::given(&mut random);
+        for call in calls {
+            let room = if random.one_in(4) { random.below(300) } else { MOST_WORDS };
+            let (mut out, mut other_out) = (vec![7; room], vec![7; room]);
+            let ours = (call.ours)(&given, &mut out);
+            let others = (call.plain)(&given, &mut other_out);
+            if (ours, &out) != (others, &other_out) {
+                let Given { number, a, b } = given;
+                let (name, words) = (call.name, format!("number {number}\na {a:?}\nb {b:?}\noutput of {room} words"));
+                return Err(format!(
+                    "{name}\n{words}\nours: {ours}, output {out:?}\nplain: {others}, output {other_out:?}"
+                ));
+            }
+            if ours >> 16 == 0 || call.name == "implies" && ours >> 40 == 0 {
+                answered += 1;
+            } else {
+                refused += 1;
+            }
+        }
+    }
+    Ok((answered, refused))
+}

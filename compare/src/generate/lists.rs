@@ -1,0 +1,61 @@
+//! Lists of words.
+use crate::random::Random;
+
+pub const M: usize = 1_073_741_823;
+pub const MOST_WORDS: usize = 256;
+
+/// Between the dates of lists that share them.
+pub const STEP: usize = 1000;
+
+/// How the dates of a list rise.
+#[derive(Clone, Copy)]
+pub enum Dates {
+    /// By 1 up to this.
+    By(usize),
+    /// By the step, from the step on.
+    Shared,
+    /// By 1 to 3, up to M or near it.
+    Last,
+}
+
+/// A list of so many words, fewer where the dates end before.
+pub fn list(random: &mut Random, words: usize, dates: Dates) -> Vec<u32> {
+    let mut list = vec![random.below(2) as u32];
+    let mut date = if let Dates::Last = dates { M - 3 * words } else { 0 };
+    while list.len() < words {
+        date += match dates {
+            Dates::By(most) => random.between(1, most),
+            Dates::Shared => STEP,
+            Dates::Last => random.between(1, 3),
+        };
+        let before = list[list.len() - 1] % 2;
+        let turned = 3 - 3 * before;
+        let values = if random.one_in(2) { turned } else { random.pick(&[1, 2, turned]) };
+        list.push(4 * date as u32 + values);
+    }
+    list
+}
+
+/// Down, then up and down in turn, a change in each stretch of 20 ticks, from a date of its first half or of its second half on.
+pub fn turns(random: &mut Random, words: usize, half: usize) -> Vec<u32> {
+    let word = |i: usize, random: &mut Random| match i {
+        0 => 0,
+        _ => 4 * (20 * i + 10 * half + random.below(10)) as u32 + if i % 2 == 1 { 3 } else { 0 },
+    };
+    (0..words).map(|i| word(i, random)).collect()
+}
+
+/// A list that may break a rule.
+pub fn damaged(random: &mut Random, mut list: Vec<u32>) -> Vec<u32> {
+    let at = random.below(list.len());
+    match random.below(7) {
+        0 => list.clear(),
+        1 => list[0] = random.pick(&[2, 3, u32::MAX]),
+        2 => list[at] = random.next() as u32,
+        3 => list[at] = list[at.saturating_sub(1)],
+        4 => list[at] ^= random.pick(&[1, 2, 3]),
+        5 => list.extend((0..random.between(1, 260)).map(|i| 4 * (M as u32 - 300 + i as u32) + 1)),
+        _ => list.reverse(),
+    }
+    list
+}

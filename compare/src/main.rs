@@ -1,0 +1,108 @@
+//! The proved library beside plain Rust of the same evaluation. README.md says how to run it and how to read the table.
+mod equal;
+mod ffi;
+mod generate;
+mod plain;
+mod random;
+mod times;
+
+use equal::{ListCall, Tally, LIST_CALLS};
+use generate::Set;
+use std::process::ExitCode;
+use times::Times;
+
+const SEED: u64 = 1;
+
+/// The faults that a claim can meet.
+const FAULTS: [usize; 12] = [5, 6, 8, 10, 11, 12, 13, 14, 15, 16, 17, 18];
+
+const USAGE: &str = "compare [--equal | ROW]";
+
+/// Wrong engines in the place of plain: the check must tell each of them from ours.
+fn wrong_ones_are_told() -> Result<(), String> {
+    let told =
+        |name: &str, found: bool| if found { Ok(()) } else { Err(format!("the check does not tell {name} from ours")) };
+    let turned = equal::claims(Set::Small, SEED, 300, |sheet, f, g, work| plain::claim(sheet, g, f, work));
+    told("the claim of G to F", turned.is_err())?;
+    let rs_for_sr = ListCall {
+        name: "sr",
+        ours: |x, out| ffi::sr(&x.a, &x.b, out).into(),
+        plain: |x, out| plain::rs(&x.a, &x.b, out).into(),
+    };
+    told("RS in the place of SR", equal::lists(SEED, 300, &[rs_for_sr]).is_err())?;
+    let word_more = ListCall {
+        name: "not",
+        ours: |x, out| ffi::not(&x.a, out).into(),
+        plain: |x, out| {
+            let written = plain::not(&x.a, out);
+            if let Some(word) = out.get_mut(written as usize % 65536) {
+                *word = 0;
+            }
+            written.into()
+        },
+    };
+    told("a word more in the output", equal::lists(SEED, 300, &[word_more]).is_err())
+}
+
+/// Both are equal on so many claims of each set (of the largest a twentieth) and so many lists.
+fn check(count: usize) -> Result<(), String> {
+    wrong_ones_are_told()?;
+    let mut met = [0; 19];
+    for set in Set::ALL {
+        let claims = if set == Set::Largest { count / 20 } else { count };
+        let tally = equal::claims(set, SEED, claims, plain::claim)?;
+        let Tally { holds, fails, refused } = &tally;
+        println!("{:<8} {claims} claims: {holds} hold, {fails} fail, {} refused", set.name(), tally.all_refused());
+        for (sum, refused) in met.iter_mut().zip(refused) {
+            *sum += refused;
+        }
+    }
+    let shown = FAULTS.map(|fault| format!("{fault}: {}", met[fault]));
+    println!("refused with {}", shown.join(", "));
+    if let Some(fault) = FAULTS.iter().find(|&&fault| met[fault] == 0) {
+        return Err(format!("no claim was refused with {fault}"));
+    }
+    let (answered, refused) = equal::lists(SEED, count, &LIST_CALLS)?;
+    println!("lists    {} calls: {answered} answered, {refused} refused", answered + refused);
+    println!("equal    every verdict, fault, count and output");
+    Ok(())
+}
+
+fn table(only: Option<String>) -> Result<(), String> {
+    let repetitions = if only.is_some() { 301 } else { 61 };
+    let mut times = Times { only, repetitions, rows: 0 };
+    for set in Set::ALL {
+        times.set(set, SEED);
+    }
+    for words in [3, 16, 250] {
+        times.operations(words, SEED);
+    }
+    match times {
+        Times { rows: 0, only: Some(name), .. } => Err(format!("no row {name}: {USAGE}")),
+        _ => Ok(()),
+    }
+}
+
+fn run(arguments: &[String]) -> Result<(), String> {
+    match arguments {
+        [] => {
+            check(20_000)?;
+            println!();
+            table(None)
+        }
+        [flag] if flag == "--equal" => check(2_000),
+        [row] if !row.starts_with('-') => table(Some(row.clone())),
+        _ => Err(USAGE.to_string()),
+    }
+}
+
+fn main() -> ExitCode {
+    let arguments: Vec<String> = std::env::args().skip(1).collect();
+    match run(&arguments) {
+        Ok(()) => ExitCode::SUCCESS,
+        Err(what) => {
+            eprintln!("compare: {what}");
+            ExitCode::FAILURE
+        }
+    }
+}

@@ -1,0 +1,121 @@
+//! The same evaluation in plain Rust: safe, straightforward, optimised by the compiler only. The calls have the shape of ours,
+//! their answers packed into one number as include/rascrunel.h says.
+#![forbid(unsafe_code)]
+mod answers;
+mod claims;
+mod delays;
+mod formulas;
+mod lists;
+mod operations;
+mod sheets;
+
+use lists::{judge, M, WORDS};
+use operations::{implication, One, Two, Verdict};
+
+fn packed(answer: Result<usize, u32>) -> u32 {
+    match answer {
+        Ok(count) => count as u32,
+        Err(fault) => 65536 * fault,
+    }
+}
+
+fn packed_verdict(answer: Result<Verdict, u32>) -> u64 {
+    match answer {
+        Ok(Verdict::Holds) => 0,
+        Ok(Verdict::FailsAt(k)) => 2 * k as u64,
+        Ok(Verdict::FailsAfter(k)) => 2 * k as u64 + 1,
+        Err(fault) => (fault as u64) << 40,
+    }
+}
+
+/// The first words of a slot handed to the output; 7.
+fn deliver(slot: &[u32; WORDS], count: usize, out: &mut [u32]) -> Result<usize, u32> {
+    out.get_mut(..count).ok_or(7u32)?.copy_from_slice(&slot[..count]);
+    Ok(count)
+}
+
+/// Faults of the list, 8, 5, 6, 7.
+fn call_of_one(operation: One, a: &[u32], out: &mut [u32]) -> Result<usize, u32> {
+    judge(a)?;
+    if let One::Ton(length) | One::Tof(length) = operation {
+        if length > M {
+            return Err(8);
+        }
+    }
+    let mut slot = [0; WORDS];
+    let count = operations::one(operation, a, &mut slot)?;
+    deliver(&slot, count, out)
+}
+
+/// Faults of a, of b, 5, 7.
+fn call_of_two(operation: Two, a: &[u32], b: &[u32], out: &mut [u32]) -> Result<usize, u32> {
+    judge(a)?;
+    judge(b)?;
+    let mut slot = [0; WORDS];
+    let count = operations::two(operation, a, b, &mut slot)?;
+    deliver(&slot, count, out)
+}
+
+fn call_of_implication(a: &[u32], b: &[u32]) -> Result<Verdict, u32> {
+    judge(a)?;
+    judge(b)?;
+    Ok(implication(a, b))
+}
+
+// The calls. None is put into its caller: ours cannot be.
+
+#[inline(never)]
+pub fn not(a: &[u32], out: &mut [u32]) -> u32 {
+    packed(call_of_one(One::Not, a, out))
+}
+
+#[inline(never)]
+pub fn rising(a: &[u32], out: &mut [u32]) -> u32 {
+    packed(call_of_one(One::Rising, a, out))
+}
+
+#[inline(never)]
+pub fn falling(a: &[u32], out: &mut [u32]) -> u32 {
+    packed(call_of_one(One::Falling, a, out))
+}
+
+#[inline(never)]
+pub fn ton(length: u32, f: &[u32], out: &mut [u32]) -> u32 {
+    packed(call_of_one(One::Ton(length), f, out))
+}
+
+#[inline(never)]
+pub fn tof(length: u32, f: &[u32], out: &mut [u32]) -> u32 {
+    packed(call_of_one(One::Tof(length), f, out))
+}
+
+#[inline(never)]
+pub fn connective(bits: u32, a: &[u32], b: &[u32], out: &mut [u32]) -> u32 {
+    let table = [[bits & 1 != 0, bits & 2 != 0], [bits & 4 != 0, bits & 8 != 0]];
+    packed(call_of_two(Two::Connective(table), a, b, out))
+}
+
+#[inline(never)]
+pub fn sr(s: &[u32], r: &[u32], out: &mut [u32]) -> u32 {
+    packed(call_of_two(Two::Sr, s, r, out))
+}
+
+#[inline(never)]
+pub fn rs(s: &[u32], r: &[u32], out: &mut [u32]) -> u32 {
+    packed(call_of_two(Two::Rs, s, r, out))
+}
+
+#[inline(never)]
+pub fn implies(a: &[u32], b: &[u32]) -> u64 {
+    packed_verdict(call_of_implication(a, b))
+}
+
+#[inline(never)]
+pub fn evaluate(sheet: &[u8], formula: &[u8], work: &mut [u32], out: &mut [u32]) -> u32 {
+    packed(claims::evaluate(sheet, formula, work, out))
+}
+
+#[inline(never)]
+pub fn claim(sheet: &[u8], f: &[u8], g: &[u8], work: &mut [u32]) -> u64 {
+    packed_verdict(claims::claim(sheet, f, g, work))
+}

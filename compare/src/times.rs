@@ -1,0 +1,152 @@
+//! Processor time of both, in turns.
+use crate::generate::{self, turns, Claim, Set, MOST_WORDS, MOST_WORK};
+use crate::random::Random;
+use crate::{ffi, plain};
+use std::hint::black_box;
+
+/// One timing lasts at least so many nanoseconds, far above the grain of the clock.
+const LEAST: u64 = 2_000_000;
+
+pub struct Times {
+    /// The one row that is wanted, or all.
+    pub only: Option<String>,
+    pub repetitions: usize,
+    pub rows: usize,
+}
+
+/// The nanoseconds of so many rounds.
+fn time(rounds: u64, work: &mut impl FnMut()) -> u64 {
+    let begun = ffi::process_time();
+    for _ in 0..rounds {
+        work();
+    }
+    ffi::process_time() - begun
+}
+
+/// The number a fraction of the way up.
+fn quantile(numbers: &mut [f64], fraction: f64) -> f64 {
+    numbers.sort_by(f64::total_cmp);
+    numbers[((numbers.len() - 1) as f64 * fraction).round() as usize]
+}
+
+impl Times {
+    /// Times rounds of so many calls, ours and plain in turns, and prints their row.
+    fn row(&mut self, name: &str, calls: usize, mut ours: impl FnMut(), mut plain: impl FnMut()) {
+        if self.only.as_deref().is_some_and(|only| only != name) || calls == 0 {
+            return;
+        }
+        if self.rows == 0 {
+            println!("medians of {} repetitions in turns; from, to: the middle half of the ratios", self.repetitions);
+            println!("{:<18} {:>10} {:>10} {:>7} {:>7} {:>7}", "row", "ours ns", "plain ns", "ratio", "from", "to");
+        }
+        self.rows += 1;
+        let mut rounds = 1;
+        while time(rounds, &mut ours).min(time(rounds, &mut plain)) < LEAST {
+            rounds *= 2;
+        }
+        let (mut of_ours, mut of_plain, mut ratios) = (Vec::new(), Vec::new(), Vec::new());
+        for repetition in 0..self.repetitions {
+            let (first, second);
+            if repetition % 2 == 0 {
+                first = time(rounds, &mut ours);
+                second = time(rounds, &mut plain);
+            } else {
+                second = time(rounds, &mut plain);
+                first = time(rounds, &mut ours);
+            }
+            let each = (rounds * calls as u64) as f64;
+            of_ours.push(first as f64 / each);
+            of_plain.push(second as f64 / each);
+            ratios.push(first as f64 / second as f64);
+        }
+        println!(
+            "{name:<18} {:>10.1} {:>10.1} {:>7.2} {:>7.2} {:>7.2}",
+            quantile(&mut of_ours, 0.5),
+            quantile(&mut of_plain, 0.5),
+            quantile(&mut ratios, 0.5),
+            quantile(&mut ratios, 0.25),
+            quantile(&mut ratios, 0.75),
+        );
+    }
+
+    fn claims(&mut self, name: &str, claims: &[Claim]) {
+        let (mut work, mut other_work) = (vec![0; MOST_WORK], vec![0; MOST_WORK]);
+        let ours = || {
+            for claim in claims {
+                let work = &mut work[..claim.work];
+                black_box(ffi::claim(
+                    black_box(&claim.sheet),
+                    black_box(&claim.f),
+                    black_box(&claim.g),
+                    black_box(work),
+                ));
+            }
+        };
+        let plain = || {
+            for claim in claims {
+                let work = &mut other_work[..claim.work];
+                black_box(plain::claim(
+                    black_box(&claim.sheet),
+                    black_box(&claim.f),
+                    black_box(&claim.g),
+                    black_box(work),
+                ));
+            }
+        };
+        self.row(name, claims.len(), ours, plain);
+    }
+
+    /// The claims of a set: those that are answered, then those that are refused.
+    pub fn set(&mut self, set: Set, seed: u64) {
+        let mut random = set.random(seed);
+        let count = if set == Set::Largest { 24 } else { 300 };
+        let mut work = vec![0; MOST_WORK];
+        let drawn = (0..count).map(|_| generate::claim(&mut random, set));
+        let is_answered =
+            |claim: &Claim| ffi::claim(&claim.sheet, &claim.f, &claim.g, &mut work[..claim.work]) >> 40 == 0;
+        let (answered, refused): (Vec<Claim>, Vec<Claim>) = drawn.partition(is_answered);
+        self.claims(set.name(), &answered);
+        self.claims(&format!("{}-refused", set.name()), &refused);
+    }
+
+    /// The single operations on lists of so many words.
+    pub fn operations(&mut self, words: usize, seed: u64) {
+        const CALLS: usize = 100;
+        let mut random = Random(seed);
+        let a = turns(&mut random, words, 0);
+        let b = turns(&mut random, words, 1);
+        macro_rules! call {
+            (|$out:ident| $call:ident($($argument:expr),*)) => {{
+                let mut $out = [0u32; MOST_WORDS];
+                assert_eq!(ffi::$call($($argument),*) >> 16, 0, "{}-{words} is refused", stringify!($call));
+                black_box(&mut $out);
+                self.row(
+                    &format!("{}-{words}", stringify!($call)),
+                    CALLS,
+                    || {
+                        let mut $out = [0u32; MOST_WORDS];
+                        for _ in 0..CALLS {
+                            black_box(ffi::$call($(black_box($argument)),*));
+                        }
+                        black_box(&mut $out);
+                    },
+                    || {
+                        let mut $out = [0u32; MOST_WORDS];
+                        for _ in 0..CALLS {
+                            black_box(plain::$call($(black_box($argument)),*));
+                        }
+                        black_box(&mut $out);
+                    },
+                )
+            }};
+        }
+        call!(|out| connective(8, &a, &b, &mut out));
+        call!(|out| not(&a, &mut out));
+        call!(|out| rising(&a, &mut out));
+        call!(|out| sr(&a, &b, &mut out));
+        call!(|out| rs(&a, &b, &mut out));
+        call!(|out| ton(2, &a, &mut out));
+        call!(|out| tof(2, &a, &mut out));
+        call!(|out| implies(&a, &a));
+    }
+}
