@@ -1,5 +1,4 @@
--- Lemmas of the stack in the work area, without the code.
-pub mod Putting
-pub mod SlotFacts
-pub mod Stepping
-pub mod Looping
+-- A stack of lists where they stand, and working code words out on it.
+mod Standing
+mod Slots
+mod Looping

@@ -1,174 +1,288 @@
--- Working all the code words out: what the loop keeps, one turn, and its end.
-use Prim.Native.Nat.{ℕ, suc, _+_, _*_, _-_, _≤_, _<_}
+-- Working code words out one by one: the sources say where the stack's lists stand, and what is left to run from there is left of all.
+use Prim.Native.Nat.{ℕ, zero, suc, _+_, _-_, _/_, _%_, _≤_, _<_}
 use native.Mathlib.Omega.{arith}
-use native.Mathlib.Decide.{ℕ-discrete}
 use native.Mathlib.Numerals.{add-one}
-use mathlib.Core.Path.{_≡_, refl, sym, _∙_}
-use mathlib.Core.Bool.{Bool, true, false}
+use native.Mathlib.Decide.{ℕ-discrete}
+use mathlib.Core.Path.{_≡_, refl, sym, _∙_, ap, subst}
+use mathlib.Core.Bool.{Bool, true, false, cond}
 use mathlib.Core.List.{List, [], _∷_}
-use lib.Dec.{ltb}
-use lib.ListN.{length, take, drop, getD, set, length-drop, drop-of-length-le}
-use lib.Seq.{drop-cons}
-use borrow.Author.Tests.{le-ltb, lt-ltb, ltb-false}
+use mathlib.Core.Logic.{_⊎_, inl, inr}
+use lib.Dec.{eqb}
+use lib.ListN.{length, take, drop, getD, set, length-set, length-drop, drop-of-length-le}
+use lib.Seq.{drop-cons, getD-set-same, getD-set-other, take-take}
+use borrow.Author.Tests.{le-ltb, lt-ltb, lt-leb, eq-eqb}
 use Rattle.signals.specs.Words.{mostWords}
-use Rattle.signals.specs.Answers.{firstOf}
-use Rattle.signals.specs.declared.Written.the-variants.{Count, Refused}
-use Rattle.signals.proofs.FirstFault.{first-is, next-is}
+use Rattle.signals.specs.Answers.{faultIn, countIn}
 use Rattle.calls.specs.Calls.{workWords}
-use Rattle.code_words.specs.CodeWords.{operandsOf}
-use Rattle.machine.specs.Stack.{stepFault, stepped, ranFault, ranStack, lowest, ranList, areaFault, RanOut}
-use Rattle.machine.proofs.Answers.{refused-is, counted-is}
+use Rattle.grammar.specs.Kinds as kinds
+use Rattle.sources.specs.Sources.{listAt, apartFrom, slotIn, withSlot}
+use Rattle.sources.specs.declared.Memory.{Memory}
+use Rattle.sources.specs.declared.Memory.the-variants.{Sheet, Work, Left, Right}
+use Rattle.sources.specs.declared.Source.{Source}
+use Rattle.sources.proofs.Sourcing.{slot-back, with-slot-long}
+use Rattle.code_words.specs.CodeWords.{constants, constantOf, leafSource, operandsOf}
+use Rattle.applying.specs.Applied.{Applied}
+use Rattle.machine.specs.Stack.{leafList, firstTaken, onTop, Runs, Worked, lacking, high, leaf, made, refused, areaFault, RanOut}
+use Rattle.machine.proofs.PartCodes.{arity-small}
 use Rattle.working.specs.declared.Next.{Next}
-use Rattle.working.specs.Slots.{Stacked, Ready, Stepped, Steps}
-use Rattle.working.proofs.SlotFacts.{lowest-slot}
+use Rattle.working.specs.declared.Ran.{Ran}
+use Rattle.working.specs.Standing.{listOf, nowhere, slotSource, fromAbove, Stands, Stacked, Slotted, Ready}
+use Rattle.working.specs.Standing.{LeafMade, ListMade, StepMade, WorkedOut}
+use Rattle.working.proofs.Standing.{stands-at, stacked-drop, stands-apart, stacked-kept, stacked-same}
+use Rattle.working.proofs.Slots.{exchanged, exchanged-slotted, exchanged-below, exchanged-top, firstSlots, first-slotted}
 
--- the code words left, one by one
-next-code : (codes : List ℕ) (i : ℕ) → i < length codes → drop i codes ≡ getD codes i 0 ∷ drop (i + 1) codes
-next-code codes i h = rw (add-one, drop-cons codes i 0 h)
-
--- the stack stays low
-low-stack : (sheet text : List ℕ) (w : ℕ) (st : List (List ℕ)) → length st ≤ 17 → stepFault w st ≡ 0 → length (stepped sheet text w st) ≤ 17
-unfolding stepFault
-low-stack sheet text w st h e =
-    go (ltb 16 (length st)) (ℕ-discrete (operandsOf w) 0) refl
-  where
-    long : length (drop (operandsOf w) st) ≡ length st - operandsOf w
-    long = length-drop (operandsOf w) st
-
-    go : (b : Bool) → Dec (operandsOf w ≡ 0) → ltb 16 (length st) ≡ b → suc (length (drop (operandsOf w) st)) ≤ 17
-    go b (no x) q = omega (arith, long, x)
-    go true (yes z) q = absurd (let k : _≡_ {A = ℕ} 12 0 = rw (z, q) at e in omega arith)
-    go false (yes z) q = let l = ltb-false 16 (length st) q in omega (arith, long)
-
--- the room that the stack has
-pub room-there : (base words : ℕ) → base ≤ 1 → workWords ≤ words → areaFault base words ≡ 0
+-- a work area that is too short
+pub no-room : (sheet codes before : List ℕ) (ran : Ran) → length before < workWords → ran .fault ≡ 18
+    → WorkedOut sheet codes before ran before
 unfolding areaFault
-room-there base words h l = rw (le-ltb 1 base h, le-ltb words workWords l)
-
-pub no-room : (sheet text codes : List ℕ) (base : ℕ) (work : List ℕ) → areaFault base (length work) ≡ 18
-    → RanOut sheet text codes base work (Refused 18) work
-unfolding firstOf
-no-room sheet text codes base work e =
+no-room sheet codes before ran h e =
     record {
-      answer-is = rw e (refused-is 18 _ (λ z. omega arith));
-      stands = λ z. absurd (let q : _≡_ {A = ℕ} 18 0 = rw e at z in omega arith);
-      kept = refl;
-      untouched = λ x. refl;
+      end = [];
+      out = record { short = λ x. (e ∙ sym fault, refl); runs = λ z. absurd (let q = sym fault ∙ z in omega arith) };
+      top-is = λ z. absurd (let q = sym e ∙ z in omega arith);
+      below-is = λ z. absurd (let q = sym e ∙ z in omega arith);
     }
+  where
+    fault : areaFault (length before) ≡ 18
+    fault = rw (lt-ltb (length before) workWords h)
 
-pub high-base : (base words : ℕ) → 1 < base → areaFault base words ≡ 18
-unfolding areaFault
-high-base base words h = rw (lt-ltb 1 base h)
+-- a leaf's list stands wherever the work area is
+in-work : Memory → ℕ
+in-work Sheet = 0
+in-work Work = 1
+in-work Left = 0
+in-work Right = 0
 
-pub short-area : (base words : ℕ) → base ≤ 1 → words < workWords → areaFault base words ≡ 18
-unfolding areaFault
-short-area base words h l = rw (le-ltb 1 base h, lt-ltb words workWords l)
+leaf-stands : (sheet work : List ℕ) (w slot : ℕ) → Stands sheet work (leafSource w) slot (leafList sheet w)
+unfolding leafSource leafList in-work
+leaf-stands sheet work w slot = go (eqb (w % 16) kinds.NAME)
+  where
+    go : (b : Bool)
+        → Stands sheet work
+        (cond b (record { memory = Sheet; at = w / 8192 % 4294967296; count = w / 16 % 512 }) (record { memory = Left; at = constantOf w; count = 1 }))
+        slot
+        (listAt sheet constants constants []
+        (cond b (record { memory = Sheet; at = w / 8192 % 4294967296; count = w / 16 % 512 }) (record { memory = Left; at = constantOf w; count = 1 })))
+    go true = record { names = refl; own = λ e. absurd (let z : _≡_ {A = ℕ} 0 1 = ap in-work e in omega arith) }
+    go false = record { names = refl; own = λ e. absurd (let z : _≡_ {A = ℕ} 0 1 = ap in-work e in omega arith) }
 
-pub record Going (sheet text codes before work counts : List ℕ) (base height i : ℕ) : Type 0 where
-  pub stack : List (List ℕ)
-  pub tall : length stack ≡ height
-  pub few : height ≤ 17
-  pub stacked : Stacked work counts base stack
-  pub faults : ranFault sheet text codes [] ≡ ranFault sheet text (drop i codes) stack
-  pub ends : ranStack sheet text codes [] ≡ ranStack sheet text (drop i codes) stack
-  pub empty : height ≡ 0 → getD counts 0 0 ≡ 0
-  pub kept : take (mostWords * base) work ≡ take (mostWords * base) before
+module _ (sheet codes before : List ℕ) where
+  pub record Going (work : List ℕ) (stack : List Source) (slots : List ℕ) (height i : ℕ) : Type 0 where
+    pub st : List (List ℕ)
+    pub tall : length st ≡ height
+    pub few : height ≤ 18
+    pub long : length stack ≡ 20
+    pub slotted : Slotted slots
+    pub stacked : Stacked sheet work stack slots st
+    pub same : length work ≡ length before
+    pub on : (fault : ℕ) (end : List (List ℕ)) → Runs sheet (drop i codes) st fault end → Runs sheet codes [] fault end
 
-pub start : (sheet text codes before counts : List ℕ) (base : ℕ) → getD counts 0 0 ≡ 0
-    → Going sheet text codes before before counts base 0 0
-start sheet text codes before counts base e =
-    record { stack = []; tall = refl; few = omega arith; stacked = tt; faults = refl; ends = refl; empty = λ z. e; kept = refl }
+  pub start : (stack : List Source) → length stack ≡ 20 → Going before stack firstSlots 0 0
+  start stack e =
+      record {
+        st = [];
+        tall = refl;
+        few = omega arith;
+        long = e;
+        slotted = first-slotted;
+        stacked = tt;
+        same = refl;
+        on = λ fault end r. r;
+      }
 
-module _ (sheet text codes before work counts : List ℕ) (base height i : ℕ) (low : base ≤ 1)
-    (slots : workWords ≤ length before) (g : Going sheet text codes before work counts base height i) where
-  area : (rest : ℕ) → firstOf (areaFault base (length before)) rest ≡ rest
-  area rest = next-is _ rest (room-there base (length before) low slots)
+  module _ (room : workWords ≤ length before) where
+    no-18 : areaFault (length before) ≡ 0
+    unfolding areaFault
+    no-18 = rw (le-ltb (length before) workWords room)
 
-  pub ready : Ready work counts base height
-  ready = record { stack = g .stack; tall = g .tall; stacked = g .stacked }
+    ended : (ran : Ran) (after : List ℕ) (end : List (List ℕ)) → Runs sheet codes [] (ran .fault) end
+        → RanOut sheet codes before after (ran .fault) end
+    ended ran after end r = record { short = λ x. absurd (x no-18); runs = λ z. r }
 
-  module _ (inside : i < length codes) (after : List ℕ) (next : Next)
-      (s : Steps sheet text work after counts base height (getD codes i 0) next) where
-    did : Stepped sheet text work after counts base (getD codes i 0) (g .stack) next
-    did = s (g .stack) (g .tall) (g .stacked)
-
-    faults-here : ranFault sheet text codes [] ≡ firstOf (stepFault (getD codes i 0) (g .stack))
-        (ranFault sheet text (drop (i + 1) codes) (stepped sheet text (getD codes i 0) (g .stack)))
-    unfolding ranFault
-    faults-here = rw (next-code codes i inside) at (g .faults)
-
-    ends-here : ranStack sheet text codes [] ≡ ranStack sheet text (drop (i + 1) codes)
-        (stepped sheet text (getD codes i 0) (g .stack))
-    unfolding ranStack
-    ends-here = rw (next-code codes i inside) at (g .ends)
-
-    pub stopped : (next .fault ≡ 0 → ⊥) → RanOut sheet text codes base before (Refused (next .fault)) after
-    stopped x =
-        let f : firstOf (areaFault base (length before)) (ranFault sheet text codes []) ≡ next .fault =
-        area _ ∙ faults-here ∙ rw (← (did .fault-is)) (first-is (next .fault) _ x) in
+    -- a fault ends it
+    stops : (ran : Ran) (after : List ℕ) (end : List (List ℕ)) → (ran .fault ≡ 0 → ⊥) → Runs sheet codes [] (ran .fault) end
+        → WorkedOut sheet codes before ran after
+    stops ran after end x r =
         record {
-          answer-is = rw f (refused-is (next .fault) _ x);
-          stands = λ z. absurd (x (sym f ∙ z));
-          kept = did .kept ∙ g .kept;
-          untouched = λ y. absurd (y (room-there base (length before) low slots));
+          end = end;
+          out = ended ran after end r;
+          top-is = λ z. absurd (x z);
+          below-is = λ z. absurd (x z);
         }
 
-    pub gone-on : next .fault ≡ 0 → (1 ≤ next .height) × (next .height ≤ 17) × Going sheet text codes before after
-        (set counts (next .height - 1) (next .count)) base (next .height) (i + 1)
-    gone-on z =
-        let w = getD codes i 0 in
-        let clear : stepFault w (g .stack) ≡ 0 = sym (did .fault-is) ∙ z in
-        let h = did .height-is z in
-        let l = low-stack sheet text w (g .stack) (omega (arith, g .tall, g .few)) clear in (
-          omega arith,
-          omega arith,
+    module _ (work : List ℕ) (stack : List Source) (slots : List ℕ) (height i : ℕ) (g : Going work stack slots height i) where
+      pub finished : length codes ≤ i → (ran : Ran) → ran .fault ≡ 0 → ran .top ≡ fromAbove stack height 0
+          → ran .below ≡ fromAbove stack height 1 → WorkedOut sheet codes before ran work
+      unfolding fromAbove
+      finished h ran z t b =
           record {
-            stack = stepped sheet text w (g .stack);
-            tall = sym h;
-            few = omega arith;
-            stacked = did .stacked z;
-            faults = faults-here ∙ next-is (stepFault w (g .stack)) _ clear;
-            ends = ends-here;
-            empty = λ e. absurd (omega arith);
-            kept = did .kept ∙ g .kept;
-          },
-        )
+            end = g .st;
+            out = ended ran work (g .st) (g .on (ran .fault) (g .st) (rw (drop-of-length-le codes {i = i} h) (z, refl)));
+            top-is = λ q k. rw t (above 0 (omega (arith, g .tall)));
+            below-is = λ q k. rw b (above 1 (omega (arith, g .tall)));
+          }
+        where
+          above : (depth : ℕ) → depth < height → listOf sheet work (fromAbove stack height depth) ≡ getD (g .st) depth []
+          above depth d =
+              let k : length (g .st) - 1 - (height - depth - 1) ≡ depth = omega (arith, g .tall) in
+              let s = stands-at sheet work stack slots (g .st) (g .stacked) (height - depth - 1) (omega (arith, g .tall)) in
+              rw (lt-leb height depth d, lt-ltb (height - depth - 1) 20 (omega (arith, g .few)))
+              (s .names ∙ ap (λ n. getD (g .st) n []) k)
 
-  module _ (done : length codes ≤ i) where
-    none : drop i codes ≡ []
-    none = drop-of-length-le codes {i = i} done
+      module _ (more : i < length codes) (w : ℕ) (e : w ≡ getD codes i 0) where
+        -- the part that comes next
+        next : drop i codes ≡ w ∷ drop (suc i) codes
+        next = drop-cons codes i 0 more ∙ ap (λ v. v ∷ drop (suc i) codes) (sym e)
 
-    last : ranStack sheet text codes [] ≡ g .stack
-    unfolding ranStack
-    last = rw none at (g .ends)
+        now-runs : (fault : ℕ) (end : List (List ℕ)) → Worked sheet w (g .st) fault (λ st. Runs sheet (drop (suc i) codes) st fault end)
+            → Runs sheet codes [] fault end
+        now-runs fault end r = g .on fault end (rw next r)
 
-    no-fault : firstOf (areaFault base (length before)) (ranFault sheet text codes []) ≡ 0
-    unfolding ranFault
-    no-fault = area _ ∙ (rw none at (g .faults))
+        pub lacks : height < operandsOf w → (ran : Ran) → ran .fault ≡ 12 → WorkedOut sheet codes before ran work
+        lacks h ran f = stops ran work [] (λ z. absurd (let q = sym f ∙ z in omega arith)) (now-runs (ran .fault) [] (lacking (omega (arith, g .tall)) f))
 
-    -- the lowest list, of no words where there is none
-    low-count : getD counts 0 0 ≡ length (ranList sheet text codes)
-    unfolding lowest
-    low-count = rw last (go (g .stack) (g .tall) (g .stacked))
-      where
-        go : (st : List (List ℕ)) → length st ≡ height → Stacked work counts base st → getD counts 0 0 ≡ length (lowest st)
-        go [] t s = g .empty (sym t)
-        go (l ∷ st) t s = lowest-slot work counts base (l ∷ st) (omega arith) s .long
+        pub too-high : operandsOf w ≤ height → 17 < height - operandsOf w → (ran : Ran) → ran .fault ≡ 12
+            → WorkedOut sheet codes before ran work
+        too-high h k ran f =
+            stops ran work [] (λ z. absurd (let q = sym f ∙ z in omega arith))
+            (now-runs (ran .fault) [] (high (omega (arith, g .few)) (omega (arith, g .tall)) f))
 
-    low-list : take (length (ranList sheet text codes)) (drop (mostWords * base) work) ≡ ranList sheet text codes
-    unfolding lowest
-    low-list = rw (← low-count, last) (go (g .stack) (g .tall) (g .stacked))
-      where
-        go : (st : List (List ℕ)) → length st ≡ height → Stacked work counts base st
-            → take (getD counts 0 0) (drop (mostWords * base) work) ≡ lowest st
-        go [] t s = rw (g .empty (sym t))
-        go (l ∷ st) t s = lowest-slot work counts base (l ∷ st) (omega arith) s .there
+        -- the places of a part's operands
+        module _ (taken : ℕ) (t : taken ≡ operandsOf w) (h : taken ≤ height) (k : height - taken ≤ 17) where
+          small : taken ≤ 2
+          small = rw t (arity-small _)
 
-    pub finished : RanOut sheet text codes base before (Count (getD counts 0 0)) work
-    finished =
-        record {
-          answer-is = counted-is _ _ _ no-fault low-count;
-          stands = λ z. low-list;
-          kept = g .kept;
-          untouched = λ y. absurd (y (room-there base (length before) low slots));
-        }
+          own : (n : ℕ) → n < height → Stands sheet work (getD stack n nowhere) (getD slots n 0) (getD (g .st) (height - 1 - n) [])
+          own n l =
+              rw (g .tall) at (stands-at sheet work stack slots (g .st) (g .stacked) n (omega (arith, g .tall)))
+
+          far : (n : ℕ) → n < height → (getD slots n 0 + mostWords ≤ getD slots height 0) ⊎ (getD slots height 0 + mostWords ≤ getD slots n 0)
+          far n l = g .slotted .apart n height (omega (arith, g .few)) (omega (arith, g .few)) (λ q. absurd (omega arith))
+
+          pub ready : 1 ≤ taken → Ready (getD stack (height - taken) nowhere) (getD stack (height - taken + taken / 2) nowhere) (getD slots height 0)
+              (length work)
+          ready l =
+              record {
+                first = stands-apart sheet work _ _ _ (own (height - taken) (omega arith)) (getD slots height 0) (far (height - taken) (omega arith));
+                second = stands-apart sheet work _ _ _ (own (height - taken + taken / 2) (omega (arith, small))) (getD slots height 0)
+                    (far (height - taken + taken / 2) (omega (arith, small)));
+                fits = let z = g .slotted .within height (omega (arith, g .few)) in omega (arith, g .same);
+              }
+
+          -- the part's list put in its place
+          module _ (list : Source) (work' l : List ℕ) (stands : Stands sheet work' list (getD slots height 0) l)
+              (long' : length work' ≡ length work)
+              (below : Stacked sheet work' (set stack (height - taken) list) (exchanged slots height (height - taken)) (drop taken (g .st)))
+              (goes : (fault : ℕ) (end : List (List ℕ)) → Runs sheet (drop (suc i) codes) (l ∷ drop taken (g .st)) fault end
+              → Worked sheet w (g .st) fault (λ st. Runs sheet (drop (suc i) codes) st fault end)) where
+            left : length (drop taken (g .st)) ≡ height - taken
+            left = length-drop taken (g .st) ∙ rw (g .tall) refl
+
+            placed : Going work' (set stack (height - taken) list) (exchanged slots height (height - taken)) (height - taken + 1) (i + 1)
+            placed =
+                record {
+                  st = l ∷ drop taken (g .st);
+                  tall = rw left (sym (add-one (height - taken)));
+                  few = omega arith;
+                  long = length-set stack (height - taken) list ∙ g .long;
+                  slotted = exchanged-slotted height (height - taken) slots (omega (arith, g .few, g .slotted .long))
+                      (omega (arith, g .slotted .long)) (omega (arith, g .few)) (omega arith) (g .slotted);
+                  stacked = (rw left top, below);
+                  same = long' ∙ g .same;
+                  on = λ fault end r. now-runs fault end (goes fault end (rw (add-one i) at r));
+                }
+              where
+                top : Stands sheet work' (getD (set stack (height - taken) list) (height - taken) nowhere)
+                    (getD (exchanged slots height (height - taken)) (height - taken) 0) l
+                top =
+                    rw (
+                      getD-set-same stack (height - taken) list nowhere (omega (arith, g .long)),
+                      exchanged-top height (height - taken) slots (omega (arith, g .few, g .slotted .long)) (omega (arith, g .slotted .long)),
+                    ) stands
+
+          -- the sources and slots of the places below are as they were
+          under : (list : Source) (n : ℕ) → n < length (drop taken (g .st))
+              → (getD (set stack (height - taken) list) n nowhere ≡ getD stack n nowhere)
+              × (getD (exchanged slots height (height - taken)) n 0 ≡ getD slots n 0)
+          under list n l =
+              let d : length (drop taken (g .st)) ≡ height - taken = length-drop taken (g .st) ∙ rw (g .tall) refl in (
+                getD-set-other stack (height - taken) n list nowhere (λ q. absurd (omega (arith, d))),
+                exchanged-below height (height - taken) slots (omega (arith, g .few, g .slotted .long)) (omega (arith, g .slotted .long)) n
+                    (omega (arith, d)) (omega (arith, d)),
+              )
+
+          -- a leaf
+          pub leaf-turn : taken ≡ 0 → (next : Next) (work' : List ℕ) → LeafMade w work next work'
+              → Going work' (set stack (height - taken) (next .list)) (exchanged slots height (height - taken)) (height - taken + 1) (i + 1)
+          leaf-turn z next work' m =
+              placed (next .list) work' (leafList sheet w) here (ap length (m .kept))
+              (rw (m .kept) (stacked-same sheet work stack _ slots _ (drop taken (g .st)) (stacked-drop sheet work stack slots taken (g .st) (g .stacked))
+              (under (next .list))))
+              (λ fault end r. leaf (sym t ∙ z) (omega (arith, g .tall)) (rw z at r))
+            where
+              here : Stands sheet work' (next .list) (getD slots height 0) (leafList sheet w)
+              here = rw (m .list-is) (leaf-stands sheet work' w (getD slots height 0))
+
+          -- an operation
+          module _ (l : 1 ≤ taken) (next : Next) (work' : List ℕ)
+              (m : ListMade w sheet work (getD stack (height - taken) nowhere) (getD stack (height - taken + taken / 2) nowhere)
+              (getD slots height 0) next work') where
+            applied : Applied w (firstTaken (operandsOf w) (g .st)) (onTop (g .st)) (m .answer) (take (countIn (m .answer)) (m .slot))
+            applied =
+                let x : height - 1 - (height - taken) ≡ operandsOf w - 1 = rw (sym t) (omega arith) in
+                let y : height - 1 - (height - taken + taken / 2) ≡ 0 = omega (arith, small) in
+                let first = own (height - taken) (omega arith) .names ∙ ap (λ n. getD (g .st) n []) x in
+                let second = own (height - taken + taken / 2) (omega (arith, small)) .names ∙ ap (λ n. getD (g .st) n []) y in
+                rw (first, second) at (m .applied)
+
+            pub refusal : (next .fault ≡ 0 → ⊥) → (ran : Ran) → ran .fault ≡ next .fault → WorkedOut sheet codes before ran work'
+            refusal x ran f =
+                stops ran work' [] (λ z. x (sym f ∙ z))
+                (now-runs (ran .fault) []
+                (refused (m .answer) _ (rw (sym t) l) (omega (arith, g .tall)) applied (sym (f ∙ m .fault-is)) (λ z. x (sym f ∙ z))))
+
+            fits : getD slots height 0 + mostWords ≤ length work
+            fits = ready l .fits
+
+            pub list-turn : next .fault ≡ 0
+                → Going work' (set stack (height - taken) (next .list)) (exchanged slots height (height - taken)) (height - taken + 1) (i + 1)
+            list-turn z =
+                placed (next .list) work' (take (countIn (m .answer)) (m .slot)) here
+                (ap length (m .after-is) ∙ with-slot-long work (getD slots height 0) mostWords fits (m .slot) (m .wide))
+                (rw (m .after-is)
+                (stacked-kept sheet work stack _ slots _ (getD slots height 0) fits (m .slot) (m .wide) (drop taken (g .st))
+                (stacked-drop sheet work stack slots taken (g .st) (g .stacked))
+                (λ n k. (under (next .list) n k .0, under (next .list) n k .1, far n (omega (arith, length-drop taken (g .st), g .tall))))))
+                (λ fault end r. made (m .answer) _ (rw (sym t) l) (omega (arith, g .tall)) applied (sym (m .fault-is) ∙ z) (rw t at r))
+              where
+                here : Stands sheet work' (next .list) (getD slots height 0) (take (countIn (m .answer)) (m .slot))
+                here =
+                    rw (m .list-is, m .after-is)
+                    (record {
+                      names =
+                          sym (take-take (countIn (m .answer)) mostWords _ (m .short))
+                          ∙ ap (take (countIn (m .answer))) (slot-back work (getD slots height 0) mostWords fits (m .slot) (m .wide));
+                      own = λ q. (refl, m .short);
+                    })
+
+          -- either
+          pub turned : (next : Next) (work' : List ℕ)
+              → StepMade w taken sheet work (getD stack (height - taken) nowhere) (getD stack (height - taken + taken / 2) nowhere)
+              (getD slots height 0) next work' → next .fault ≡ 0
+              → Going work' (set stack (height - taken) (next .list)) (exchanged slots height (height - taken)) (height - taken + 1) (i + 1)
+          turned next work' m z = go (ℕ-discrete taken 0)
+            where
+              go : Dec (taken ≡ 0)
+                  → Going work' (set stack (height - taken) (next .list)) (exchanged slots height (height - taken)) (height - taken + 1) (i + 1)
+              go (yes e) = leaf-turn e next work' (m .0 e)
+              go (no x) = let l : 1 ≤ taken = omega arith in list-turn l next work' (m .1 l) z
+
+          pub halted : (next : Next) (work' : List ℕ)
+              → StepMade w taken sheet work (getD stack (height - taken) nowhere) (getD stack (height - taken + taken / 2) nowhere)
+              (getD slots height 0) next work' → (next .fault ≡ 0 → ⊥) → (ran : Ran) → ran .fault ≡ next .fault
+              → WorkedOut sheet codes before ran work'
+          halted next work' m x ran f = go (ℕ-discrete taken 0)
+            where
+              go : Dec (taken ≡ 0) → WorkedOut sheet codes before ran work'
+              go (yes e) = absurd (x (m .0 e .fine))
+              go (no y) = let l : 1 ≤ taken = omega arith in refusal l next work' (m .1 l) x ran f

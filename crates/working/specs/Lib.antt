@@ -1,2 +1,3 @@
--- A stack of lists in the work area: definitions that mirror the code.
-pub mod Slots
+-- Lists on a stack, each where it stands: definitions that mirror the code.
+pub mod Layout
+pub mod Standing
