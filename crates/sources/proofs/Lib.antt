@@ -1,0 +1,2 @@
+-- What a source's next word is.
+pub mod Sourcing

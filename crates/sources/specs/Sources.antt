@@ -1,0 +1,55 @@
+-- Mirrored: The list that a source names in the memory that it stands in, the next of its words, and passing a date by it.
+use Prim.Native.Nat.{ℕ, _+_, _*_, _-_, _/_, _%_, min}
+use mathlib.Core.Bool.{Bool, true, cond, _||_}
+use mathlib.Core.List.{List}
+use lib.Dec.{leb, ltb, eqb}
+use lib.ListN.{length, take, drop, getD}
+use Rattle.slices.specs.Bytes.{low32, wordsIn}
+use Rattle.signals.specs.Words.{valueAt, valueAfter}
+use Rattle.reading.specs.declared.Step.{Step}
+use Rattle.reading.specs.Reading.{heldOn}
+use Rattle.sources.specs.declared.Memory.{Memory}
+use Rattle.sources.specs.declared.Memory.the-variants.{Sheet, Work, Left, Right}
+use Rattle.sources.specs.declared.Source.{Source}
+
+-- stands for the next word where none is left: 4 times the date that does
+abbrev pub noWord : ℕ
+noWord = 17179869180
+
+unfoldable pub nextWord : List ℕ → ℕ → ℕ
+nextWord l passed = cond (ltb passed (length l)) (getD l passed 0) noWord
+
+-- the word whose bytes begin at a place of a sheet
+unfoldable pub sheetWord : List ℕ → ℕ → ℕ
+sheetWord sheet at = cond (ltb (length sheet) (at + 4)) noWord (low32 (drop at sheet))
+
+-- the words of a sheet from a byte on, so many, as far as they are whole
+unfoldable pub listOnSheet : List ℕ → ℕ → ℕ → List ℕ
+listOnSheet sheet at count = wordsIn (min count ((length sheet - at) / 4)) (drop at sheet)
+
+abbrev pub listFrom : Memory → List ℕ → List ℕ → List ℕ → List ℕ → ℕ → ℕ → List ℕ
+listFrom Sheet sheet left right work at count = listOnSheet sheet at count
+listFrom Work sheet left right work at count = take count (drop at work)
+listFrom Left sheet left right work at count = take count (drop at left)
+listFrom Right sheet left right work at count = take count (drop at right)
+
+-- the list that a source names
+abbrev pub listAt : List ℕ → List ℕ → List ℕ → List ℕ → Source → List ℕ
+listAt sheet left right work s = listFrom (s .memory) sheet left right work (s .at) (s .count)
+
+-- Past a date from the next word and the value held: a word of that date is passed.
+unfoldable pub passOn : ℕ → Bool → ℕ → ℕ → Step
+passOn word held passed date =
+    cond (eqb (word / 4) date)
+    (record { before = held; at = valueAt word; after = valueAfter word; passed = passed % 4294967296 + 1 })
+    (heldOn held passed)
+
+-- no word of the list stands among `room` words of the work area from `at` on
+abbrev pub apartIn : Memory → ℕ → ℕ → ℕ → ℕ → Bool
+apartIn Sheet from count at room = true
+apartIn Work from count at room = leb (from + count) at || leb (at + room) from
+apartIn Left from count at room = true
+apartIn Right from count at room = true
+
+abbrev pub apartFrom : Source → ℕ → ℕ → Bool
+apartFrom s at room = apartIn (s .memory) (s .at) (s .count) at room

@@ -1,0 +1,109 @@
+// Where a list stands, and its words read there: on a sheet, in the work area, or in one of two lists that are lent beside them.
+ghost use mathlib.Core.Path.{_≡_};
+ghost use Prim.Native.Nat.{_<_};
+ghost use Rattle.sources.specs.Sources.{nextWord, sheetWord, listAt, passOn, apartFrom};
+use reading::Step;
+use signals::Date;
+
+// What a list stands in.
+pub enum Memory {
+    Sheet,
+    Work,
+    Left,
+    Right,
+}
+
+// A list that stands somewhere: its first byte on the sheet, or its first word elsewhere, and how many words it has, as far as they are there.
+pub struct Source {
+    pub memory: Memory,
+    pub at: u32,
+    pub count: u32,
+}
+
+// Stands for the next word where none is left: its date is above every sum of a date and a length.
+pub const NONE: u64 = 17179869180;
+
+// The word at a place of words.
+fn word_in(words: &[u32], at: usize) -> u64
+    ensures { λ r. ⌜ r ≡ nextWord (now (words .entry)) at ⌝ }
+{
+    if at < words.len() {
+        return words[at] as u64;
+    }
+    NONE
+}
+
+// The word whose bytes begin at a place of a sheet.
+fn word_on(sheet: &[u8], at: usize) -> u64
+    requires { ⌜ at < 1099511627776 ⌝ }
+    ensures { λ r. ⌜ r ≡ sheetWord (now (sheet .entry)) at ⌝ }
+{
+    if sheet.len() < at + 4 {
+        return NONE;
+    }
+    let low = sheet[at] as u64 + 256 * (sheet[at + 1] as u64);
+    let high = sheet[at + 2] as u64 + 256 * (sheet[at + 3] as u64);
+    low + 65536 * high
+}
+
+// The next word of a list of which so many are passed, or that stands for none.
+pub fn next_word(
+    sheet: &[u8],
+    left: &[u32],
+    right: &[u32],
+    work: &[u32],
+    list: Source,
+    passed: usize,
+) -> u64
+    ensures { λ r. ⌜ r ≡ nextWord (listAt (now (sheet .entry)) (now (left .entry)) (now (right .entry)) (now (work .entry)) list) passed ⌝ }
+{
+    if list.count as usize <= passed {
+        return NONE;
+    }
+    let at = list.at as usize;
+    let memory = list.memory;
+    match memory {
+        Memory::Sheet => word_on(sheet, at + 4 * passed),
+        Memory::Work => word_in(work, at + passed),
+        Memory::Left => word_in(left, at + passed),
+        Memory::Right => word_in(right, at + passed),
+    }
+}
+
+// Past a date, from the next word and the value held before it: a word of that date is passed.
+pub fn pass(word: u64, held: bool, passed: usize, date: Date) -> Step
+    ensures { λ r. ⌜ r ≡ passOn word held passed (date .0) ⌝ }
+{
+    if word / 4 == date.0 as u64 {
+        return Step {
+            before: held,
+            at: word / 2 % 2 == 1,
+            after: word % 2 == 1,
+            passed: passed % 4294967296 + 1,
+        };
+    }
+    Step {
+        before: held,
+        at: held,
+        after: held,
+        passed,
+    }
+}
+
+// No word of the list stands among so many words of the work area from a place on.
+pub fn apart(list: Source, at: u32, room: u32) -> bool
+    ensures { λ r. ⌜ r ≡ apartFrom list at room ⌝ }
+{
+    let memory = list.memory;
+    match memory {
+        Memory::Work => {
+            if list.at as u64 + list.count as u64 <= at as u64 {
+                return true;
+            }
+            at as u64 + room as u64 <= list.at as u64
+        }
+        Memory::Sheet => true,
+        Memory::Left => true,
+        Memory::Right => true,
+    }
+}
