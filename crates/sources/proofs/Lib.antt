@@ -1,2 +1,3 @@
--- What a source's next word is.
+-- A source's words: what the functions read, and the list that a source names.
+pub mod SourceWords
 pub mod Sourcing

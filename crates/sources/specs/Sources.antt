@@ -1,7 +1,8 @@
--- Mirrored: The list that a source names in the memory that it stands in, the next of its words, and passing a date by it.
+-- Mirrored: The list that a source names in the memory that it stands in, the next of its words, passing a date by it, and slots of the
+-- work area.
 use Prim.Native.Nat.{ℕ, _+_, _*_, _-_, _/_, _%_, min}
 use mathlib.Core.Bool.{Bool, true, cond, _||_}
-use mathlib.Core.List.{List}
+use mathlib.Core.List.{List, _++_}
 use lib.Dec.{leb, ltb, eqb}
 use lib.ListN.{length, take, drop, getD}
 use Rattle.slices.specs.Bytes.{low32, wordsIn}
@@ -53,3 +54,10 @@ apartIn Right from count at room = true
 
 abbrev pub apartFrom : Source → ℕ → ℕ → Bool
 apartFrom s at room = apartIn (s .memory) (s .at) (s .count) at room
+
+-- the slot of `room` words of the work area from `at` on, and the work area with other words in it
+abbrev pub slotIn : List ℕ → ℕ → ℕ → List ℕ
+slotIn work at room = take room (drop at work)
+
+abbrev pub withSlot : List ℕ → ℕ → ℕ → List ℕ → List ℕ
+withSlot work at room slot = take at work ++ (slot ++ drop (at + room) work)
