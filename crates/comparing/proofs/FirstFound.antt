@@ -1,5 +1,5 @@
 -- What the scan finds in two accepted lists: the verdict tells the first moment that fails.
-use Prim.Native.Nat.{ℕ, _≤_, _<_}
+use Prim.Native.Nat.{ℕ, _≤_}
 use native.Mathlib.Omega.{arith}
 use mathlib.Core.Path.{_≡_, refl, _∙_}
 use mathlib.Core.Bool.{Bool, true, false}
@@ -13,7 +13,7 @@ use Rattle.signals.specs.Words.{listFault}
 use Rattle.signals.specs.Quantified.{Up, Down}
 use Rattle.signals.specs.declared.Verdict.{Verdict}
 use Rattle.signals.specs.declared.Verdict.the-variants.{Holds, FailsAt, FailsAfter, Refused}
-use Rattle.comparing.specs.Finding.{Finds, inGap, ended, atInstant, turn}
+use Rattle.comparing.specs.Finding.{Finds, Found, inGap, ended, atInstant, turn}
 use Rattle.comparing.proofs.Watching.{failing, Clear, Watching, watch-start, at-last, in-gap, later, clear-before, at-date, watch-on}
 
 abbrev pub First : Signal → ℕ → Type 0
@@ -40,5 +40,5 @@ module _ (both : Bool) (a b : List ℕ) (wa : Words a) (wb : Words b) where
   found w (atInstant n e) = (omega (arith, later both a b w n), (at-date both a b w n ∙ e, clear-before both a b w n))
   found w (turn n e f) = found (watch-on both a b w n e) f
 
-  pub first-found : {r : Verdict} → listFault a ≡ 0 → listFault b ≡ 0 → Finds both a b 0 1 1 r → Tells (failing both a b) r
+  pub first-found : {r : Verdict} → listFault a ≡ 0 → listFault b ≡ 0 → Found both a b r → Tells (failing both a b) r
   first-found za zb f = found (watch-start both a b za zb) f

@@ -1,6 +1,6 @@
 -- The law of `implies_at`: of two accepted lists the scan finds the verdict of the implication.
 use Prim.Native.Nat.{ℕ}
-use mathlib.Core.Path.{_≡_, refl}
+use mathlib.Core.Path.{_≡_}
 use mathlib.Core.Bool.{false}
 use mathlib.Core.List.{List}
 use Rattle.slices.specs.Bytes.{Words}

@@ -1,6 +1,5 @@
 -- From the first moment that fails to the answers of implication and equality.
-use Prim.Native.Nat.{ℕ, _≤_, _<_}
-use native.Mathlib.Omega.{arith}
+use Prim.Native.Nat.{ℕ, _≤_}
 use mathlib.Core.Path.{_≡_, refl, sym, _∙_}
 use mathlib.Core.Bool.{Bool, true, false, not, Bool·beq, _&&_}
 use mathlib.Core.List.{List}
@@ -8,7 +7,7 @@ use lib.ListN.{length}
 use borrow.Author.Tests.{ne-eqb}
 use Rattle.slices.specs.Bytes.{Words}
 use Rattle.signals.specs.Moment.{gap, instant}
-use Rattle.signals.specs.Signal.{Signal, every, refuted}
+use Rattle.signals.specs.Signal.{every, refuted}
 use Rattle.signals.specs.Words.{listFault, pairFault, signalOf, mostWords}
 use Rattle.signals.specs.Quantified.{Up, Down}
 use Rattle.signals.specs.Implication.{verdictOf}

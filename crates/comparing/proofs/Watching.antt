@@ -1,5 +1,5 @@
 -- Between turns of the scan: no earlier moment fails, and what the values held and the next date tell of the moments from here on.
-use Prim.Native.Nat.{ℕ, _+_, _≤_, _<_, min}
+use Prim.Native.Nat.{ℕ, _+_, _≤_, _<_}
 use native.Mathlib.Omega.{arith}
 use native.Mathlib.Decide.{decLe}
 use mathlib.Core.Path.{_≡_, refl}
@@ -31,7 +31,7 @@ abbrev pub Clear : Signal → ℕ → Type 0
 Clear p n = (u : ℕ) → u < n → Down (p u)
 
 -- a next date that is no word's: none is left
-pub none-left : (l : List ℕ) (i : ℕ) → Words l → NEVER ≤ nextDate l i → length l ≤ i
+none-left : (l : List ℕ) (i : ℕ) → Words l → NEVER ≤ nextDate l i → length l ≤ i
 none-left l i w h = go (ltb i (length l)) refl
   where
     go : (t : Bool) → ltb i (length l) ≡ t → length l ≤ i
@@ -47,7 +47,7 @@ one-of a b i j d e = go (decLe (nextDate a i) (nextDate b j))
     go (yes l) = inl (omega arith)
     go (no n) = inr (omega arith)
 
-pub not-after : (a b : List ℕ) (i j : ℕ) → (nextOf a b i j ≤ nextDate a i) × (nextOf a b i j ≤ nextDate b j)
+not-after : (a b : List ℕ) (i j : ℕ) → (nextOf a b i j ≤ nextDate a i) × (nextOf a b i j ≤ nextDate b j)
 unfolding nextOf
 not-after a b i j = (omega arith, omega arith)
 
