@@ -1,4 +1,6 @@
--- The lemmas that the proofs of functions share.
-pub mod Stretches
+-- The lemmas that the proofs of functions share, and the law of `implies_at`.
+pub mod Scanning
 pub mod Watching
+pub mod FirstFound
 pub mod Verdicts
+pub mod ImpliesExact

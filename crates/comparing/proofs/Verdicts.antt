@@ -1,106 +1,87 @@
--- From the first moment found to the answers of implication and equality.
-use Prim.Native.Nat.{ℕ, _+_, _/_, _%_, _≤_, _<_}
-use native.Mathlib.Omega.{arith}
+-- From the first moment that fails to the answers of implication and equality.
+use Prim.Native.Nat.{ℕ, _≤_}
 use mathlib.Core.Path.{_≡_, refl, sym, _∙_}
 use mathlib.Core.Bool.{Bool, true, false, not, Bool·beq, _&&_}
-use mathlib.Core.List.{List, [], _∷_}
-use borrow.Author.Tests.{eq-eqb, ne-eqb}
-use Rattle.signals.specs.Moment.{gap, isGap, tick}
-use Rattle.signals.specs.Signal.{Signal, Table, cell, every, refuted}
-use Rattle.signals.specs.Words.{listFault, pairFault, signalOf}
-use Rattle.signals.specs.Settled.{SettledFrom}
+use mathlib.Core.List.{List}
+use lib.ListN.{length}
+use borrow.Author.Tests.{ne-eqb}
+use Rattle.slices.specs.Bytes.{Words}
+use Rattle.signals.specs.Moment.{gap, instant}
+use Rattle.signals.specs.Signal.{every, refuted}
+use Rattle.signals.specs.Words.{listFault, pairFault, signalOf, mostWords}
 use Rattle.signals.specs.Quantified.{Up, Down}
-use Rattle.signals.specs.Implication.{verdictOf, failsIn}
-use Rattle.signals.specs.Earliest.{Refutes}
+use Rattle.signals.specs.Implication.{verdictOf}
+use Rattle.signals.specs.Earliest.{FirstRefutes, Judged}
 use Rattle.signals.specs.declared.Verdict.{Verdict}
 use Rattle.signals.specs.declared.Verdict.the-variants as verdict
+use Rattle.signals.specs.declared.Told.{Told}
 use Rattle.signals.specs.declared.Told.the-variants as told
+use Rattle.signals.specs.Answers.{verdictFor, toldOf, toldValue}
 use Rattle.signals.proofs.Truth.{not-both, every-of}
-use Rattle.signals.proofs.Implication.{refuted-up, refuted-of, verdict-judged}
-use Rattle.reading.specs.Reading.{NEVER}
+use Rattle.signals.proofs.Implication.{refuted-up, refuted-of, verdict-judged, failsIn-gap, failsIn-instant}
+use Rattle.signals.proofs.FirstFault.{both-none}
+use Rattle.signals.proofs.Normal.{accepted-normal}
 use Rattle.questions.specs.Questions.{laterLast, agreeing, equalOf, impliesOf}
 use Rattle.questions.proofs.LaterLast.{settled-a, settled-b, not-every}
-use Rattle.comparing.specs.Finding.{shows, shown, FirstFrom, Near, verdictIn}
-use Rattle.comparing.specs.declared.Found.{Found}
-use Rattle.comparing.specs.declared.Found.the-variants.{In, Nowhere}
-use Rattle.signals.specs.Answers.{verdictFor, toldOf}
-use Rattle.signals.proofs.FirstFault.{both-none}
-
--- how a found moment is told
-module _ (t : ℕ) (r : Found) (e : r ≡ In t) where
-  pub told-gap : t % 2 ≡ 0 → verdict.FailsAfter ((t + 1) / 2) ≡ verdictIn r
-  unfolding failsIn isGap tick
-  told-gap z = rw (e, eq-eqb (t % 2) 0 z)
-
-  pub told-instant : (t % 2 ≡ 0 → ⊥) → verdict.FailsAt ((t + 1) / 2) ≡ verdictIn r
-  unfolding failsIn isGap tick
-  told-instant n = rw (e, ne-eqb (t % 2) 0 n)
-
-  pub near-tick : Near r → t ≤ gap NEVER
-  near-tick n = rw e at n
-
-pub near : (p : Signal) (r : Found) → FirstFrom p 0 r → Near r
-near p (In t) h = omega (arith, h .1)
-near p Nowhere h = tt
+use Rattle.comparing.specs.Finding.{failsBy, Found}
+use Rattle.comparing.proofs.Watching.{failing}
+use Rattle.comparing.proofs.FirstFound.{First, Tells, first-found}
 
 -- both lists are accepted where neither fault is one
 pub both-accepted : (a b : List ℕ) (fault : ℕ) → fault ≡ pairFault a b → fault ≡ 0 → (listFault a ≡ 0) × (listFault b ≡ 0)
 unfolding pairFault
 both-accepted a b fault e z = both-none (listFault a) (listFault b) (sym e ∙ z)
 
--- f and not g
-abbrev pub refuting : Table
-refuting = (false ∷ false ∷ []) ∷ (true ∷ false ∷ []) ∷ []
+module _ (a b : List ℕ) (z : pairFault a b ≡ 0) where
+  pub short-a : length a ≤ mostWords
+  short-a = accepted-normal a .0 (both-accepted a b 0 (sym z) refl .0) .1
 
-refuting-cell : (p q : Bool) → shows refuting true p q ≡ p && not q
-unfolding shows cell
-refuting-cell true true = refl
-refuting-cell true false = refl
-refuting-cell false true = refl
-refuting-cell false false = refl
+  pub short-b : length b ≤ mostWords
+  short-b = accepted-normal b .0 (both-accepted a b 0 (sym z) refl .1) .1
 
-refuting-shown : (f g : Signal) (t : ℕ) → shown refuting true f g t ≡ refuted f g t
-unfolding shown refuted
-refuting-shown f g t = refuting-cell (f t) (g t)
+-- one way: f and not g
+refuting : (p q : Bool) → failsBy false p q ≡ p && not q
+refuting true true = refl
+refuting true false = refl
+refuting false true = refl
+refuting false false = refl
 
-pub verdict-found : (f g : Signal) (n : ℕ) → SettledFrom f n → SettledFrom g n → (r : Found) → FirstFrom (shown refuting true f g) 0 r
-    → verdictIn r ≡ verdictOf f g n
-verdict-found f g n sf sg (In t) h =
-    let up : Up (refuted f g t) = sym (refuting-shown f g t) ∙ h .2 in
-    let none : (u : ℕ) → u < t → Refutes f g u → ⊥ =
-    λ u l w. not-both (refuted-of f g u w) (sym (refuting-shown f g u) ∙ h .3 u (omega arith) l) in
-    sym (verdict-judged f g n sf sg .fails t .1 (refuted-up f g t up, none))
-verdict-found f g n sf sg Nowhere h =
-    sym (verdict-judged f g n sf sg .holds .1 (λ t w. not-both (refuted-of f g t w) (sym (refuting-shown f g t) ∙ h t (omega arith))))
+module _ (a b : List ℕ) where
+  failing-refuted : (t : ℕ) → failing false a b t ≡ refuted (signalOf a) (signalOf b) t
+  unfolding failing refuted
+  failing-refuted t = refuting (signalOf a t) (signalOf b t)
 
-module _ (a b : List ℕ) (fault : ℕ) (e : fault ≡ pairFault a b) where
-  pub implies-refused : (fault ≡ 0 → ⊥) → verdict.Refused fault ≡ impliesOf a b
-  unfolding impliesOf verdictFor
-  implies-refused n = rw (← e, ne-eqb fault 0 n)
+  refutes-first : (t : ℕ) → First (failing false a b) t → FirstRefutes (signalOf a) (signalOf b) t
+  refutes-first t h = (
+    refuted-up (signalOf a) (signalOf b) t (sym (failing-refuted t) ∙ h .0),
+    λ u l w. not-both (refuted-of (signalOf a) (signalOf b) u w) (sym (failing-refuted u) ∙ h .1 u l),
+  )
 
-  pub implies-told : fault ≡ 0 → (r : Found) → FirstFrom (shown refuting true (signalOf a) (signalOf b)) 0 r → (v : Verdict)
-      → v ≡ verdictIn r → v ≡ impliesOf a b
-  unfolding impliesOf verdictFor
-  implies-told z r h v q =
-      let ok = both-accepted a b fault e z in
-      rw
-      (← e, eq-eqb fault 0 z)
-      (q ∙ verdict-found (signalOf a) (signalOf b) (laterLast a b) (settled-a a b (ok .0) (ok .1)) (settled-b a b (ok .0) (ok .1)) r h)
+  module _ (za : listFault a ≡ 0) (zb : listFault b ≡ 0) where
+    judged : Judged (signalOf a) (signalOf b) (laterLast a b)
+    judged = verdict-judged (signalOf a) (signalOf b) (laterLast a b) (settled-a a b za zb) (settled-b a b za zb)
 
--- one of the two and not the other
-abbrev pub differing : Table
-differing = (false ∷ true ∷ []) ∷ (true ∷ false ∷ []) ∷ []
+    pub verdict-told : (r : Verdict) → Tells (failing false a b) r → r ≡ verdictOf (signalOf a) (signalOf b) (laterLast a b)
+    verdict-told verdict.Holds h =
+        sym (judged .holds .1 (λ t w. not-both (refuted-of (signalOf a) (signalOf b) t w) (sym (failing-refuted t) ∙ h t)))
+    verdict-told (verdict.FailsAt k) h =
+        sym (judged .fails (instant k) .1 (refutes-first (instant k) (h .1)) ∙ failsIn-instant k (h .0))
+    verdict-told (verdict.FailsAfter k) h = sym (judged .fails (gap k) .1 (refutes-first (gap k) h) ∙ failsIn-gap k)
+    verdict-told (verdict.Refused fault) h = absurd h
 
-differing-cell : (p q : Bool) → shows differing true p q ≡ not (Bool·beq p q)
-unfolding shows cell
-differing-cell true true = refl
-differing-cell true false = refl
-differing-cell false true = refl
-differing-cell false false = refl
+-- both ways: one of the two and not the other
+differing : (p q : Bool) → failsBy true p q ≡ not (Bool·beq p q)
+differing true true = refl
+differing true false = refl
+differing false true = refl
+differing false false = refl
 
-differing-shown : (f g : Signal) (t : ℕ) → shown differing true f g t ≡ not (agreeing f g t)
-unfolding shown agreeing
-differing-shown f g t = differing-cell (f t) (g t)
+-- equality by the verdict of the scan both ways
+abbrev pub equalBy : Verdict → Told
+equalBy verdict.Holds = told.Yes
+equalBy (verdict.FailsAt k) = told.No
+equalBy (verdict.FailsAfter k) = told.No
+equalBy (verdict.Refused fault) = told.No
 
 down-not : (b : Bool) → not b ≡ true → Down b
 down-not true h = sym h
@@ -110,30 +91,38 @@ up-not : (b : Bool) → not b ≡ false → Up b
 up-not true h = refl
 up-not false h = sym h
 
-pub equal-found : (f g : Signal) (n : ℕ) → SettledFrom f n → SettledFrom g n → (t : ℕ) → FirstFrom (shown differing true f g) 0 (In t)
-    → every (agreeing f g) (gap n) ≡ false
-equal-found f g n sf sg t h = not-every f g n t sf sg (down-not (agreeing f g t) (sym (differing-shown f g t) ∙ h .2))
+module _ (a b : List ℕ) where
+  failing-differs : (t : ℕ) → failing true a b t ≡ not (agreeing (signalOf a) (signalOf b) t)
+  unfolding failing agreeing
+  failing-differs t = differing (signalOf a t) (signalOf b t)
 
-pub equal-none : (f g : Signal) (n : ℕ) → FirstFrom (shown differing true f g) 0 Nowhere → every (agreeing f g) (gap n) ≡ true
-equal-none f g n h = every-of (agreeing f g) (gap n) (λ u l. up-not (agreeing f g u) (sym (differing-shown f g u) ∙ h u (omega arith)))
+  module _ (za : listFault a ≡ 0) (zb : listFault b ≡ 0) where
+    no-where : (t : ℕ) → Up (failing true a b t) → every (agreeing (signalOf a) (signalOf b)) (gap (laterLast a b)) ≡ false
+    no-where t h =
+        not-every (signalOf a) (signalOf b) (laterLast a b) t (settled-a a b za zb) (settled-b a b za zb)
+        (down-not (agreeing (signalOf a) (signalOf b) t) (sym (failing-differs t) ∙ h))
 
+    every-told : (r : Verdict) → Tells (failing true a b) r
+        → toldValue (every (agreeing (signalOf a) (signalOf b)) (gap (laterLast a b))) ≡ equalBy r
+    every-told verdict.Holds h =
+        rw (every-of (agreeing (signalOf a) (signalOf b)) (gap (laterLast a b))
+        (λ u l. up-not (agreeing (signalOf a) (signalOf b) u) (sym (failing-differs u) ∙ h u)))
+    every-told (verdict.FailsAt k) h = rw (no-where (instant k) (h .1 .0))
+    every-told (verdict.FailsAfter k) h = rw (no-where (gap k) (h .0))
+    every-told (verdict.Refused fault) h = absurd h
+
+-- the answers of the calls
 module _ (a b : List ℕ) (fault : ℕ) (e : fault ≡ pairFault a b) where
+  pub implies-refused : (fault ≡ 0 → ⊥) → verdict.Refused fault ≡ impliesOf a b
+  unfolding impliesOf verdictFor
+  implies-refused n = rw (← e, ne-eqb fault 0 n)
+
   pub equal-refused : (fault ≡ 0 → ⊥) → told.Refused fault ≡ equalOf a b
   unfolding equalOf toldOf
   equal-refused n = rw (← e, ne-eqb fault 0 n)
 
-  module _ (z : fault ≡ 0) (r : Found) (h : FirstFrom (shown differing true (signalOf a) (signalOf b)) 0 r) where
-    pub equal-no : (t : ℕ) → r ≡ In t → told.No ≡ equalOf a b
-    unfolding equalOf toldOf
-    equal-no t q =
-        let ok = both-accepted a b fault e z in
-        rw (
-          ← e,
-          eq-eqb fault 0 z,
-          equal-found (signalOf a) (signalOf b) (laterLast a b) (settled-a a b (ok .0) (ok .1))
-              (settled-b a b (ok .0) (ok .1)) t (rw q at h),
-        )
-
-    pub equal-yes : r ≡ Nowhere → told.Yes ≡ equalOf a b
-    unfolding equalOf toldOf
-    equal-yes q = rw (← e, eq-eqb fault 0 z, equal-none (signalOf a) (signalOf b) (laterLast a b) (rw q at h))
+  pub equal-told : fault ≡ 0 → Words a → Words b → (r : Verdict) → Found true a b r → (t : Told) → t ≡ equalBy r → t ≡ equalOf a b
+  unfolding equalOf toldOf
+  equal-told z wa wb r h t q =
+      let ok = both-accepted a b fault e z in
+      rw (← e, z) (q ∙ sym (every-told a b (ok .0) (ok .1) r (first-found true a b wa wb (ok .0) (ok .1) h)))

@@ -1,274 +1,137 @@
--- The scan over moments: what its loop keeps, and what the next date of two operands and the stretch before it tell.
-use Prim.Native.Nat.{ℕ, _+_, _-_, _*_, _≤_, _<_, min, max}
+-- Between turns of the scan: no earlier moment fails, and what the values held and the next date tell of the moments from here on.
+use Prim.Native.Nat.{ℕ, _+_, _≤_, _<_}
 use native.Mathlib.Omega.{arith}
 use native.Mathlib.Decide.{decLe}
-use mathlib.Core.Path.{_≡_, refl, sym, _∙_}
+use mathlib.Core.Path.{_≡_, refl}
 use mathlib.Core.Logic.{_⊎_, inl, inr, ⊎-elim}
-use mathlib.Core.Bool.{Bool, true, false, cond}
+use mathlib.Core.Bool.{Bool, true, false}
 use mathlib.Core.List.{List}
 use lib.Dec.{ltb}
 use lib.ListN.{length, getD}
 use borrow.Author.Tests.{ltb-true, ltb-false}
-use Rattle.signals.specs.Moment.{M, gap, instant}
-use Rattle.signals.specs.Signal.{Signal, Table}
-use Rattle.signals.specs.Words.{dateOf, listFault, signalOf, mostWords}
-use Rattle.signals.specs.Passing.{heldValue, isNext, atDate, passedDate}
+use Rattle.slices.specs.Bytes.{Words}
+use Rattle.signals.specs.Moment.{gap, instant}
+use Rattle.signals.specs.Signal.{Signal}
+use Rattle.signals.specs.Words.{dateOf, listFault, signalOf}
+use Rattle.signals.specs.Passing.{heldValue, atDate, passedDate}
 use Rattle.signals.specs.Quantified.{Down}
+use Rattle.signals.proofs.WordFacts.{date-le}
 use Rattle.signals.proofs.Operand.{At, Passed, at-pass, at-end, next-later}
-use Rattle.signals.proofs.Normal.{accepted-start, accepted-normal}
-use Rattle.reading.specs.Reading.{NEVER, nextDate, stepPast}
-use Rattle.comparing.specs.Finding.{shows, shown, inStretch, Clear, FirstFrom}
-use Rattle.reading.specs.declared.Step.{Step}
-use Rattle.comparing.specs.declared.Found.{Found}
-use Rattle.comparing.specs.declared.Found.the-variants.{In, Nowhere}
-use Rattle.reading.proofs.ReadingFacts.{is-next}
-use Rattle.reading.proofs.Counting.{next-in, next-none}
+use Rattle.signals.proofs.Normal.{accepted-start}
+use Rattle.reading.specs.Reading.{NEVER, nextDate}
+use Rattle.reading.proofs.Counting.{next-in, next-left}
+use Rattle.comparing.specs.Finding.{failsBy, nextOf, Quiet}
 
-pub short : (l : List ℕ) → listFault l ≡ 0 → length l ≤ mostWords
-short l z = accepted-normal l .0 z .1
+-- the moments at which two lists fail
+unfoldable pub failing : Bool → List ℕ → List ℕ → Signal
+failing both a b t = failsBy both (signalOf a t) (signalOf b t)
 
--- every word's date is at most M
-abbrev pub Dated : List ℕ → Type 0
-Dated l = (i : ℕ) → dateOf (getD l i 0) ≤ M
+-- no moment before n has p
+abbrev pub Clear : Signal → ℕ → Type 0
+Clear p n = (u : ℕ) → u < n → Down (p u)
 
--- the next date of two operands, at least one of which has a word left
-module _ (a b : List ℕ) (i j : ℕ) (da : Dated a) (db : Dated b) (left : i + j < length a + length b) where
-  -- the earlier next date is a word's
-  real : (d : ℕ) → d ≡ nextDate a i → d ≤ nextDate b j → i ≤ length a → j ≤ length b → i < length a
-  real d e le wa wb = go (ltb i (length a)) refl
-    where
-      go : (t : Bool) → ltb i (length a) ≡ t → i < length a
-      go true q = ltb-true i (length a) q
-      go false q =
-          let none : nextDate a i ≡ NEVER = next-none a i (ltb-false i (length a) q) in
-          let h : j < length b = omega (arith, ltb-false i (length a) q) in
-          let other : nextDate b j ≡ dateOf (getD b j 0) = next-in b j h in
-          absurd (omega (arith, db j))
-
--- what is known of the date d taken: it is dated, no word left is dated before it, and a word has it
-pub record Event (a b : List ℕ) (i j d : ℕ) : Type 0 where
-  pub dated : d ≤ M
-  pub left : i < length a → d ≤ dateOf (getD a i 0)
-  pub right : j < length b → d ≤ dateOf (getD b j 0)
-  pub hit : ((i < length a) × (d ≡ dateOf (getD a i 0))) ⊎ ((j < length b) × (d ≡ dateOf (getD b j 0)))
-
-one-of : (x y d : ℕ) → d ≡ min x y → (d ≡ x) ⊎ (d ≡ y)
-one-of x y d e = go (decLe x y)
+-- a next date that is no word's: none is left
+none-left : (l : List ℕ) (i : ℕ) → Words l → NEVER ≤ nextDate l i → length l ≤ i
+none-left l i w h = go (ltb i (length l)) refl
   where
-    go : Dec (x ≤ y) → (d ≡ x) ⊎ (d ≡ y)
+    go : (t : Bool) → ltb i (length l) ≡ t → length l ≤ i
+    go true q = absurd (omega (arith, next-in l i (ltb-true i (length l) q), date-le (getD l i 0) (w i)))
+    go false q = ltb-false i (length l) q
+
+-- the earlier of two next dates is one of them
+pub one-of : (a b : List ℕ) (i j d : ℕ) → d ≡ nextOf a b i j → (d ≡ nextDate a i) ⊎ (d ≡ nextDate b j)
+unfolding nextOf
+one-of a b i j d e = go (decLe (nextDate a i) (nextDate b j))
+  where
+    go : Dec (nextDate a i ≤ nextDate b j) → (d ≡ nextDate a i) ⊎ (d ≡ nextDate b j)
     go (yes l) = inl (omega arith)
     go (no n) = inr (omega arith)
 
-pub event : (a b : List ℕ) (i j d : ℕ) → Dated a → Dated b → i + j < length a + length b → i ≤ length a → j ≤ length b
-    → d ≡ min (nextDate a i) (nextDate b j) → Event a b i j d
-event a b i j d da db left wa wb earlier =
-    let la : d ≤ nextDate a i = omega arith in
-    let lb : d ≤ nextDate b j = omega arith in
-    let ina : i < length a → d ≤ dateOf (getD a i 0) = λ h. omega (arith, next-in a i h) in
-    let inb : j < length b → d ≤ dateOf (getD b j 0) = λ h. omega (arith, next-in b j h) in
-    ⊎-elim
-    (λ e.
-    let h : i < length a = real a b i j da db left d e lb wa wb in
-    let q : d ≡ dateOf (getD a i 0) = e ∙ next-in a i h in
-    record { dated = omega (arith, da i); left = ina; right = inb; hit = inl (h, q) })
-    (λ e.
-    let h : j < length b = real b a j i db da (omega arith) d e la wb wa in
-    let q : d ≡ dateOf (getD b j 0) = e ∙ next-in b j h in
-    record { dated = omega (arith, db j); left = ina; right = inb; hit = inr (h, q) })
-    (one-of (nextDate a i) (nextDate b j) d earlier)
+not-after : (a b : List ℕ) (i j : ℕ) → (nextOf a b i j ≤ nextDate a i) × (nextOf a b i j ≤ nextDate b j)
+unfolding nextOf
+not-after a b i j = (omega arith, omega arith)
 
-pub passed-le : (l : List ℕ) (p d : ℕ) → p ≤ passedDate l p d
-unfolding passedDate
-passed-le l p d = go (isNext l p d)
-  where
-    go : (t : Bool) → p ≤ cond t (p + 1) p
-    go true = omega arith
-    go false = omega arith
+module _ (both : Bool) (a b : List ℕ) where
+  pub record Watching (k i j : ℕ) : Type 0 where
+    pub left : At (signalOf a) a i k
+    pub right : At (signalOf b) b j k
+    pub clear : Clear (failing both a b) (gap k)
 
-pub passed-hit : (l : List ℕ) (p d : ℕ) → p < length l → d ≡ dateOf (getD l p 0) → passedDate l p d ≡ p + 1
-unfolding passedDate
-passed-hit l p d h e = rw (is-next l p d h (sym e))
+  pub watch-start : listFault a ≡ 0 → listFault b ≡ 0 → Watching 0 1 1
+  watch-start za zb = record { left = accepted-start a za; right = accepted-start b zb; clear = λ u h. absurd (omega arith) }
 
--- what looking up to before `end` gives: none, or the first
-abbrev pub Outcome : Signal → ℕ → ℕ → Found → Type 0
-Outcome p from end r = ((r ≡ Nowhere) × Clear p from end) ⊎ ((t : ℕ) × (r ≡ In t) × FirstFrom p from (In t))
+  fails-of : (t : ℕ) (p q : Bool) → signalOf a t ≡ p → signalOf b t ≡ q → failing both a b t ≡ failsBy both p q
+  unfolding failing
+  fails-of t p q e f = rw (e, f)
 
--- a stretch of moments that all have p or all do not, none before it having p
-pub stretch : (p : Signal) (has : Bool) (start end from : ℕ) (r : Found) → r ≡ inStretch has start end from → Clear p from start
-    → end ≤ gap NEVER
-    → ((u : ℕ) → start ≤ u → u < end → p u ≡ has) → Outcome p from end r
-unfolding inStretch
-stretch p true start end from r e clear near all = go (ltb (max start from) end) refl e
-  where
-    before : (u : ℕ) → from ≤ u → u < max start from → Down (p u)
-    before u l h = clear u l (omega arith)
+  module _ {k i j : ℕ} (w : Watching k i j) where
+    -- no word is left: the values held stand for good
+    pub at-last : Words a → Words b → NEVER ≤ nextOf a b i j → (u : ℕ) → gap k ≤ u
+        → failing both a b u ≡ failsBy both (heldValue a i) (heldValue b j)
+    at-last wa wb h u g =
+        let na : length a ≤ i = none-left a i wa (omega (arith, not-after a b i j .0)) in
+        let nb : length b ≤ j = none-left b j wb (omega (arith, not-after a b i j .1)) in
+        fails-of u (heldValue a i) (heldValue b j) (at-end (signalOf a) a i k (w .left) na u g)
+        (at-end (signalOf b) b j k (w .right) nb u g)
 
-    go : (t : Bool) → ltb (max start from) end ≡ t → r ≡ cond t (In (max start from)) Nowhere
-        → Outcome p from end r
-    go true q s =
-        let h : max start from < end = ltb-true (max start from) end q in
-        inr (max start from, s, (omega arith, omega arith, all (max start from) (omega arith) h, before))
-    go false q s =
-        let h : end ≤ max start from = ltb-false (max start from) end q in
-        inl (s, λ u l m. before u l (omega arith))
-stretch p false start end from r e clear near all = inl (e, on)
-  where
-    on : Clear p from end
-    on u l h = go (ltb u start) refl
-      where
-        go : (t : Bool) → ltb u start ≡ t → Down (p u)
-        go true q = clear u l (ltb-true u start q)
-        go false q = all u (ltb-false u start q) h
+    -- passing a date that is not after the next
+    module _ (d : ℕ) (later : k < d) (la : i < length a → d ≤ dateOf (getD a i 0)) (lb : j < length b → d ≤ dateOf (getD b j 0)) where
+      pass-a : Passed (signalOf a) a i k d
+      pass-a = at-pass (signalOf a) a i k d (w .left) later la
 
-module _ (table : Table) (want : Bool) (a b : List ℕ) (from : ℕ) where
-  abbrev pub P : Signal
-  P = shown table want (signalOf a) (signalOf b)
+      pass-b : Passed (signalOf b) b j k d
+      pass-b = at-pass (signalOf b) b j k d (w .right) later lb
 
-  pub record Watching (i j here : ℕ) : Type 0 where
-    pub date : ℕ
-    pub here-is : here ≡ gap date
-    pub near : date ≤ M
-    pub left : At (signalOf a) a i date
-    pub right : At (signalOf b) b j date
-    pub clear : Clear P from here
+      still : (u : ℕ) → gap k ≤ u → u < instant d → failing both a b u ≡ failsBy both (heldValue a i) (heldValue b j)
+      still u g h = fails-of u (heldValue a i) (heldValue b j) (pass-a .held .still u g h) (pass-b .held .still u g h)
 
-  pub watch-start : listFault a ≡ 0 → listFault b ≡ 0 → Watching 1 1 0
-  watch-start za zb =
-      record {
-        date = 0;
-        here-is = refl;
-        near = omega arith;
-        left = accepted-start a za;
-        right = accepted-start b zb;
-        clear = λ u l h. absurd (omega arith);
-      }
+    -- the gap after the words passed
+    pub in-gap : failing both a b (gap k) ≡ failsBy both (heldValue a i) (heldValue b j)
+    in-gap =
+        still
+        (k + 1)
+        (omega arith)
+        (λ h. omega (arith, next-later (signalOf a) a i k (w .left) h))
+        (λ h. omega (arith, next-later (signalOf b) b j k (w .right) h))
+        (gap k)
+        (omega arith)
+        (omega arith)
 
-  -- the values of the two operands give the value shown
-  pub shown-of : (t : ℕ) (p q : Bool) → signalOf a t ≡ p → signalOf b t ≡ q → P t ≡ shows table want p q
-  unfolding shown
-  shown-of t p q e f = rw (e, f)
-
-  module _ (i j here d : ℕ) (x y : Step) (w : Watching i j here) (v : Event a b i j d) (ex : x ≡ stepPast a i d) (ey : y ≡ stepPast b j d)
-    where
-      pub later : w .date < d
+    -- the next date
+    module _ {d : ℕ} (n : Quiet both a b i j d) where
+      pub later : k < d
       later =
           ⊎-elim
-          (λ h. omega (arith, next-later (signalOf a) a i (w .date) (w .left) (h .0), h .1))
-          (λ h. omega (arith, next-later (signalOf b) b j (w .date) (w .right) (h .0), h .1))
-          (v .hit)
+          (λ e. let h : i < length a = next-left a i (omega (arith, n .left)) in
+          omega (arith, next-later (signalOf a) a i k (w .left) h, next-in a i h))
+          (λ e. let h : j < length b = next-left b j (omega (arith, n .left)) in
+          omega (arith, next-later (signalOf b) b j k (w .right) h, next-in b j h))
+          (one-of a b i j d (n .next))
 
-      pass-a : Passed (signalOf a) a i (w .date) d
-      pass-a = at-pass (signalOf a) a i (w .date) d (w .left) later (v .left)
+      la : i < length a → d ≤ dateOf (getD a i 0)
+      la h = omega (arith, n .next, not-after a b i j .0, next-in a i h)
 
-      pass-b : Passed (signalOf b) b j (w .date) d
-      pass-b = at-pass (signalOf b) b j (w .date) d (w .right) later (v .right)
+      lb : j < length b → d ≤ dateOf (getD b j 0)
+      lb h = omega (arith, n .next, not-after a b i j .1, next-in b j h)
 
-      pub before-date : (u : ℕ) → here ≤ u → u < instant d → P u ≡ shows table want (x .before) (y .before)
-      before-date u l h =
-          rw (ex, ey)
-          (shown-of u (heldValue a i) (heldValue b j) (pass-a .held .still u (omega (arith, w .here-is)) h)
-          (pass-b .held .still u (omega (arith, w .here-is)) h))
+      pub clear-before : Clear (failing both a b) (instant d)
+      clear-before u h = go (ltb u (gap k)) refl
+        where
+          go : (t : Bool) → ltb u (gap k) ≡ t → Down (failing both a b u)
+          go true q = w .clear u (ltb-true u (gap k) q)
+          go false q = rw (still d later la lb u (ltb-false u (gap k) q) h) (n .held)
 
-      pub at-date : (u : ℕ) → instant d ≤ u → u < gap d → P u ≡ shows table want (x .at) (y .at)
-      at-date u l h =
-          let e : u ≡ instant d = omega arith in
-          rw (ex, ey, e) (shown-of (instant d) (atDate a i d) (atDate b j d) (pass-a .held .at) (pass-b .held .at))
+      pub at-date : failing both a b (instant d) ≡ failsBy both (atDate a i d) (atDate b j d)
+      at-date = fails-of (instant d) (atDate a i d) (atDate b j d) (pass-a d later la lb .held .at) (pass-b d later la lb .held .at)
 
-      pub watch-on : Clear P from (gap d) → Watching (x .passed) (y .passed) (gap d)
-      watch-on clear =
-          rw (ex, ey)
-          (record { date = d; here-is = refl; near = v .dated; left = pass-a .on; right = pass-b .on; clear = clear })
-
-      pub passed-more : i + j < x .passed + y .passed
-      passed-more =
-          rw (ex, ey)
-          (⊎-elim
-          (λ h. omega (arith, passed-hit a i d (h .0) (h .1), passed-le b j d))
-          (λ h. omega (arith, passed-hit b j d (h .0) (h .1), passed-le a i d))
-          (v .hit))
-
-  -- no word is left: the values held stand for good
-  pub watch-end : (i j here : ℕ) → Watching i j here → length a + length b ≤ i + j → (u : ℕ) → here ≤ u
-      → P u ≡ shows table want (heldValue a i) (heldValue b j)
-  watch-end i j here w le u l =
-      shown-of
-      u
-      (heldValue a i)
-      (heldValue b j)
-      (at-end (signalOf a) a i (w .date) (w .left) (omega (arith, w .right .within)) u (omega (arith, w .here-is)))
-      (at-end (signalOf b) b j (w .date) (w .right) (omega (arith, w .left .within)) u (omega (arith, w .here-is)))
-
-  pub end-none : (i j here : ℕ) → Watching i j here → length a + length b ≤ i + j → shows table want (heldValue a i) (heldValue b j) ≡ false
-      → FirstFrom P from Nowhere
-  end-none i j here w le e u l = go (ltb u here) refl
-    where
-      go : (t : Bool) → ltb u here ≡ t → Down (P u)
-      go true q = w .clear u l (ltb-true u here q)
-      go false q = watch-end i j here w le u (ltb-false u here q) ∙ e
-
-  pub end-in : (i j here t : ℕ) → Watching i j here → length a + length b ≤ i + j → shows table want (heldValue a i) (heldValue b j) ≡ true
-      → t ≡ max here from → FirstFrom P from (In t)
-  end-in i j here t w le e q =
-      (omega arith, omega (arith, w .here-is, w .near), watch-end i j here w le t (omega arith) ∙ e, λ u l h. w .clear u l (omega arith))
-
-  -- a turn of the loop: date d is taken and both operands are past it
-  pub record Turn (i j here d : ℕ) (x y : Step) : Type 0 where
-    pub on : Watching i j here
-    pub event-is : Event a b i j d
-    pub left-is : x ≡ stepPast a i d
-    pub right-is : y ≡ stepPast b j d
-
-  module _ {i j here d : ℕ} {x y : Step} (n : Turn i j here d x y) where
-    pub turn-later : 1 ≤ d
-    turn-later = omega (arith, later i j here d x y (n .on) (n .event-is) (n .left-is) (n .right-is))
-
-    pub turn-more : i + j < x .passed + y .passed
-    turn-more = passed-more i j here d x y (n .on) (n .event-is) (n .left-is) (n .right-is)
-
-    pub turn-on : Clear P from (gap d) → Watching (x .passed) (y .passed) (gap d)
-    turn-on = watch-on i j here d x y (n .on) (n .event-is) (n .left-is) (n .right-is)
-
-    -- the stretch before the date
-    module _ (s : Bool) (r : Found) (e : s ≡ shows table want (x .before) (y .before)) (q : r ≡ inStretch s here (2 * d - 1) from) where
-      pub before-outcome : Outcome P from (instant d) r
-      before-outcome =
-          stretch
-          P
-          s
-          here
-          (instant d)
-          from
-          r
-          q
-          (n .on .clear)
-          (omega (arith, n .event-is .dated))
-          (λ u l h. before-date i j here d x y (n .on) (n .event-is) (n .left-is) (n .right-is) u l h ∙ sym e)
-
-    -- the instant of the date
-    module _ (clear : Clear P from (instant d)) (s : Bool) (r : Found) (e : s ≡ shows table want (x .at) (y .at))
-        (q : r ≡ inStretch s (2 * d - 1) (2 * d) from) where
-      pub at-outcome : Outcome P from (gap d) r
-      at-outcome =
-          stretch
-          P
-          s
-          (instant d)
-          (gap d)
-          from
-          r
-          q
-          clear
-          (omega (arith, n .event-is .dated))
-          (λ u l h. at-date i j here d x y (n .on) (n .event-is) (n .left-is) (n .right-is) u l h ∙ sym e)
-
--- an outcome that found a moment, and one that found none
-pub outcome-in : (p : Signal) (from end t : ℕ) (r : Found) → r ≡ In t → Outcome p from end r → FirstFrom p from r
-outcome-in p from end t r e (inl h) = let n : r ≡ Nowhere = h .0 in let z : _≡_ {A = ℕ} 0 1 = cc in absurd (omega arith)
-outcome-in p from end t r e (inr h) = rw (h .1) (h .2)
-
-pub outcome-none : (p : Signal) (from end : ℕ) (r : Found) → r ≡ Nowhere → Outcome p from end r → Clear p from end
-outcome-none p from end r e (inl h) = h .1
-outcome-none p from end r e (inr h) = let n : r ≡ In (h .0) = h .1 in let z : _≡_ {A = ℕ} 0 1 = cc in absurd (omega arith)
-
-pub shows-of : (table : Table) (want p q p' q' s v : Bool) → s ≡ shows table want p q → p ≡ p' → q ≡ q' → s ≡ v → shows table want p' q' ≡ v
-shows-of table want p q p' q' s v e x y z = rw (← x, ← y) (sym e ∙ z)
+      pub watch-on : failsBy both (atDate a i d) (atDate b j d) ≡ false → Watching d (passedDate a i d) (passedDate b j d)
+      watch-on e = record { left = pass-a d later la lb .on; right = pass-b d later la lb .on; clear = on }
+        where
+          on : Clear (failing both a b) (gap d)
+          on u h = go (ltb u (instant d)) refl
+            where
+              go : (t : Bool) → ltb u (instant d) ≡ t → Down (failing both a b u)
+              go true q = clear-before u (ltb-true u (instant d) q)
+              go false q =
+                  let is : u ≡ instant d = omega (arith, ltb-false u (instant d) q) in
+                  rw (is, at-date) e

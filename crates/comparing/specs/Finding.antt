@@ -1,43 +1,42 @@
--- Mirrored: The first moment from a moment on at which a table's value of two signals is the one wanted: what the scan's contract says.
-use Prim.Native.Nat.{ℕ, _≤_, _<_, max}
-use mathlib.Core.Bool.{Bool, cond, Bool·beq, _&&_}
-use lib.Dec.{ltb}
-use Rattle.signals.specs.Moment.{gap}
-use Rattle.signals.specs.Signal.{Signal, Table, cell}
-use Rattle.signals.specs.Quantified.{Up, Down}
-use Rattle.signals.specs.Implication.{failsIn}
+-- Mirrored: The scan along two lists for the first moment at which they fail: what its contract says of any two lists.
+use Prim.Native.Nat.{ℕ, _≤_, _<_, min}
+use mathlib.Core.Path.{_≡_}
+use mathlib.Core.Bool.{Bool, true, false, not, cond, _&&_}
+use mathlib.Core.List.{List}
+use Rattle.signals.specs.Passing.{heldValue, atDate, passedDate}
 use Rattle.signals.specs.declared.Verdict.{Verdict}
-use Rattle.signals.specs.declared.Verdict.the-variants.{Holds}
-use Rattle.reading.specs.Reading.{NEVER}
-use Rattle.comparing.specs.declared.Found.{Found}
-use Rattle.comparing.specs.declared.Found.the-variants.{In, Nowhere}
+use Rattle.signals.specs.declared.Verdict.the-variants.{Holds, FailsAt, FailsAfter}
+use Rattle.reading.specs.Reading.{NEVER, nextDate}
+use Rattle.sources.specs.Sources.{listAt}
+use Rattle.sources.specs.declared.Source.{Source}
 
--- the table's value of two values is v; the moments at which its value of two signals is
-unfoldable pub shows : Table → Bool → Bool → Bool → Bool
-shows table v p q = Bool·beq (cell table p q) v
+-- p to q fails: p up and q down; both ways, also q up and p down
+abbrev pub failsBy : Bool → Bool → Bool → Bool
+failsBy both p q = cond p (not q) (q && both)
 
-unfoldable pub shown : Table → Bool → Signal → Signal → Signal
-shown table v f g t = shows table v (f t) (g t)
+-- the earlier of the next dates, i and j words being passed
+unfoldable pub nextOf : List ℕ → List ℕ → ℕ → ℕ → ℕ
+nextOf a b i j = min (nextDate a i) (nextDate b j)
 
--- no moment from m to before n has p
-abbrev pub Clear : Signal → ℕ → ℕ → Type 0
-Clear p m n = (u : ℕ) → m ≤ u → u < n → Down (p u)
+-- the values held do not fail up to the next date d, which is a word's
+pub record Quiet (both : Bool) (a b : List ℕ) (i j d : ℕ) : Type 0 where
+  pub held : failsBy both (heldValue a i) (heldValue b j) ≡ false
+  pub next : d ≡ nextOf a b i j
+  pub left : d < NEVER
 
--- the moment found is the first from m on that has p, and none is found where no moment from m on has it
-abbrev pub FirstFrom : Signal → ℕ → Found → Type 0
-FirstFrom p m (In t) = (m ≤ t) × (t ≤ max m (gap NEVER)) × Up (p t) × Clear p m t
-FirstFrom p m Nowhere = (u : ℕ) → m ≤ u → Down (p u)
+-- The verdict of the scan from the gap after date k on, i and j words being passed: in this gap, or with no word left, or at the next date,
+-- or from the gap after that on.
+pub data Finds (both : Bool) (a b : List ℕ) : ℕ → ℕ → ℕ → Verdict → Type 0 where
+  inGap : {k i j : ℕ} → failsBy both (heldValue a i) (heldValue b j) ≡ true → Finds both a b k i j (FailsAfter k)
+  ended : {k i j : ℕ} → failsBy both (heldValue a i) (heldValue b j) ≡ false → NEVER ≤ nextOf a b i j → Finds both a b k i j Holds
+  atInstant : {k i j d : ℕ} → Quiet both a b i j d → failsBy both (atDate a i d) (atDate b j d) ≡ true → Finds both a b k i j (FailsAt d)
+  turn : {k i j d : ℕ} {r : Verdict} → Quiet both a b i j d → failsBy both (atDate a i d) (atDate b j d) ≡ false
+      → Finds both a b d (passedDate a i d) (passedDate b j d) r → Finds both a b k i j r
 
--- the first moment from m on of a stretch from `start` to before `end`, all of whose moments have p or none
-unfoldable pub inStretch : Bool → ℕ → ℕ → ℕ → Found
-inStretch has start end m = cond (has && ltb (max start m) end) (In (max start m)) Nowhere
+-- the verdict of the scan from the start: gap 0, the first words being passed
+abbrev pub Found : Bool → List ℕ → List ℕ → Verdict → Type 0
+Found both a b r = Finds both a b 0 1 1 r
 
--- the moment found has a tick of 32 bits
-abbrev pub Near : Found → Type 0
-Near (In t) = t ≤ gap NEVER
-Near Nowhere = Unit {0}
-
--- the verdict that a first failing moment gives
-abbrev pub verdictIn : Found → Verdict
-verdictIn (In t) = failsIn t
-verdictIn Nowhere = Holds
+-- the same of lists where they stand
+abbrev pub FoundAt : Bool → List ℕ → List ℕ → List ℕ → List ℕ → Source → Source → Verdict → Type 0
+FoundAt both sheet left right work f g r = Found both (listAt sheet left right work f) (listAt sheet left right work g) r

@@ -1,2 +1,2 @@
--- What the scan over moments finds.
+-- What the scan over two lists finds.
 pub mod Finding

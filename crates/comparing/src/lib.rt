@@ -1,104 +1,112 @@
-// Two lists compared: equality and implication, by one scan over the moments of both.
+// Two lists compared: equality and implication, by one scan along both.
 ghost use mathlib.Core.Path.{_≡_};
-ghost use Prim.Native.Nat.{max};
-ghost use Rattle.signals.specs.Words.{listFault, signalOf};
+ghost use mathlib.Core.Bool.{false};
+ghost use Prim.Native.Nat.{_/_, min};
+ghost use Rattle.signals.specs.Words.{pairFault};
 ghost use Rattle.questions.specs.Questions.{equalOf, impliesOf};
-ghost use Rattle.comparing.specs.Finding.{shown, shows, inStretch, verdictIn, Near, FirstFrom};
+ghost use Rattle.comparing.specs.Finding.{failsBy, Found, FoundAt};
 use lists::pair_fault;
-use reading::held_value;
-use reading::next_date;
-use reading::past;
+use reading::NEVER;
+use signals::Date;
 use signals::Told;
 use signals::Verdict;
-use words::earlier;
-use words::index;
+use sources::Memory;
+use sources::Source;
+use sources::next_word;
+use sources::pass;
 
-// What a scan over moments finds: a moment by its number (gap k is 2k, instant k is 2k-1), or none.
-enum Found {
-    In(u64),
-    Nowhere,
-}
-
-fn later(a: u64, b: u64) -> u64
-    ensures { λ r. ⌜ r ≡ max a b ⌝ }
+// p to q fails: p up and q down; both ways, also q up and p down.
+fn fails_by(both: bool, p: bool, q: bool) -> bool
+    ensures { λ r. ⌜ r ≡ failsBy both p q ⌝ }
 {
-    if a < b { b } else { a }
-}
-
-// The table's value of two values is the one wanted.
-fn table_shows(table: [[bool; 2]; 2], want: bool, p: bool, q: bool) -> bool
-    ensures { λ r. ⌜ r ≡ shows table want p q ⌝ }
-{
-    let row = index(p);
-    let column = index(q);
-    if table[row][column] { want } else { !want }
-}
-
-// The first moment from `from` on among those from `start` to before `end`, which all show it or all do not.
-fn in_stretch(show: bool, start: u64, end: u64, from: u64) -> Found
-    ensures { λ r. ⌜ r ≡ inStretch show start end from ⌝ }
-{
-    let first = later(start, from);
-    if show {
-        if first < end {
-            return Found::In(first);
-        }
+    if p {
+        return !q;
     }
-    Found::Nowhere
+    if q { both } else { false }
 }
 
-// The first moment from `from` on at which the table's value of the two signals is the one wanted.
-fn first_moment(table: [[bool; 2]; 2], want: bool, a: &[u32], b: &[u32], from: u64) -> Found
-    requires { ⌜ (listFault (now a) ≡ 0) × (listFault (now b) ≡ 0) ⌝ }
-    ensures { λ r. ⌜ FirstFrom (shown table want (signalOf (now (a .entry))) (signalOf (now (b .entry)))) from r ⌝ }
+// The earlier of two words' dates.
+fn earlier_date(x: u64, y: u64) -> u64
+    ensures { λ r. ⌜ r ≡ min (x / 4) (y / 4) ⌝ }
 {
+    if x < y { x / 4 } else { y / 4 }
+}
+
+// The first moment at which f to g fails, of gap 0, then of each date its instant and the gap after it: values change nowhere else.
+fn scan(
+    both: bool,
+    sheet: &[u8],
+    left: &[u32],
+    right: &[u32],
+    work: &[u32],
+    f: Source,
+    g: Source,
+) -> Verdict
+    ensures { λ r. ⌜ FoundAt both (now (sheet .entry)) (now (left .entry)) (now (right .entry)) (now (work .entry)) f g r ⌝ }
+{
+    let mut last: u32 = 0;
+    let mut p = next_word(sheet, left, right, work, f, 0) % 2 == 1;
+    let mut q = next_word(sheet, left, right, work, g, 0) % 2 == 1;
     let mut i: usize = 1;
     let mut j: usize = 1;
-    let mut here: u64 = 0;
-    while i + j < a.len() + b.len() {
-        let date = earlier(next_date(a, i), next_date(b, j));
-        let x = past(a, i, date);
-        let y = past(b, j, date);
-        let there = 2 * (date.0 as u64);
-        let before = in_stretch(
-            table_shows(table, want, x.before, y.before),
-            here,
-            there - 1,
-            from,
-        );
-        let Found::Nowhere = before else {
-            return before;
-        };
-        let at = in_stretch(table_shows(table, want, x.at, y.at), there - 1, there, from);
-        let Found::Nowhere = at else {
-            return at;
-        };
-        i = x.passed;
-        j = y.passed;
-        here = there;
+    let mut x = next_word(sheet, left, right, work, f, i);
+    let mut y = next_word(sheet, left, right, work, g, j);
+    loop {
+        if fails_by(both, p, q) {
+            return Verdict::FailsAfter(last);
+        }
+        let date = earlier_date(x, y);
+        if NEVER as u64 <= date {
+            return Verdict::Holds;
+        }
+        last = date as u32;
+        let a = pass(x, p, i, Date(last));
+        let b = pass(y, q, j, Date(last));
+        if fails_by(both, a.at, b.at) {
+            return Verdict::FailsAt(last);
+        }
+        p = a.after;
+        q = b.after;
+        i = a.passed;
+        j = b.passed;
+        x = next_word(sheet, left, right, work, f, i);
+        y = next_word(sheet, left, right, work, g, j);
     }
-    if table_shows(table, want, held_value(a, i), held_value(b, j)) {
-        return Found::In(later(here, from));
-    }
-    Found::Nowhere
 }
 
-// The verdict of a claim whose first failing moment was looked for.
-fn verdict_in(failing: Found) -> Verdict
-    requires { ⌜ Near failing ⌝ }
-    ensures { λ r. ⌜ r ≡ verdictIn failing ⌝ }
+// Implication f to g of two lists where they stand, neither of them judged.
+pub fn implies_at(
+    sheet: &[u8],
+    left: &[u32],
+    right: &[u32],
+    work: &[u32],
+    f: Source,
+    g: Source,
+) -> Verdict
+    ensures { λ r. ⌜ FoundAt false (now (sheet .entry)) (now (left .entry)) (now (right .entry)) (now (work .entry)) f g r ⌝ }
 {
-    match failing {
-        Found::In(moment) => {
-            let k = ((moment + 1) / 2) as u32;
-            if moment % 2 == 0 {
-                Verdict::FailsAfter(k)
-            } else {
-                Verdict::FailsAt(k)
-            }
-        }
-        Found::Nowhere => Verdict::Holds,
-    }
+    scan(false, sheet, left, right, work, f, g)
+}
+
+// The scan along two accepted lists.
+fn scan_pair(both: bool, a: &[u32], b: &[u32]) -> Verdict
+    requires { ⌜ pairFault (now a) (now b) ≡ 0 ⌝ }
+    ensures { λ r. ⌜ Found both (now (a .entry)) (now (b .entry)) r ⌝ }
+{
+    let none = [0u8; 1];
+    let first = a.len() as u32;
+    let second = b.len() as u32;
+    let f = Source {
+        memory: Memory::Left,
+        at: 0,
+        count: first,
+    };
+    let g = Source {
+        memory: Memory::Right,
+        at: 0,
+        count: second,
+    };
+    scan(both, &none[..0], a, b, &a[..0], f, g)
 }
 
 // Implication f to g: fails where f is up and g is down.
@@ -109,7 +117,7 @@ pub fn implies(f: &[u32], g: &[u32]) -> Verdict
     if fault != 0 {
         return Verdict::Refused(fault);
     }
-    verdict_in(first_moment([[false, false], [true, false]], true, f, g, 0))
+    scan_pair(false, f, g)
 }
 
 // Equality: no where some moment has two values.
@@ -120,8 +128,8 @@ pub fn equal(a: &[u32], b: &[u32]) -> Told
     if fault != 0 {
         return Told::Refused(fault);
     }
-    match first_moment([[false, true], [true, false]], true, a, b, 0) {
-        Found::In(_) => Told::No,
-        Found::Nowhere => Told::Yes,
+    match scan_pair(true, a, b) {
+        Verdict::Holds => Told::Yes,
+        _ => Told::No,
     }
 }
