@@ -21,7 +21,7 @@ pub slot-short : (fault : ℕ) (exact old : List ℕ) → fault ≡ 0 → length
 unfolding slotAnswer slotAfter begins
 slot-short fault exact old z h = (rw (z, lt-leb mostWords (length old) h), rw (z, lt-leb mostWords (length old) h))
 
-built-answer : (exact old slot : List ℕ) (made : Made) → Built exact old slot made → madeAnswer made ≡ builtAnswer exact
+pub built-answer : (exact old slot : List ℕ) (made : Made) → Built exact old slot made → madeAnswer made ≡ builtAnswer exact
 unfolding madeAnswer builtAnswer
 built-answer exact old slot made b = rw (b .count-is, b .late-is)
 
