@@ -1,32 +1,27 @@
 -- One turn of the merge's loop: the next date of either operand is passed in both, and what it shows is put into the slot.
-use Prim.Native.Nat.{ℕ, zero, suc, _+_, _-_, _≤_, _<_, _^_, min, max}
+use Prim.Native.Nat.{ℕ, zero, suc, _+_, _≤_, _<_, min}
 use native.Mathlib.Omega.{arith}
-use mathlib.Core.Path.{_≡_, refl, sym, _∙_, ap, ap₂}
-use mathlib.Core.Bool.{Bool, true, false, cond, _&&_}
+use mathlib.Core.Path.{_≡_, refl, sym, _∙_}
+use mathlib.Core.Bool.{Bool, true, false, cond}
 use mathlib.Core.List.{List, [], _∷_}
 use mathlib.Core.Logic.{_⊎_, inl, inr, ⊎-elim}
-use lib.Dec.{ltb, eqb}
-use lib.ListN.{length, getD, set, length-set}
-use lib.Seq.{set-set}
+use lib.Dec.{ltb}
+use lib.ListN.{length, getD, set}
 use borrow.Author.Tests.{lt-ltb, le-ltb, ltb-true, ltb-false, eq-eqb}
-use Rattle.signals.specs.Moment.{gap, M}
 use Rattle.signals.specs.Signal.{Signal, Table, num}
-use Rattle.signals.specs.Words.{dateOf, signalOf, lastDate, lastFrom, listOf, listFault, headValue, mostWords}
+use Rattle.signals.specs.Words.{dateOf, signalOf, lastDate, lastFrom, listOf, headValue, mostWords}
 use Rattle.signals.specs.Normal.{Normal, Accepted, Rising}
 use Rattle.signals.specs.Passing.{heldValue, isNext, atDate, afterDate, passedDate}
 use Rattle.signals.proofs.Operand.{At, Passed, at-pass, at-end, next-later, value-held}
-use Rattle.signals.proofs.Normal.{accepted-start, accepted-normal, last-le, lastDate-bound}
-use Rattle.signals.proofs.WordFacts.{date-bounds, date-le}
+use Rattle.signals.proofs.Normal.{accepted-start, accepted-normal, last-le}
+use Rattle.signals.proofs.WordFacts.{date-bounds}
 use Rattle.signals.proofs.Operand.{words-rise}
-use Rattle.reading.specs.Reading.{nextDate, NEVER, stepPast}
-use Rattle.reading.specs.declared.Step.{Step}
-use Rattle.operations.specs.Calls.{exactOfTwo}
+use Rattle.reading.specs.Reading.{nextDate, NEVER}
 use Rattle.building.specs.Building.{emitted, emittedIn, begun, Built}
 use Rattle.showing.specs.Showing.{merged, bitOf, firstShown, dateShown}
 use Rattle.building.specs.declared.Made.{Made}
 use Rattle.showing.specs.declared.Operation.{Operation}
-use Rattle.showing.specs.declared.Shown.{Shown}
-use Rattle.building.proofs.Scanning.{Scanning, scanning-begin, scanning-emit, scanning-done, built-over}
+use Rattle.building.proofs.Scanning.{Scanning, scanning-begin, scanning-emit, scanning-done}
 use Rattle.showing.proofs.ShownHeld.{heldBy, Turned, turned, shown-first, still-for-good}
 
 -- no word of the list is dated after n
@@ -56,7 +51,7 @@ next-of : (l : List ℕ) (p : ℕ) → p < length l → nextDate l p ≡ dateOf 
 unfolding nextDate
 next-of l p h = rw (lt-ltb p (length l) h)
 
-next-none : (l : List ℕ) (p : ℕ) → length l ≤ p → nextDate l p ≡ NEVER
+pub next-none : (l : List ℕ) (p : ℕ) → length l ≤ p → nextDate l p ≡ NEVER
 unfolding nextDate
 next-none l p h = rw (le-ltb p (length l) h)
 
@@ -134,7 +129,7 @@ module _ (o : Operation) (table : Table) (a b : List ℕ) (n : ℕ) (old : List 
 
   module _ (da : Dates a n) (db : Dates b n) (small : n < NEVER) (i j k : ℕ) (slot : List ℕ) (made : Made) (bit : Bool)
       (m : Merging k slot made bit i j) (more : i + j < length a + length b) where
-    pub nextOfBoth : ℕ
+    nextOfBoth : ℕ
     nextOfBoth = min (nextDate a i) (nextDate b j)
 
     above : k < nextOfBoth
@@ -151,11 +146,11 @@ module _ (o : Operation) (table : Table) (a b : List ℕ) (n : ℕ) (old : List 
         (λ u. let y = next-within b j n db (omega arith) in omega arith)
         (left-or-none a i)
 
-    pub turn-left : Passed (signalOf a) a i k nextOfBoth
+    turn-left : Passed (signalOf a) a i k nextOfBoth
     unfolding nextOfBoth
     turn-left = at-pass (signalOf a) a i k nextOfBoth (m .left) above (not-after a i nextOfBoth (omega arith))
 
-    pub turn-right : Passed (signalOf b) b j k nextOfBoth
+    turn-right : Passed (signalOf b) b j k nextOfBoth
     unfolding nextOfBoth
     turn-right = at-pass (signalOf b) b j k nextOfBoth (m .right) above (not-after b j nextOfBoth (omega arith))
 
@@ -171,34 +166,13 @@ module _ (o : Operation) (table : Table) (a b : List ℕ) (n : ℕ) (old : List 
         turned o table (signalOf a) (signalOf b) k nextOfBoth (heldValue a i) (atDate a i nextOfBoth) (afterDate a i nextOfBoth)
         (heldValue b j) (atDate b j nextOfBoth) (afterDate b j nextOfBoth) bit (m .bit-is) (turn-left .held) (turn-right .held)
 
-    pub progress : i + j < passedDate a i nextOfBoth + passedDate b j nextOfBoth
-    unfolding nextOfBoth
-    progress = go (leb-or (nextDate a i) (nextDate b j))
-      where
-        leb-or : (x y : ℕ) → (min x y ≡ x) ⊎ (min x y ≡ y)
-        leb-or x y = split (ltb x y) refl
-          where
-            split : (t : Bool) → ltb x y ≡ t → (min x y ≡ x) ⊎ (min x y ≡ y)
-            split true e = inl (let h = ltb-true x y e in omega arith)
-            split false e = inr (let h = ltb-false x y e in omega arith)
-
-        ka : i ≤ passedDate a i nextOfBoth
-        ka = passed-keeps a i nextOfBoth
-
-        kb : j ≤ passedDate b j nextOfBoth
-        kb = passed-keeps b j nextOfBoth
-
-        go : (min (nextDate a i) (nextDate b j) ≡ nextDate a i) ⊎ (min (nextDate a i) (nextDate b j) ≡ nextDate b j)
-            → i + j < passedDate a i nextOfBoth + passedDate b j nextOfBoth
-        go (inl e) = let x = passed-next a i nextOfBoth e (omega (arith, within)) in omega (arith, kb)
-        go (inr e) = let x = passed-next b j nextOfBoth e (omega (arith, within)) in omega (arith, ka)
-
     -- the turn as the code makes it
-    pub merge-turn : (d : ℕ) → d ≡ nextOfBoth → (at after next : Bool)
+    pub merge-turn : (d : ℕ) → d ≡ min (nextDate a i) (nextDate b j) → (at after next : Bool)
         → at ≡ (dateShown o table bit (heldValue a i) (atDate a i d) (afterDate a i d) (atDate b j d) (afterDate b j d)) .at
         → after ≡ (dateShown o table bit (heldValue a i) (atDate a i d) (afterDate a i d) (atDate b j d) (afterDate b j d)) .after
         → next ≡ (dateShown o table bit (heldValue a i) (atDate a i d) (afterDate a i d) (atDate b j d) (afterDate b j d)) .carried
         → Merging d (emittedIn slot made d at after) (emitted made d at after) next (passedDate a i d) (passedDate b j d)
+    unfolding nextOfBoth
     merge-turn d e at after next ea ef en =
         rw (ea, ef, en, e)
         (record {
@@ -218,62 +192,6 @@ module _ (o : Operation) (table : Table) (a b : List ℕ) (n : ℕ) (old : List 
       (at-end (signalOf a) a i k (m .left) (omega (arith, m .left .within, m .right .within)))
       (at-end (signalOf b) b j k (m .right) (omega (arith, m .left .within, m .right .within))))
 
--- the loop's start, from what the calls before it give; the slot where the loop begins stands for the old one
-pub merge-start : (o : Operation) (table : Table) (a b : List ℕ) (n : ℕ) (entry slot : List ℕ) (p q : Bool) (shown : Shown) (made : Made)
-    → Accepted a → Accepted b → p ≡ heldValue a 1 → q ≡ heldValue b 1 → shown ≡ firstShown o table p q
-    → made ≡ begun (shown .after) → slot ≡ set entry 0 (num (shown .after)) → Merging o table a b n slot 0 slot made (shown .carried) 1 1
-merge-start o table a b n entry slot p q shown made ha hb ep eq es em el =
-    rw (em, el, es, ep, eq)
-    (rw (set-set entry 0 v v) at (merge-begin o table a b n (set entry 0 v) ha hb))
-  where
-    v : ℕ
-    v = num ((firstShown o table (heldValue a 1) (heldValue b 1)) .after)
-
-pub merge-end : (o : Operation) (table : Table) (a b entry start slot : List ℕ) (x : ℕ) (made : Made) (bit : Bool) (i j k : ℕ)
-    → start ≡ set entry 0 x
-    → Merging o table a b (max (lastDate a) (lastDate b)) start k slot made bit i j → length a + length b ≤ i + j
-    → Built (exactOfTwo (merged o table) a b) entry slot made
-unfolding exactOfTwo
-merge-end o table a b entry start slot x made bit i j k e m done =
-    let n = max (lastDate a) (lastDate b) in
-    built-over (merged o table (signalOf a) (signalOf b)) n entry slot made x
-    (rw e at (merge-done o table a b n start k slot made bit i j m done))
-
--- what the loop knows of its two lists throughout
-pub record Operands (a b : List ℕ) : Type 0 where
-  pub first : Accepted a
-  pub second : Accepted b
-  pub first-small : lastDate a ≤ M
-  pub second-small : lastDate b ≤ M
-
+-- an accepted list has at most 256 words
 pub short : (l : List ℕ) → Accepted l → length l ≤ mostWords
 short l h = accepted-normal l .0 h .1
-
-module _ (o : Operation) (table : Table) (a b old : List ℕ) (k : ℕ) (slot : List ℕ) (made : Made) (bit : Bool) (i j : ℕ)
-    (x : Operands a b) (m : Merging o table a b (max (lastDate a) (lastDate b)) old k slot made bit i j)
-    (more : i + j < length a + length b) where
-  da : Dates a (max (lastDate a) (lastDate b))
-  da = dates-more a (lastDate a) (max (lastDate a) (lastDate b)) (accepted-dates a (x .first)) (omega arith)
-
-  db : Dates b (max (lastDate a) (lastDate b))
-  db = dates-more b (lastDate b) (max (lastDate a) (lastDate b)) (accepted-dates b (x .second)) (omega arith)
-
-  pub loop-turn : (na nb d : ℕ) (p q : Step) (s : Shown) → na ≡ nextDate a i → nb ≡ nextDate b j → d ≡ min na nb → p ≡ stepPast a i d
-      → q ≡ stepPast b j d
-      → s ≡ dateShown o table bit (p .before) (p .at) (p .after) (q .at) (q .after)
-      → (slot′ : List ℕ) (made′ : Made) → made′ ≡ emitted made d (s .at) (s .after) → slot′ ≡ emittedIn slot made d (s .at) (s .after)
-      → Merging o table a b (max (lastDate a) (lastDate b)) old d slot′ made′ (s .carried) (p .passed) (q .passed)
-  unfolding nextOfBoth
-  loop-turn na nb d p q s ea eb ed ep eq es slot′ made′ em el =
-      rw (em, el, es, ep, eq)
-      (merge-turn o table a b (max (lastDate a) (lastDate b)) old da db (omega (arith, x .first-small, x .second-small)) i j k slot made bit
-      m more d (ed ∙ rw (ea, eb)) _ _ _ refl refl refl)
-
-  pub loop-falls : (na nb d : ℕ) (p q : Step) → na ≡ nextDate a i → nb ≡ nextDate b j → d ≡ min na nb → p ≡ stepPast a i d
-      → q ≡ stepPast b j d
-      → i + j < p .passed + q .passed
-  unfolding nextOfBoth
-  loop-falls na nb d p q ea eb ed ep eq =
-      rw (ep, eq, ed, ea, eb)
-      (progress o table a b (max (lastDate a) (lastDate b)) old da db (omega (arith, x .first-small, x .second-small)) i j k slot made bit m
-      more)

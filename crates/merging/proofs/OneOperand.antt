@@ -1,18 +1,16 @@
 -- An operation of one operand, as a merge with the list that is always down.
 use Prim.Native.Nat.{ℕ, max}
-use native.Mathlib.Decide.{ℕ-discrete}
 use native.Mathlib.Omega.{arith}
-use mathlib.Core.Path.{_≡_, refl, sym, _∙_, ap, fun-ext}
-use mathlib.Core.Bool.{Bool, true, false, not, cond}
+use mathlib.Core.Path.{_≡_, refl}
+use mathlib.Core.Bool.{Bool, true, false, not}
 use mathlib.Core.List.{List, [], _∷_}
 use lib.ListN.{length}
-use Rattle.signals.specs.Signal.{Signal, Table, NOT, cell, connective}
-use Rattle.signals.specs.Words.{listFault, wordsFault, signalOf, lastDate, lastFrom, listOf}
+use Rattle.signals.specs.Signal.{Signal, NOT, cell, connective}
+use Rattle.signals.specs.Words.{listFault, wordsFault, signalOf, lastDate, lastFrom}
 use Rattle.signals.specs.declared.Written.{Written}
 use Rattle.signals.proofs.Scan.{listOf-ext}
 use Rattle.operations.specs.Calls.{exactOfOne, exactOfTwo, faultOfOne, faultOfTwo, CallOfOne, CallOfTwo}
 use Rattle.signals.specs.Words.{pairFault}
-use Rattle.signals.specs.Answers.{firstOf}
 use Rattle.signals.proofs.FirstFault.{first-with-none}
 
 abbrev pub none : List ℕ

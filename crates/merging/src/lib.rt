@@ -1,50 +1,104 @@
 // The merge of two lists, and what it makes: NOT, connectives, edges and latches.
 ghost use mathlib.Core.Path.{_≡_};
+ghost use Prim.Native.Nat.{_/_, min};
+ghost use lib.ListN.{length};
 ghost use Rattle.signals.specs.Signal.{NOT, connective, rising, falling, SR, RS};
-ghost use Rattle.signals.specs.Words.{listFault};
-ghost use Rattle.operations.specs.Calls.{exactOfTwo, CallOfOne, CallOfTwo};
-ghost use Rattle.building.specs.Building.{Built};
-ghost use Rattle.building.specs.Slots.{SlotOfTwo};
+ghost use Rattle.operations.specs.Calls.{CallOfOne, CallOfTwo};
 ghost use Rattle.showing.specs.Showing.{merged};
+ghost use Rattle.merging.specs.Merging.{MayMerge, BuiltAt, MergedAt};
 use building::Made;
 use building::SlotAnswer;
 use building::WORDS;
+use reading::NEVER;
 use showing::Operation;
+use signals::Date;
 use signals::Written;
+use sources::Memory;
+use sources::Source;
 
-// The merge of two accepted lists: date by date, what the operation makes of both.
+// The earlier date of two words.
+fn earlier(x: u64, y: u64) -> u64
+    ensures { λ r. ⌜ r ≡ min (x / 4) (y / 4) ⌝ }
+{
+    if x / 4 < y / 4 { x / 4 } else { y / 4 }
+}
+
+// The merge of two lists, built in the slot from a place of the work area on: date by date, what the operation makes of both. The next words
+// are read before the answer's is stored.
 fn merge(
     operation: Operation,
     table: [[bool; 2]; 2],
-    a: &[u32],
-    b: &[u32],
-    slot: &mut [u32],
+    sheet: &[u8],
+    left: &[u32],
+    right: &[u32],
+    work: &mut [u32],
+    a: Source,
+    b: Source,
+    at: usize,
 ) -> Made
-    requires { ⌜ (listFault (now a) ≡ 0) × (listFault (now b) ≡ 0) ⌝ }
+    requires { ⌜ MayMerge a b at (length (now work)) ⌝ }
     ensures { λ r.
-        ⌜ Built (exactOfTwo (merged operation table) (now (a .entry)) (now (b .entry))) (now (slot .entry)) (now (slot .exit)) r ⌝ }
+        ⌜ BuiltAt operation table (now (sheet .entry)) (now (left .entry)) (now (right .entry)) (now (work .entry)) a b at r
+        (now (work .exit)) ⌝ }
 {
-    let first = showing::first_shown(
-        operation,
-        table,
-        reading::held_value(a, 1),
-        reading::held_value(b, 1),
-    );
-    let mut made = building::begin(slot, first.after);
+    let end = at + WORDS;
+    let mut x = sources::next_word(sheet, left, right, work, a, 0);
+    let mut y = sources::next_word(sheet, left, right, work, b, 0);
+    let mut p = x % 2 == 1;
+    let mut q = y % 2 == 1;
+    let first = showing::first_shown(operation, table, p, q);
+    x = sources::next_word(sheet, left, right, work, a, 1);
+    y = sources::next_word(sheet, left, right, work, b, 1);
+    let mut made = building::begin(&mut work[at..end], first.after);
     let mut carried = first.carried;
     let mut i: usize = 1;
     let mut j: usize = 1;
-    while i + j < a.len() + b.len() {
-        let date = words::earlier(reading::next_date(a, i), reading::next_date(b, j));
-        let p = reading::past(a, i, date);
-        let q = reading::past(b, j, date);
-        let shown = showing::date_shown(operation, table, carried, p, q);
-        made = building::emit(slot, made, date, shown.at, shown.after);
+    let mut date = earlier(x, y);
+    while date < NEVER as u64 {
+        let on = Date(date as u32);
+        let u = sources::pass(x, p, i, on);
+        let v = sources::pass(y, q, j, on);
+        let shown = showing::date_shown(operation, table, carried, u, v);
+        i = u.passed;
+        j = v.passed;
+        x = sources::next_word(sheet, left, right, work, a, i);
+        y = sources::next_word(sheet, left, right, work, b, j);
+        made = building::emit(&mut work[at..end], made, on, shown.at, shown.after);
         carried = shown.carried;
-        i = p.passed;
-        j = q.passed;
+        p = u.after;
+        q = v.after;
+        date = earlier(x, y);
     }
     made
+}
+
+// The merge of two lists where they stand, its answer in the slot of 256 words of the work area from a place on. Refused, and nothing
+// written, where a list is not apart from the slot or the slot does not fit.
+pub fn merge_at(
+    operation: Operation,
+    table: [[bool; 2]; 2],
+    sheet: &[u8],
+    left: &[u32],
+    right: &[u32],
+    work: &mut [u32],
+    a: Source,
+    b: Source,
+    at: u32,
+) -> SlotAnswer
+    ensures { λ r.
+        ⌜ MergedAt operation table (now (sheet .entry)) (now (left .entry)) (now (right .entry)) (now (work .entry)) a b at r
+        (now (work .exit)) ⌝ }
+{
+    let from = at as usize;
+    if sources::apart(a, at, WORDS as u32) {
+        if sources::apart(b, at, WORDS as u32) {
+            if from + WORDS <= work.len() {
+                let made = merge(operation, table, sheet, left, right, work, a, b, from);
+                return building::finish(made);
+            }
+        }
+    }
+    SlotAnswer::NotBegun
 }
 
 // A merge of two lists that are judged first, its answer delivered to an output.
@@ -61,30 +115,30 @@ fn operate(
     if fault != 0 {
         return Written::Refused(fault);
     }
+    let bytes = [0u8; 1];
     let mut slot = [0u32; WORDS];
-    let made = merge(operation, table, a, b, &mut slot);
+    let first = Source {
+        memory: Memory::Left,
+        at: 0,
+        count: a.len() as u32,
+    };
+    let second = Source {
+        memory: Memory::Right,
+        at: 0,
+        count: b.len() as u32,
+    };
+    let made = merge(
+        operation,
+        table,
+        &bytes[..0],
+        a,
+        b,
+        &mut slot,
+        first,
+        second,
+        0,
+    );
     building::deliver(&slot, made, out)
-}
-
-// The same in a slot of 256 words or more that the evaluator lends: no entry point, since the slot is scratch.
-pub fn operate_in(
-    operation: Operation,
-    table: [[bool; 2]; 2],
-    a: &[u32],
-    b: &[u32],
-    slot: &mut [u32],
-) -> SlotAnswer
-    ensures { λ r. ⌜ SlotOfTwo (merged operation table) (now (a .entry)) (now (b .entry)) (now (slot .entry)) r (now (slot .exit)) ⌝ }
-{
-    let fault = lists::pair_fault(a, b);
-    if fault != 0 {
-        return SlotAnswer::NotBegun;
-    }
-    if slot.len() < WORDS {
-        return SlotAnswer::NotBegun;
-    }
-    let made = merge(operation, table, a, b, slot);
-    building::finish(made)
 }
 
 // The first operand inverted, whatever the second.

@@ -1,124 +1,157 @@
--- `merging::merge` meets its contract: up to the date passed, the slot holds the answer's words; each turn passes the next date of
--- either list.
+-- `merging::merge` meets its contract: whatever the merge ends with from the state reached, it ends with from where the loop began.
 use borrow.Author.Needs.{needs}
-use Prim.Native.Nat.{ℕ, _+_, _-_, _≤_, _<_, max}
+use Prim.Native.Nat.{ℕ, _+_, _-_, _%_}
 use native.Mathlib.Omega.{arith}
-use mathlib.Core.Path.{_≡_, refl, sym, _∙_, ap}
-use lib.ListN.{length}
-use Rattle.signals.specs.Words.{lastDate}
-use Rattle.operations.proofs.NeverMet.{last-32}
-use Rattle.merging.proofs.MergeTurn.{Merging, Operands, merge-start, merge-end, loop-turn, loop-falls, short}
+use mathlib.Core.Path.{_≡_, refl, _∙_, ap}
+use mathlib.Core.List.{List, _++_}
+use lib.Dec.{eqb}
+use lib.ListN.{length, take, drop}
+use Rattle.signals.specs.Words.{mostWords, valueAfter}
+use Rattle.sources.specs.Sources.{listAt, nextWord, slotIn}
+use Rattle.sources.proofs.Going.{going-begin}
+use Rattle.merging.specs.Merging.{MayMerge}
+use Rattle.merging.proofs.MergeLoop.{Looping, reached, Started, started, looping-turn, looping-falls, looping-end, looping-long, looping-still}
 use Rattle.merging.proofs.merge.Statement.{statement}
 use Rattle.merging.proofs.merge.Tie as tie
 
 abbrev Inv-loop : tie.InvT-loop
-Inv-loop operation table a b slot₀ made₀ carried₀ i₀ j₀ slot made carried i j =
-    (length slot ≡ length slot₀) × Operands a b
-    × ((k : ℕ) × Merging operation table a b (max (lastDate a) (lastDate b)) slot₀ k slot made carried i j)
+Inv-loop operation table sheet left right work₀ a b at end x₀ y₀ p₀ q₀ made₀ carried₀ i₀ j₀ date₀ work x y p q made carried i j date =
+    (end ≡ at + mostWords) × MayMerge a b at (length work₀)
+    × Looping operation table (listAt sheet left right work₀ a) (listAt sheet left right work₀ b) work₀ at
+    (reached (slotIn work₀ at mostWords) made₀ carried₀ 1 1) work x y p q made carried i j date
 
 abbrev μ-loop : tie.MeasureT-loop
-μ-loop operation table a b slot₀ made₀ carried₀ i₀ j₀ slot made carried i j = length a + length b - (i + j)
+μ-loop operation table sheet left right work₀ a b at end x₀ y₀ p₀ q₀ made₀ carried₀ i₀ j₀ date₀ work x y p q made carried i j date =
+    length (listAt sheet left right work₀ a) - i + (length (listAt sheet left right work₀ b) - j)
 
-held-value-requires : tie.Need-held-value-requires Inv-loop μ-loop
-held-value-requires c κs = search needs
+add-end : tie.Need-add-end Inv-loop μ-loop
+add-end c = let s = c .before .before .before .before in omega (arith, s .pre .2, s .good .1 .1 .1 .1 .1 .0 .0)
 
-held-value-requires-2 : tie.Need-held-value-requires-2 Inv-loop μ-loop
-held-value-requires-2 c κs = search needs
+next-word-requires : tie.Need-next-word-requires Inv-loop μ-loop
+next-word-requires c κs = search needs
+
+next-word-requires-2 : tie.Need-next-word-requires-2 Inv-loop μ-loop
+next-word-requires-2 c κs = search needs
 
 first-shown-requires : tie.Need-first-shown-requires Inv-loop μ-loop
 first-shown-requires c κs = search needs
 
+next-word-requires-3 : tie.Need-next-word-requires-3 Inv-loop μ-loop
+next-word-requires-3 c κs = search needs
+
+next-word-requires-4 : tie.Need-next-word-requires-4 Inv-loop μ-loop
+next-word-requires-4 c κs = search needs
+
+mul-begin : tie.Need-mul-begin Inv-loop μ-loop
+mul-begin c = let s = c .before .before .before .before .before .before .before .before .before .before .before .before .before in omega (arith, s .pre .2, s .good .1 .1 .1 .1 .1 .0 .1)
+
+sub-begin : tie.Need-sub-begin Inv-loop μ-loop
+sub-begin c = search needs
+
+part-begin-start : tie.Need-part-begin-start Inv-loop μ-loop
+part-begin-start c = search needs
+
+part-begin-end : tie.Need-part-begin-end Inv-loop μ-loop
+part-begin-end c = let s = c .before .before .before .before .before .before .before .before .before .before .before .before .before in omega (arith, s .pre .2)
+
 begin-requires : tie.Need-begin-requires Inv-loop μ-loop
 begin-requires c κs = search needs
-
-loop-holds : tie.Need-loop-holds Inv-loop μ-loop
-loop-holds c = (
-  refl,
-  record {
-    first = c .before .before .before .before .before .before .before .before .before .before .pre .0;
-    second = c .before .before .before .before .before .before .before .before .before .before .pre .1;
-    first-small =
-        last-32 _ (λ i u. c .before .before .before .before .before .before .before .before .before .shared-slice-known .given i .fits);
-    second-small = last-32 _ (λ i u. c .before .before .before .before .before .before .before .before .shared-slice-known2 .given i .fits);
-  },
-  (
-    0,
-    merge-start _ _ _ _ _ (c .before .before .before .before .before .before .before .before .before .before .args .slot .now) _ _ _ _ _
-        (c .before .before .before .before .before .before .before .before .before .before .pre .0)
-        (c .before .before .before .before .before .before .before .before .before .before .pre .1)
-        (c .before .before .before .before .before .before .held-value .ensures)
-        (c .before .before .before .before .before .held-value2 .ensures) (c .before .before .before .before .first-shown .ensures)
-        (c .before .before .begin .ensures .0) (c .before .before .begin .ensures .1),
-  ),
-)
-
-add-loop : tie.Need-add-loop Inv-loop μ-loop
-add-loop c =
-    let i = c .loop .inv .2 .1 .left .within in
-    let j = c .loop .inv .2 .1 .right .within in
-    omega (arith, short _ (c .loop .inv .1 .first), short _ (c .loop .inv .1 .second))
-
-add-loop-2 : tie.Need-add-loop-2 Inv-loop μ-loop
-add-loop-2 c = omega (arith, short _ (c .loop .inv .1 .first), short _ (c .loop .inv .1 .second))
-
-next-date-requires : tie.Need-next-date-requires Inv-loop μ-loop
-next-date-requires c κs = search needs
-
-next-date-requires-2 : tie.Need-next-date-requires-2 Inv-loop μ-loop
-next-date-requires-2 c κs = search needs
 
 earlier-requires : tie.Need-earlier-requires Inv-loop μ-loop
 earlier-requires c κs = search needs
 
-past-requires : tie.Need-past-requires Inv-loop μ-loop
-past-requires c κs = search needs
+begins : (c : tie.After-earlier Inv-loop μ-loop)
+    → let x = c .before .before .before .before .before .before .before .before .before .before .before .before .before .before .before .before .before .before .args in
+    Started (x .operation) (x .table) (x .sheet .now) (x .left .now) (x .right .now) (x .work .now) (x .a) (x .b) (x .at)
+    (take (x .at) (x .work .now) ++ (c .before .before .before .begin .last .0 ++ drop (x .at + 256 - x .at) (drop (x .at) (x .work .now))))
+    (c .before .before .before .before .before .before .before .next-word3 .result) (c .before .before .before .before .before .next-word4 .result) (eqb (c .before .before .before .before .before .before .before .before .before .before .before .before .next-word .result % 2) 1)
+    (eqb (c .before .before .before .before .before .before .before .before .before .before .next-word2 .result % 2) 1) (c .before .before .before .begin .result) (c .before .before .before .before .before .before .before .before .before .first-shown .result .carried) (c .earlier .result)
+unfolding valueAfter
+begins c =
+    let s = c .before .before .before .before .before .before .before .before .before .before .before .before .before .before .before .before .before .before in
+    let x = s .args in
+    started (x .operation) (x .table) (x .sheet .now) (x .left .now) (x .right .now) (x .work .now) (x .a) (x .b) (x .at) (s .pre)
+    (s .good .1 .1 .1 .1 .1 .1 .0 .1 .1 .1 .1 .0 .1) (s .good .1 .1 .1 .1 .1 .1 .1 .0 .1 .1 .1 .1 .0 .1) _ _ _ _
+    (going-begin _ _ _ _ (c .before .before .before .before .before .before .before .before .before .before .before .before .next-word .ensures) refl (c .before .before .before .before .before .before .before .next-word3 .ensures))
+    (going-begin _ _ _ _ (c .before .before .before .before .before .before .before .before .before .before .next-word2 .ensures) refl (c .before .before .before .before .before .next-word4 .ensures)) _ (c .before .before .before .before .before .before .before .before .before .first-shown .ensures)
+    (x .at + 256 - x .at) (omega arith) _ _ (c .before .before .before .begin .ensures) (c .before .before .before .begin .kept .0) _ (c .earlier .ensures)
 
-past-requires-2 : tie.Need-past-requires-2 Inv-loop μ-loop
-past-requires-2 c κs = search needs
+loop-holds : tie.Need-loop-holds Inv-loop μ-loop
+loop-holds c =
+    let s = c .before .before .before .before .before .before .before .before .before .before .before .before .before .before .before .before .before .before in
+    let z = begins c in (refl, (s .pre .0, s .pre .1, rw (z .long) (s .pre .2)), z .start)
+
+cast-loop : tie.Need-cast-loop Inv-loop μ-loop
+cast-loop c = search needs
+
+cast-t41 : tie.Need-cast-t41 Inv-loop μ-loop
+cast-t41 c = omega arith
+
+pass-requires : tie.Need-pass-requires Inv-loop μ-loop
+pass-requires c κs = search needs
+
+pass-requires-2 : tie.Need-pass-requires-2 Inv-loop μ-loop
+pass-requires-2 c κs = search needs
 
 date-shown-requires : tie.Need-date-shown-requires Inv-loop μ-loop
 date-shown-requires c κs = search needs
 
+next-word-requires-5 : tie.Need-next-word-requires-5 Inv-loop μ-loop
+next-word-requires-5 c κs = search needs
+
+next-word-requires-6 : tie.Need-next-word-requires-6 Inv-loop μ-loop
+next-word-requires-6 c κs = search needs
+
+mul-emit : tie.Need-mul-emit Inv-loop μ-loop
+mul-emit c = let s = c .before .before .before .before .before .before .before .before .before .before .before .before .before .before .before .before .before .before .before .before .before .before .before .before .before .before .before in omega (arith, s .pre .2, s .good .1 .1 .1 .1 .1 .0 .1)
+
+sub-emit : tie.Need-sub-emit Inv-loop μ-loop
+sub-emit c = search needs
+
+part-emit-start : tie.Need-part-emit-start Inv-loop μ-loop
+part-emit-start c = search needs
+
+part-emit-end : tie.Need-part-emit-end Inv-loop μ-loop
+part-emit-end c =
+    let at = c .before .before .before .before .before .before .before .before .loop .inv in
+    omega (arith, at .1 .2, looping-long _ _ _ _ _ _ _ (at .1 .2) _ _ _ _ _ _ _ _ _ _ (at .2))
+
 emit-requires : tie.Need-emit-requires Inv-loop μ-loop
 emit-requires c κs = search needs
 
+earlier-requires-2 : tie.Need-earlier-requires-2 Inv-loop μ-loop
+earlier-requires-2 c κs = search needs
+
 loop-less : tie.Need-loop-less Inv-loop μ-loop
 loop-less c =
-    let at = c .before .before .before .before .before .before .before .before .before .before .before .loop in
-    let falls =
-    loop-falls _ _ _ _ _ _ _ _ _ _ _ (at .inv .1) (at .inv .2 .1)
-    (c .before .before .before .before .before .before .before .before .before .before .loop-test .taken) _ _ _ _ _
-    (c .before .before .before .before .before .before .before .before .before .next-date .ensures)
-    (c .before .before .before .before .before .before .before .before .next-date2 .ensures)
-    (c .before .before .before .before .before .before .before .earlier .ensures)
-    (c .before .before .before .before .before .before .past .ensures) (c .before .before .before .before .before .past2 .ensures) in
-    omega arith
+    let at = c .before .before .before .before .before .before .before .before .before .before .before .before .before .loop .inv in
+    looping-falls _ _ _ _ _ _ _ (at .1 .2) _ _ _ _ _ _ _ _ _ _ (at .2) (c .before .before .before .before .before .before .before .before .before .before .before .before .loop-test .taken) _ _ (c .before .before .before .before .before .before .before .before .before .before .before .pass .ensures)
+    (c .before .before .before .before .before .before .before .before .before .before .pass2 .ensures)
 
 loop-again : tie.Need-loop-again Inv-loop μ-loop
 loop-again c =
-    let at = c .before .before .before .before .before .before .before .before .before .before .before .loop in (
-      c .before .before .emit .kept .0 ∙ at .inv .0,
-      at .inv .1,
-      (
-        _,
-        loop-turn _ _ _ _ _ _ _ _ _ _ _ (at .inv .1) (at .inv .2 .1)
-            (c .before .before .before .before .before .before .before .before .before .before .loop-test .taken) _ _ _ _ _ _
-            (c .before .before .before .before .before .before .before .before .before .next-date .ensures)
-            (c .before .before .before .before .before .before .before .before .next-date2 .ensures)
-            (c .before .before .before .before .before .before .before .earlier .ensures)
-            (c .before .before .before .before .before .before .past .ensures) (c .before .before .before .before .before .past2 .ensures)
-            (c .before .before .before .before .date-shown .ensures) _ _ (c .before .before .emit .ensures .0)
-            (c .before .before .emit .ensures .1),
-      ),
+    let x = c .before .before .before .before .before .before .before .before .before .before .before .before .before .before .before .before .before .before .before .before .before .before .before .before .before .before .before .before .before .before .before .before .args in
+    let at = c .before .before .before .before .before .before .before .before .before .before .before .before .before .loop .inv in
+    let still = looping-still _ _ _ _ _ _ _ (at .1 .2) _ _ _ _ _ _ _ _ _ _ (at .2) (x .sheet .now) (x .left .now) (x .right .now) in (
+      at .0,
+      at .1,
+      looping-turn _ _ _ _ _ _ _ (at .1 .2) _ _ _ _ _ _ _ _ _ _ (at .2) (c .before .before .before .before .before .before .before .before .before .before .before .before .loop-test .taken) _ _ (c .before .before .before .before .before .before .before .before .before .before .before .pass .ensures)
+          (c .before .before .before .before .before .before .before .before .before .before .pass2 .ensures) _ (c .before .before .before .before .before .before .before .before .before .date-shown .ensures) _ _
+          (c .before .before .before .before .before .before .before .next-word5 .ensures ∙ ap (λ (l : List ℕ). nextWord l (c .before .before .before .before .before .before .before .before .before .before .before .pass .result .passed)) (still (x .a) (at .1 .0)))
+          (c .before .before .before .before .before .next-word6 .ensures ∙ ap (λ (l : List ℕ). nextWord l (c .before .before .before .before .before .before .before .before .before .before .pass2 .result .passed)) (still (x .b) (at .1 .1)))
+          (x .at + 256 - x .at) (omega arith) _ _ (c .before .before .before .emit .ensures) (c .before .before .before .emit .kept .0) _ (c .earlier2 .ensures),
     )
 
 same-length : tie.Need-same-length Inv-loop μ-loop
-same-length c = c .before .loop .inv .0 ∙ c .before .before .before .before .begin .kept .0
+same-length c =
+    let at = c .before .loop .inv in
+    looping-long _ _ _ _ _ _ _ (at .1 .2) _ _ _ _ _ _ _ _ _ _ (at .2) ∙ begins (c .before .before) .long
 
 returns : tie.Need-returns Inv-loop μ-loop
 returns c =
-    merge-end _ _ _ _ _ _ _ _ _ _ _ _ _ (c .before .before .before .before .begin .ensures .1) (c .before .loop .inv .2 .1)
-    (c .loop-test .left)
+    let at = c .before .loop .inv in
+    begins (c .before .before) .builds _ _ (at .2 .slot) (at .2 .now-is)
+    (looping-end _ _ _ _ _ _ _ (at .1 .2) _ _ _ _ _ _ _ _ _ _ (at .2) (c .loop-test .left) _ refl)
 
 pub merge-spec : {M : Type 1} → statement M
 merge-spec =
@@ -126,20 +159,32 @@ merge-spec =
     (tie.spec
     Inv-loop
     μ-loop
-    held-value-requires
-    held-value-requires-2
+    add-end
+    next-word-requires
+    next-word-requires-2
     first-shown-requires
+    next-word-requires-3
+    next-word-requires-4
+    mul-begin
+    sub-begin
+    part-begin-start
+    part-begin-end
     begin-requires
-    loop-holds
-    add-loop
-    add-loop-2
-    next-date-requires
-    next-date-requires-2
     earlier-requires
-    past-requires
-    past-requires-2
+    loop-holds
+    cast-loop
+    cast-t41
+    pass-requires
+    pass-requires-2
     date-shown-requires
+    next-word-requires-5
+    next-word-requires-6
+    mul-emit
+    sub-emit
+    part-emit-start
+    part-emit-end
     emit-requires
+    earlier-requires-2
     loop-less
     loop-again
     same-length

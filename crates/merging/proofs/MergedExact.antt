@@ -1,0 +1,116 @@
+-- The merge of two accepted lists builds the exact answer of its operation.
+use Prim.Native.Nat.{ℕ, _+_, _≤_, _<_, min, max}
+use native.Mathlib.Omega.{arith}
+use mathlib.Core.Path.{_≡_, refl, _∙_, ap}
+use mathlib.Core.Bool.{true}
+use mathlib.Core.List.{List, _++_, append-nil}
+use mathlib.Core.Logic.{_⊎_, inl, inr}
+use lib.ListN.{length, drop-of-length-le}
+use lib.Seq.{take-all, take-length}
+use Rattle.slices.specs.Bytes.{Bytes, Words}
+use Rattle.signals.specs.Moment.{M}
+use Rattle.signals.specs.Signal.{Table}
+use Rattle.signals.specs.Words.{mostWords, listFault, lastDate, signalOf, listOf}
+use Rattle.reading.specs.Reading.{NEVER, nextDate}
+use Rattle.operations.specs.Calls.{exactOfTwo}
+use Rattle.operations.proofs.NeverMet.{last-32}
+use Rattle.building.specs.Building.{Built, slotWith}
+use Rattle.building.specs.Slots.{builtAnswer}
+use Rattle.building.specs.declared.Made.{Made}
+use Rattle.building.specs.declared.SlotAnswer.{SlotAnswer}
+use Rattle.building.proofs.JudgedSlots.{built-answer}
+use Rattle.showing.specs.Showing.{merged}
+use Rattle.showing.specs.declared.Operation.{Operation}
+use Rattle.sources.specs.Sources.{listAt, slotIn, withSlot}
+use Rattle.sources.specs.declared.Memory.the-variants.{Left, Right}
+use Rattle.sources.specs.declared.Source.{Source}
+use Rattle.sources.proofs.Sourcing.{words-at}
+use Rattle.merging.specs.Merging.{State, dateAhead, begunIn, pastDate, Merges, done, turn, mayMerge, BuiltAt, MergedAt}
+use Rattle.merging.proofs.MergeTurn.{Merging, Dates, accepted-dates, dates-more, next-within, next-none, left-or-none}
+use Rattle.merging.proofs.MergeTurn.{merge-begin, merge-turn, merge-done}
+
+module _ (o : Operation) (table : Table) (a b : List ℕ) (ha : listFault a ≡ 0) (hb : listFault b ≡ 0) (wa : Words a) (wb : Words b)
+    (old : List ℕ) where
+  n : ℕ
+  n = max (lastDate a) (lastDate b)
+
+  small : n ≤ M
+  unfolding n
+  small = omega (arith, last-32 a (λ i u. wa i), last-32 b (λ i u. wb i))
+
+  da : Dates a n
+  unfolding n
+  da = dates-more a (lastDate a) (max (lastDate a) (lastDate b)) (accepted-dates a ha) (omega arith)
+
+  db : Dates b n
+  unfolding n
+  db = dates-more b (lastDate b) (max (lastDate a) (lastDate b)) (accepted-dates b hb) (omega arith)
+
+  -- no date is ahead once all words are passed, and only then
+  passed-all : (l : List ℕ) (i : ℕ) → Dates l n → NEVER ≤ nextDate l i → length l ≤ i
+  passed-all l i d h = go (left-or-none l i)
+    where
+      go : (i < length l) ⊎ (length l ≤ i) → length l ≤ i
+      go (inl u) = absurd (omega (arith, next-within l i n d u, small))
+      go (inr u) = u
+
+  some-left : (i j : ℕ) → i ≤ length a → j ≤ length b → min (nextDate a i) (nextDate b j) < NEVER → i + j < length a + length b
+  some-left i j p q h = go (left-or-none a i) (left-or-none b j)
+    where
+      go : (i < length a) ⊎ (length a ≤ i) → (j < length b) ⊎ (length b ≤ j) → i + j < length a + length b
+      go (inl u) v = omega arith
+      go (inr u) (inl v) = omega arith
+      go (inr u) (inr v) = absurd (omega (arith, next-none a i u, next-none b j v))
+
+  from-here : (slot : List ℕ) (made : Made) (s : State) (k : ℕ)
+      → Merging o table a b n old k (s .slot) (s .made) (s .bit) (s .first) (s .second) → Merges o table a b slot made s
+      → Built (listOf (merged o table (signalOf a) (signalOf b)) n) old slot made
+  unfolding dateAhead pastDate
+  from-here slot made s k m (done h e f) =
+      rw (← e, ← f)
+      (merge-done o table a b n old k (s .slot) (s .made) (s .bit) (s .first) (s .second) m
+      (omega (arith, passed-all a (s .first) da (omega arith), passed-all b (s .second) db (omega arith))))
+  from-here slot made s k m (turn h w) =
+      from-here slot made (pastDate o table a b s (dateAhead a b s)) (dateAhead a b s)
+      (merge-turn o table a b n old da db (omega (arith, small)) (s .first) (s .second) k (s .slot) (s .made) (s .bit) m
+      (some-left (s .first) (s .second) (m .left .within) (m .right .within) h) (dateAhead a b s) refl _ _ _ refl refl refl) w
+
+  pub merged-exact : (slot : List ℕ) (made : Made) → Merges o table a b slot made (begunIn o table a b old)
+      → Built (exactOfTwo (merged o table) a b) old slot made
+  unfolding exactOfTwo begunIn n
+  merged-exact slot made w = from-here slot made (begunIn o table a b old) 0 (merge-begin o table a b n old ha hb) w
+
+-- so the call on two accepted lists gives the exact answer
+module _ (o : Operation) (table : Table) (sheet left right work : List ℕ) (a b : Source) (at : ℕ) where
+  abbrev exact : List ℕ
+  exact = exactOfTwo (merged o table) (listAt sheet left right work a) (listAt sheet left right work b)
+
+  pub merged-at : (answer : SlotAnswer) (after : List ℕ) → MergedAt o table sheet left right work a b at answer after
+      → mayMerge a b at (length work) ≡ true → Bytes sheet → Words left → Words right → Words work
+      → listFault (listAt sheet left right work a) ≡ 0 → listFault (listAt sheet left right work b) ≡ 0
+      → (answer ≡ builtAnswer exact) × (after ≡ withSlot work at mostWords (slotWith exact (slotIn work at mostWords)))
+  merged-at answer after c may s l r w ha hb =
+      let z = c .built may in
+      let made = z .0 in
+      let built =
+      merged-exact o table (listAt sheet left right work a) (listAt sheet left right work b) ha hb
+      (words-at sheet left right work a s l r w) (words-at sheet left right work b s l r w) (slotIn work at mostWords) (z .1 .0) made
+      (z .1 .1) in (
+        z .2 ∙ built-answer exact (slotIn work at mostWords) (z .1 .0) made built,
+        z .1 .2 ∙ ap (λ (slot : List ℕ). withSlot work at mostWords slot) (built .slot-is),
+      )
+
+-- two whole slices, in a slot of their own
+pub merged-slices : (o : Operation) (table : Table) (sheet a b slot : List ℕ) (made : Made) (after : List ℕ)
+    → BuiltAt o table sheet a b slot (record { memory = Left; at = 0; count = length a }) (record { memory = Right; at = 0; count = length b }) 0
+    made after
+    → length slot ≡ mostWords → listFault a ≡ 0 → listFault b ≡ 0 → Words a → Words b
+    → Built (exactOfTwo (merged o table) a b) slot after made
+merged-slices o table sheet a b slot made after (end, w, e) long ha hb wa wb =
+    rw (e ∙ only, ← whole) (merged-exact o table a b ha hb wa wb (slotIn slot 0 mostWords) end made (rw (take-length a, take-length b) at w))
+  where
+    whole : slotIn slot 0 mostWords ≡ slot
+    whole = take-all mostWords slot (omega arith)
+
+    only : withSlot slot 0 mostWords end ≡ end
+    only = ap (λ (l : List ℕ). end ++ l) (drop-of-length-le slot {i = mostWords} (omega arith)) ∙ append-nil end
