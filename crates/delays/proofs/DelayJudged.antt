@@ -1,17 +1,25 @@
 -- A delay's faults in their order: list, 8, then those of the answer.
-use Prim.Native.Nat.{ℕ, _≤_, _<_}
-use native.Mathlib.Omega.{arith}
-use mathlib.Core.Path.{_≡_, refl, sym, _∙_, ap}
-use mathlib.Core.Bool.{Bool, true, false, cond}
+use Prim.Native.Nat.{ℕ, _+_, _≤_, _<_}
+use mathlib.Core.Path.{_≡_, refl, sym, _∙_}
+use mathlib.Core.Bool.{Bool, true, false, _&&_}
 use mathlib.Core.List.{List}
-use lib.Dec.{ltb, eqb}
-use borrow.Author.Tests.{lt-ltb, le-ltb, ltb-false}
+use lib.Dec.{leb}
+use lib.ListN.{length}
+use borrow.Author.Tests.{lt-ltb, le-ltb, lt-leb, le-leb, leb-true}
 use Rattle.signals.specs.Moment.{M}
 use Rattle.signals.specs.Signal.{Signal}
-use Rattle.signals.specs.Words.{listFault}
-use Rattle.operations.specs.Calls.{lengthFault, answerFault, exactOfDelay, faultOfDelay}
+use Rattle.signals.specs.Words.{mostWords, listFault}
 use Rattle.signals.specs.Answers.{firstOf}
-use Rattle.signals.proofs.FirstFault.{both-none, first-assoc, first-is, next-is}
+use Rattle.signals.proofs.Truth.{true-false, and-left, and-right}
+use Rattle.signals.proofs.FirstFault.{first-assoc, first-is, next-is}
+use Rattle.operations.specs.Calls.{lengthFault, answerFault, exactOfDelay, faultOfDelay}
+use Rattle.building.specs.Slots.{madeAnswer}
+use Rattle.building.specs.declared.Made.{Made}
+use Rattle.building.specs.declared.SlotAnswer.{SlotAnswer}
+use Rattle.building.specs.declared.SlotAnswer.the-variants.{NotBegun}
+use Rattle.sources.specs.Sources.{listAt, apartFrom}
+use Rattle.sources.specs.declared.Source.{Source}
+use Rattle.delays.specs.DelayAt.{DelayedIn, delayBegins, DelayedAt}
 
 pub fault-order : (operation : Signal → Signal) (d : ℕ) (l : List ℕ) (n : ℕ)
     → firstOf (firstOf (listFault l) (lengthFault d)) (answerFault (exactOfDelay operation d l) n) ≡ faultOfDelay operation d l n
@@ -30,16 +38,38 @@ pub neither : (f : ℕ) (l : List ℕ) (d : ℕ) → f ≡ listFault l → f ≡
 unfolding lengthFault
 neither f l d e z h = sym (next-is (listFault l) (lengthFault d) (sym e ∙ z) ∙ rw (le-ltb M d h))
 
-length-none : (d : ℕ) → lengthFault d ≡ 0 → d ≤ M
-unfolding lengthFault
-length-none d h = go (ltb M d) refl h
-  where
-    go : (t : Bool) → ltb M d ≡ t → _≡_ {A = ℕ} (cond t 8 0) 0 → d ≤ M
-    go true e z = absurd (omega arith)
-    go false e z = ltb-false M d e
+-- the tests that a delay in a slot of the work area makes before it begins
+module _ (d : ℕ) (f : Source) (at room : ℕ) where
+  pub too-long : M < d → false ≡ delayBegins d f at room
+  unfolding delayBegins
+  too-long h = rw (lt-leb d M h)
 
--- no fault: the list is accepted and the length is one
-pub judged-none : (f : ℕ) (l : List ℕ) (d : ℕ) → f ≡ firstOf (listFault l) (lengthFault d) → f ≡ 0 → (listFault l ≡ 0) × (d ≤ M)
-judged-none f l d e z =
-    let both = both-none (listFault l) (lengthFault d) (sym e ∙ z) in
-    (both .0, length-none d (both .1))
+  pub begins-all : delayBegins d f at room ≡ true → (d ≤ M) × (at + mostWords ≤ room) × (apartFrom f at mostWords ≡ true)
+  unfolding delayBegins
+  begins-all e =
+      let fits = and-right (leb d M) (leb (at + mostWords) room && apartFrom f at mostWords) e in (
+        leb-true d M (and-left (leb d M) (leb (at + mostWords) room && apartFrom f at mostWords) e),
+        leb-true (at + mostWords) room (and-left (leb (at + mostWords) room) (apartFrom f at mostWords) fits),
+        and-right (leb (at + mostWords) room) (apartFrom f at mostWords) fits,
+      )
+
+  module _ (h : d ≤ M) where
+    pub no-room : room < at + mostWords → false ≡ delayBegins d f at room
+    unfolding delayBegins
+    no-room r = rw (le-leb d M h, lt-leb (at + mostWords) room r)
+
+    pub apart-or-not : at + mostWords ≤ room → apartFrom f at mostWords ≡ delayBegins d f at room
+    unfolding delayBegins
+    apart-or-not r = rw (le-leb d M h, le-leb (at + mostWords) room r)
+
+-- the whole call, by whether it begins
+module _ (level : Bool) (d : ℕ) (sheet left right work : List ℕ) (f : Source) (at : ℕ) (begins : Bool)
+    (e : begins ≡ delayBegins d f at (length work))
+  where
+    pub at-rest : begins ≡ false → DelayedAt level d sheet left right work f at NotBegun work
+    at-rest n = record { refused = λ z. (refl, refl); built = λ z. true-false (sym z ∙ sym e ∙ n) }
+
+    pub at-work : begins ≡ true → (made : Made) (after : List ℕ) → DelayedIn level d (listAt sheet left right work f) work at made after
+        → (answer : SlotAnswer) → answer ≡ madeAnswer made → DelayedAt level d sheet left right work f at answer after
+    at-work y made after ran answer q =
+        record { refused = λ z. true-false (sym y ∙ e ∙ z); built = λ z. (made, ran, q) }

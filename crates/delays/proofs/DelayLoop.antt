@@ -5,7 +5,6 @@ use mathlib.Core.Path.{_≡_, refl, sym, _∙_, ap, subst}
 use mathlib.Core.Bool.{Bool, true, false, not}
 use mathlib.Core.List.{List}
 use lib.ListN.{length, drop, set}
-use lib.Seq.{set-set}
 use Rattle.signals.specs.Moment.{M, gap, instant}
 use Rattle.signals.specs.Signal.{Signal, num}
 use Rattle.signals.specs.Words.{signalOf, lastDate, listOf, listFault}
@@ -16,7 +15,7 @@ use Rattle.signals.proofs.Truth.{not-both}
 use Rattle.signals.proofs.Scan.{Held}
 use Rattle.signals.proofs.Operand.{At, Passed, at-pass, at-end, value-held}
 use Rattle.signals.proofs.Normal.{accepted-start, accepted-settled}
-use Rattle.reading.specs.Reading.{NEVER, stepPast}
+use Rattle.reading.specs.Reading.{NEVER, nextDate, stepPast}
 use Rattle.reading.specs.declared.Step.{Step}
 use Rattle.operations.specs.Calls.{exactOfDelay}
 use Rattle.building.specs.Building.{emitted, emittedIn, begun, Built}
@@ -24,7 +23,7 @@ use Rattle.timing.specs.Delay.{timerNext, firstTimer, onLevel, levelOf, delayed
 use Rattle.delays.specs.Upcoming.{upcomingDate}
 use Rattle.building.specs.declared.Made.{Made}
 use Rattle.timing.specs.declared.Timer.{Timer}
-use Rattle.building.proofs.Scanning.{Scanning, scanning-begin, scanning-emit, scanning-done, built-over}
+use Rattle.building.proofs.Scanning.{Scanning, scanning-begin, scanning-emit, scanning-done}
 use Rattle.timing.proofs.DelaySignals.{delayed-down}
 use Rattle.timing.proofs.DelayTiming.{Timed, timed-value, timed-still, timed-first}
 use Rattle.delays.proofs.DelayUpcoming.{Upcoming, upcoming-is}
@@ -40,7 +39,7 @@ pub record Delaying (level : Bool) (d : ℕ) (l old slot : List ℕ) (passed : �
   pub scanning : Scanning (delayOf level d (signalOf l)) (lastDate l + d) k old slot made
   pub at : At (signalOf l) l passed k
   pub timed : Timed (levelOf level (signalOf l)) (delayed level d (levelOf level (signalOf l))) (lastDate l + d) s (gap k)
-  pub date-is : date ≡ upcomingDate l passed s
+  pub date-is : date ≡ upcomingDate (nextDate l passed) s
 
 -- one level of a signal stands still with it; and back
 held-on : (level : Bool) (f : Signal) (k e : ℕ) (v a b : Bool) → Held f k e v a b
@@ -81,7 +80,7 @@ module _ (level : Bool) (d : ℕ) (l old : List ℕ) where
       → (value : Bool) → value ≡ onLevel level (heldValue l 1) → (s : Timer) → s ≡ firstTimer level d value
       → (shown : Bool) → shown ≡ onLevel level (s .level) → (slot : List ℕ) → slot ≡ set old 0 (num shown) → (made : Made)
       → made ≡ begun shown
-      → (date : ℕ) → date ≡ upcomingDate l 1 s → Delaying level d l old slot 1 s made date
+      → (date : ℕ) → date ≡ upcomingDate (nextDate l 1) s → Delaying level d l old slot 1 s made date
   unfolding delayOf
   delaying-begin accepted short early value ve s se shown he slot le made me date de =
       record {
@@ -175,7 +174,7 @@ module _ (level : Bool) (d : ℕ) (l old : List ℕ) where
           → (b : Bool) → b ≡ onLevel level (step .after) → (s2 : Timer) → s2 ≡ timerNext s1 d date false b
           → (x : Bool) → x ≡ onLevel level (s1 .level) → (y : Bool) → y ≡ onLevel level (s2 .level)
           → (slot' : List ℕ) → slot' ≡ emittedIn slot made date x y → (made' : Made) → made' ≡ emitted made date x y
-          → (date' : ℕ) → date' ≡ upcomingDate l (step .passed) s2
+          → (date' : ℕ) → date' ≡ upcomingDate (nextDate l (step .passed)) s2
           → (j : Delaying level d l old slot' (step .passed) s2 made' date') × (j .k ≡ date)
       delaying-turn h step e0 a e1 s1 e2 b e3 s2 e4 x e5 y e6 slot' e7 made' e8 date' e9 = (
         record {
@@ -229,15 +228,3 @@ module _ (level : Bool) (d : ℕ) (l old : List ℕ) where
               (delay-held level d (levelOf level (signalOf l)) (lastDate l) (lastDate l + d) (i .short) (i .early) (omega arith)
               (level-settled level l (i .accepted)) s (i .k) date (onLevel level (heldValue l passed)) a b inward (next .by-due)
               (i .timed)))
-
--- the slot where the loop begins stands for the old one: it holds the first word already
-pub first-word : (entry slot : List ℕ) (x : ℕ) → slot ≡ set entry 0 x → slot ≡ set slot 0 x
-first-word entry slot x e = e ∙ sym (ap (λ (l : List ℕ). set l 0 x) e ∙ set-set entry 0 x x)
-
-pub delaying-end : (level : Bool) (d : ℕ) (l entry start slot : List ℕ) (x passed : ℕ) (s : Timer) (made : Made) (date : ℕ)
-    → start ≡ set entry 0 x → Delaying level d l start slot passed s made date → NEVER ≤ date
-    → Built (exactOfDelay (delayOf level d) d l) entry slot made
-unfolding exactOfDelay
-delaying-end level d l entry start slot x passed s made date e i h =
-    built-over (delayOf level d (signalOf l)) (lastDate l + d) entry slot made x
-    (rw e at (delaying-done level d l start slot passed s made date i h))

@@ -16,23 +16,42 @@ use Rattle.signals.proofs.Truth.{not-both}
 use Rattle.signals.proofs.Operand.{At, next-later, words-left}
 use Rattle.signals.proofs.Normal.{last-le}
 use Rattle.reading.specs.Reading.{NEVER, nextDate}
-use Rattle.delays.specs.Upcoming.{upcomingDate}
+use Rattle.delays.specs.Upcoming.{upcomingDate, laterDate}
+use Rattle.delays.specs.Turns.{shownAt}
+use Rattle.delays.specs.declared.Shown.{Shown}
+use Rattle.timing.specs.Delay.{timerNext, onLevel}
 use Rattle.timing.specs.declared.Timer.{Timer}
 use Rattle.timing.proofs.DelayTiming.{momentOf, Timed, timed-ahead}
 
 -- the tests that the code makes
-module _ (l : List ℕ) (p : ℕ) (s : Timer) where
-  pub upcoming-due : s .waiting ≡ true → s .due .0 < nextDate l p → upcomingDate l p s ≡ s .due .0
+module _ (next : ℕ) (s : Timer) where
+  pub upcoming-due : s .waiting ≡ true → s .due .0 < next → upcomingDate next s ≡ s .due .0
   unfolding upcomingDate
-  upcoming-due w h = rw (w, lt-ltb (s .due .0) (nextDate l p) h)
+  upcoming-due w h = rw (w, lt-ltb (s .due .0) next h)
 
-  pub upcoming-word : s .waiting ≡ true → nextDate l p ≤ s .due .0 → upcomingDate l p s ≡ nextDate l p
+  pub upcoming-word : s .waiting ≡ true → next ≤ s .due .0 → upcomingDate next s ≡ next
   unfolding upcomingDate
-  upcoming-word w h = rw (w, le-ltb (s .due .0) (nextDate l p) h)
+  upcoming-word w h = rw (w, le-ltb (s .due .0) next h)
 
-  pub upcoming-none : s .waiting ≡ false → upcomingDate l p s ≡ nextDate l p
+  pub upcoming-none : s .waiting ≡ false → upcomingDate next s ≡ next
   unfolding upcomingDate
   upcoming-none w = rw w
+
+-- what a delay shows, from the values that the code works out
+pub shows : (level : Bool) (d : ℕ) (s : Timer) (date : ℕ) (at after a b : Bool) (s1 s2 : Timer) (x y : Bool)
+    → a ≡ onLevel level at → s1 ≡ timerNext s d date true a → b ≡ onLevel level after → s2 ≡ timerNext s1 d date false b
+    → x ≡ onLevel level (s1 .level) → y ≡ onLevel level (s2 .level)
+    → _≡_ {A = Shown} (record { timer = s2; at = x; after = y }) (shownAt level d s date at after)
+unfolding shownAt
+shows level d s date at after a b s1 s2 x y e0 e1 e2 e3 e4 e5 = rw (e5, e4, e3, e2, e1, e0)
+
+pub later-date : (last date : ℕ) → last < date → date ≡ laterDate last date
+unfolding laterDate
+later-date last date h = rw (lt-ltb last date h)
+
+pub not-later : (last date : ℕ) → date ≤ last → NEVER ≡ laterDate last date
+unfolding laterDate
+not-later last date h = rw (le-ltb last date h)
 
 -- the next word's date is at most the last
 last-drop : (x y j : ℕ) (ws : List ℕ) → j < length ws → lastFrom x ws ≡ lastFrom y (drop j ws)
@@ -104,16 +123,17 @@ module _ (f g E : Signal) (l : List ℕ) (p k n : ℕ) (s : Timer) (a : At f l p
       go true q = omega arith
       go false q = omega arith
 
-  pub upcoming-is : Upcoming l p s k n (upcomingDate l p s)
+  pub upcoming-is : Upcoming l p s k n (upcomingDate (nextDate l p) s)
   upcoming-is = go (s .waiting) refl (ltb (s .due .0) (nextDate l p)) refl
     where
       w : NextWord l p k n (nextDate l p)
       w = next-word f l p k n a le early far small
 
-      go : (x : Bool) → s .waiting ≡ x → (y : Bool) → ltb (s .due .0) (nextDate l p) ≡ y → Upcoming l p s k n (upcomingDate l p s)
+      go : (x : Bool) → s .waiting ≡ x → (y : Bool) → ltb (s .due .0) (nextDate l p) ≡ y
+          → Upcoming l p s k n (upcomingDate (nextDate l p) s)
       go true q true r =
           let lt = ltb-true (s .due .0) (nextDate l p) r in
-          let e = upcoming-due l p s q lt in
+          let e = upcoming-due (nextDate l p) s q lt in
           let bound = timed-ahead g E n s (gap k) h q .1 in
           record {
             later = omega (arith, due-later q);
@@ -124,7 +144,7 @@ module _ (f g E : Signal) (l : List ℕ) (p k n : ℕ) (s : Timer) (a : At f l p
           }
       go true q false r =
           let ge = ltb-false (s .due .0) (nextDate l p) r in
-          let e = upcoming-word l p s q ge in
+          let e = upcoming-word (nextDate l p) s q ge in
           let bound = timed-ahead g E n s (gap k) h q .1 in
           record {
             later = omega (arith, w .later);
@@ -134,7 +154,7 @@ module _ (f g E : Signal) (l : List ℕ) (p k n : ℕ) (s : Timer) (a : At f l p
             none = λ i. absurd (omega arith);
           }
       go false q y r =
-          let e = upcoming-none l p s q in
+          let e = upcoming-none (nextDate l p) s q in
           record {
             later = omega (arith, w .later);
             by-word = λ i. omega (arith, w .by-word i);

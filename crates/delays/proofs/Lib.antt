@@ -2,3 +2,6 @@
 pub mod DelayUpcoming
 pub mod DelayLoop
 pub mod DelayJudged
+pub mod DelayedExact
+pub mod SlotParts
+pub mod DelayRun

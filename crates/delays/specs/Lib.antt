@@ -1,2 +1,4 @@
--- A definition that mirrors the loop of the delays.
+-- Definitions that mirror the loop of the delays.
 pub mod Upcoming
+pub mod Turns
+pub mod DelayAt

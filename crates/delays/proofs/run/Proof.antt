@@ -1,25 +1,71 @@
--- `delays::run` builds the delay of an accepted list: its loop keeps `Delaying`, and the date looked at rises with each turn.
-use borrow.Author.Needs.{needs}
-use Prim.Native.Nat.{_≤_, _-_}
+-- `delays::run` builds the delay date by date: its loop keeps `Running`, and the date looked at rises with each turn.
+use Prim.Native.Nat.{_-_}
 use native.Mathlib.Omega.{arith}
-use mathlib.Core.Path.{_≡_, refl, sym, _∙_, ap}
-use lib.ListN.{length}
+use mathlib.Core.Path.{_∙_}
+use Rattle.signals.specs.Words.{mostWords, valueAfter}
 use Rattle.reading.specs.Reading.{NEVER}
-use Rattle.timing.specs.Delay.{onLevel}
-use Rattle.operations.proofs.NeverMet.{last-32}
-use Rattle.delays.proofs.DelayLoop.{Delaying, delaying-begin, delaying-turn, delaying-end, first-word, next}
+use Rattle.sources.specs.Sources.{listAt, slotIn}
+use Rattle.sources.proofs.Sourcing.{words-at}
+use Rattle.delays.specs.Turns.{state}
+use Rattle.delays.proofs.DelayRun.{Placed, Running, Started, running-length, running-turn, started, later-never}
+use borrow.Author.Needs.{needs}
 use Rattle.delays.proofs.run.Statement.{statement}
 use Rattle.delays.proofs.run.Tie as tie
 
 abbrev Inv-loop : tie.InvT-loop
-Inv-loop level d words slot₀ passed₀ timer₀ made₀ date₀ slot passed timer made date =
-    (length slot ≡ length slot₀) × Delaying level (d .0) words slot₀ slot passed timer made (date .0)
+Inv-loop level d sheet left right work₀ f at first held₀ passed₀ word₀ timer₀ made₀ date₀ work held passed word timer made date =
+    Placed sheet left right work₀ f at
+    × Running level (d .0) (listAt sheet left right work₀ f) work₀ at (state passed₀ timer₀ made₀ (date₀ .0) (slotIn work₀ at mostWords))
+    work held passed word timer made (date .0)
 
 abbrev μ-loop : tie.MeasureT-loop
-μ-loop level d words slot₀ passed₀ timer₀ made₀ date₀ slot passed timer made date = NEVER - date .0
+μ-loop level d sheet left right work₀ f at first held₀ passed₀ word₀ timer₀ made₀ date₀ work held passed word timer made date =
+    NEVER - date .0
 
-held-value-requires : tie.Need-held-value-requires Inv-loop μ-loop
-held-value-requires c κs = search needs
+-- places before the loop: the start, the slices known, the first words read
+abbrev start : tie.After-slice-known Inv-loop μ-loop → tie.Start Inv-loop μ-loop
+start c = c .before .before .before .before
+
+abbrev words : tie.After-later Inv-loop μ-loop → tie.After-next-word2 Inv-loop μ-loop
+words c = c .before .before .before .before .before .before .before .before .before
+
+abbrev known : tie.After-later Inv-loop μ-loop → tie.After-slice-known Inv-loop μ-loop
+known c = words c .before .before .before .before
+
+placed : (c : tie.After-slice-known Inv-loop μ-loop)
+    → Placed (start c .args .sheet .now) (start c .args .left .now) (start c .args .right .now) (start c .args .work .now)
+    (start c .args .f) (start c .args .at)
+placed c =
+    record {
+      fits = start c .pre .0;
+      apart = start c .pre .1;
+      words =
+          words-at (start c .args .sheet .now) (start c .args .left .now) (start c .args .right .now) (start c .args .work .now)
+          (start c .args .f) (λ i. c .before .before .before .shared-slice-known .given i .fits)
+          (λ i. c .before .before .shared-slice-known2 .given i .fits) (λ i. c .before .shared-slice-known3 .given i .fits)
+          (λ i. c .slice-known .given i .fits);
+      few = omega (arith, start c .good .1 .1 .1 .1 .1 .1 .0);
+    }
+
+begins : (c : tie.After-later Inv-loop μ-loop)
+    → Started (start (known c) .args .level) (start (known c) .args .d .0) (start (known c) .args .sheet .now)
+    (start (known c) .args .left .now) (start (known c) .args .right .now) (start (known c) .args .work .now) (start (known c) .args .f)
+    (start (known c) .args .at) (c .before .before .before .before .begin-at .last .0)
+    (valueAfter (words c .before .before .next-word .result)) (words c .next-word2 .result) (c .before .before .before .before .before .before .before .first .result)
+    (c .before .before .before .before .begin-at .result) (c .later .result .0)
+unfolding valueAfter
+begins c =
+    started _ _ _ _ _ _ _ _ (placed (known c)) _ (words c .before .before .next-word .ensures) _ (words c .next-word2 .ensures) _
+    (c .before .before .before .before .before .before .before .before .on-level .ensures) _
+    (c .before .before .before .before .before .before .before .first .ensures) _
+    (c .before .before .before .before .before .on-level2 .ensures) _ (c .before .before .before .before .begin-at .ensures .0) _
+    (c .before .before .before .before .begin-at .ensures .1) _ (c .before .upcoming .ensures) _ (c .later .ensures)
+
+next-word-requires : tie.Need-next-word-requires Inv-loop μ-loop
+next-word-requires c κs = search needs
+
+next-word-requires-2 : tie.Need-next-word-requires-2 Inv-loop μ-loop
+next-word-requires-2 c κs = search needs
 
 on-level-requires : tie.Need-on-level-requires Inv-loop μ-loop
 on-level-requires c κs = search needs
@@ -30,97 +76,66 @@ first-requires c κs = search needs
 on-level-requires-2 : tie.Need-on-level-requires-2 Inv-loop μ-loop
 on-level-requires-2 c κs = search needs
 
-begin-requires : tie.Need-begin-requires Inv-loop μ-loop
-begin-requires c κs = search needs
+begin-at-requires : tie.Need-begin-at-requires Inv-loop μ-loop
+begin-at-requires c κs = search needs
 
 upcoming-requires : tie.Need-upcoming-requires Inv-loop μ-loop
 upcoming-requires c κs = search needs
 
+later-requires : tie.Need-later-requires Inv-loop μ-loop
+later-requires c κs = search needs
+
 loop-holds : tie.Need-loop-holds Inv-loop μ-loop
-loop-holds c = (
-  refl,
-  delaying-begin _ _ _ _ (c .before .before .before .before .before .before .before .before .before .before .before .pre .0)
-      (c .before .before .before .before .before .before .before .before .before .before .before .pre .1)
-      (last-32 _
-      (λ i u. c .before .before .before .before .before .before .before .before .before .before .shared-slice-known .given i .fits)) _
-      (c .before .before .before .before .before .before .before .on-level .ensures ∙
-      ap (onLevel (c .before .before .before .before .before .before .before .before .before .before .before .args .level))
-      (c .before .before .before .before .before .before .before .before .held-value .ensures)) _
-      (c .before .before .before .before .before .before .first .ensures) _ (c .before .before .before .before .on-level2 .ensures) _
-      (first-word (c .before .before .before .before .before .before .before .before .before .before .before .args .slot .now) _ _
-      (c .before .before .before .begin .ensures .1)) _ (c .before .before .before .begin .ensures .0) _ (c .upcoming .ensures),
-)
+unfolding valueAfter
+loop-holds c = (begins c .placed, begins c .running)
 
-past-requires : tie.Need-past-requires Inv-loop μ-loop
-past-requires c κs = search needs
+pass-requires : tie.Need-pass-requires Inv-loop μ-loop
+pass-requires c κs = search needs
 
-on-level-requires-3 : tie.Need-on-level-requires-3 Inv-loop μ-loop
-on-level-requires-3 c κs = search needs
+shown-at-requires : tie.Need-shown-at-requires Inv-loop μ-loop
+shown-at-requires c κs = search needs
 
-follow-requires : tie.Need-follow-requires Inv-loop μ-loop
-follow-requires c κs = search needs
+next-word-requires-3 : tie.Need-next-word-requires-3 Inv-loop μ-loop
+next-word-requires-3 c κs = search needs
 
-on-level-requires-4 : tie.Need-on-level-requires-4 Inv-loop μ-loop
-on-level-requires-4 c κs = search needs
-
-follow-requires-2 : tie.Need-follow-requires-2 Inv-loop μ-loop
-follow-requires-2 c κs = search needs
-
-on-level-requires-5 : tie.Need-on-level-requires-5 Inv-loop μ-loop
-on-level-requires-5 c κs = search needs
-
-on-level-requires-6 : tie.Need-on-level-requires-6 Inv-loop μ-loop
-on-level-requires-6 c κs = search needs
-
-emit-requires : tie.Need-emit-requires Inv-loop μ-loop
-emit-requires c κs = search needs
+emit-at-requires : tie.Need-emit-at-requires Inv-loop μ-loop
+emit-at-requires c κs =
+    let at = c .before .before .before .before .before .before .before .loop in
+    omega (arith, at .inv .0 .fits, running-length _ _ _ _ _ _ _ _ (at .inv .0) _ _ _ _ _ _ _ _ (at .inv .1))
 
 upcoming-requires-2 : tie.Need-upcoming-requires-2 Inv-loop μ-loop
 upcoming-requires-2 c κs = search needs
 
+later-requires-2 : tie.Need-later-requires-2 Inv-loop μ-loop
+later-requires-2 c κs = search needs
+
 loop-less : tie.Need-loop-less Inv-loop μ-loop
 loop-less c =
-    let turn =
-    delaying-turn _ _ _ _ _ _ _ _ _
-    (c .before .before .before .before .before .before .before .before .before .before .before .before .before .before .loop .inv .1)
-    (c .before .before .before .before .before .before .before .before .before .before .before .before .if1 .taken) _
-    (c .before .before .before .before .before .before .before .before .before .before .before .past .ensures) _
-    (c .before .before .before .before .before .before .before .before .before .before .on-level3 .ensures) _
-    (c .before .before .before .before .before .before .before .before .before .follow .ensures) _
-    (c .before .before .before .before .before .before .before .before .on-level4 .ensures) _
-    (c .before .before .before .before .before .before .before .follow2 .ensures) _
-    (c .before .before .before .before .before .on-level5 .ensures) _ (c .before .before .before .before .on-level6 .ensures) _
-    (c .before .before .before .emit .ensures .1) _ (c .before .before .before .emit .ensures .0) _ (c .upcoming2 .ensures) in
-    omega (
-      arith,
-      next _ _ _ _ _ _ _ _ _ (turn .0) .later,
-      turn .1,
-      c .before .before .before .before .before .before .before .before .before .before .before .before .if1 .taken,
-    )
+    let test = c .before .before .before .before .before .before .before .before .before .before .before in
+    rw (c .later2 .ensures) (later-never _ _ (test .if1 .taken))
 
 loop-again : tie.Need-loop-again Inv-loop μ-loop
-loop-again c = (
-  c .before .before .before .emit .kept .0 ∙
-      c .before .before .before .before .before .before .before .before .before .before .before .before .before .before .loop .inv .0,
-  (delaying-turn _ _ _ _ _ _ _ _ _
-      (c .before .before .before .before .before .before .before .before .before .before .before .before .before .before .loop .inv .1)
-      (c .before .before .before .before .before .before .before .before .before .before .before .before .if1 .taken) _
-      (c .before .before .before .before .before .before .before .before .before .before .before .past .ensures) _
-      (c .before .before .before .before .before .before .before .before .before .before .on-level3 .ensures) _
-      (c .before .before .before .before .before .before .before .before .before .follow .ensures) _
-      (c .before .before .before .before .before .before .before .before .on-level4 .ensures) _
-      (c .before .before .before .before .before .before .before .follow2 .ensures) _
-      (c .before .before .before .before .before .on-level5 .ensures) _ (c .before .before .before .before .on-level6 .ensures) _
-      (c .before .before .before .emit .ensures .1) _ (c .before .before .before .emit .ensures .0) _ (c .upcoming2 .ensures)) .0,
-)
+loop-again c =
+    let stored = c .before .before .before .before .before in
+    let test = stored .before .before .before .before .before .before in
+    let at = test .before .before .loop in (
+      at .inv .0,
+      running-turn _ _ _ _ _ _ _ _ (at .inv .0) _ _ _ _ _ _ _ _ (at .inv .1) (test .if1 .taken) _
+          (stored .before .before .before .before .before .pass .ensures) _ (stored .before .before .before .before .shown-at .ensures) _
+          (stored .before .before .next-word3 .ensures) _ (stored .emit-at .ensures .0) _ (stored .emit-at .ensures .1) _
+          (c .before .upcoming2 .ensures) _ (c .later2 .ensures),
+    )
 
 same-length : tie.Need-same-length Inv-loop μ-loop
-same-length c = c .before .before .loop .inv .0 ∙ c .before .before .before .before .before .before .begin .kept .0
+same-length c =
+    let at = c .before .before .loop in
+    running-length _ _ _ _ _ _ _ _ (at .inv .0) _ _ _ _ _ _ _ _ (at .inv .1)
+    ∙ c .before .before .before .before .before .before .before .begin-at .kept .0
 
 returns : tie.Need-returns Inv-loop μ-loop
+unfolding valueAfter
 returns c =
-    delaying-end _ _ _ _ _ _ _ _ _ _ _ (c .before .before .before .before .before .before .begin .ensures .1)
-    (c .before .before .loop .inv .1) (c .if1 .left)
+    begins (c .before .before .before) .ends _ _ _ _ _ _ _ (c .before .before .loop .inv .1) (c .if1 .left)
 
 pub run-spec : {M : Type 1} → statement M
 run-spec =
@@ -128,22 +143,21 @@ run-spec =
     (tie.spec
     Inv-loop
     μ-loop
-    held-value-requires
+    next-word-requires
+    next-word-requires-2
     on-level-requires
     first-requires
     on-level-requires-2
-    begin-requires
+    begin-at-requires
     upcoming-requires
+    later-requires
     loop-holds
-    past-requires
-    on-level-requires-3
-    follow-requires
-    on-level-requires-4
-    follow-requires-2
-    on-level-requires-5
-    on-level-requires-6
-    emit-requires
+    pass-requires
+    shown-at-requires
+    next-word-requires-3
+    emit-at-requires
     upcoming-requires-2
+    later-requires-2
     loop-less
     loop-again
     same-length

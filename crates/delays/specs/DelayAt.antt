@@ -1,0 +1,34 @@
+-- Mirrored: A delay in a slot of the work area, its operand read where it stands.
+use Prim.Native.Nat.{ℕ, _+_}
+use mathlib.Core.Path.{_≡_}
+use mathlib.Core.Bool.{Bool, true, false, _&&_}
+use mathlib.Core.List.{List}
+use lib.Dec.{leb}
+use lib.ListN.{length}
+use Rattle.signals.specs.Moment.{M}
+use Rattle.signals.specs.Words.{mostWords}
+use Rattle.sources.specs.Sources.{listAt, apartFrom, slotIn, withSlot}
+use Rattle.sources.specs.declared.Source.{Source}
+use Rattle.building.specs.Slots.{madeAnswer}
+use Rattle.building.specs.declared.Made.{Made}
+use Rattle.building.specs.declared.SlotAnswer.{SlotAnswer}
+use Rattle.building.specs.declared.SlotAnswer.the-variants.{NotBegun}
+use Rattle.delays.specs.Turns.{State, firstState, Delays}
+
+-- the delay of a list, built whole in the slot
+pub record DelayedIn (level : Bool) (d : ℕ) (l work : List ℕ) (at : ℕ) (made : Made) (after : List ℕ) : Type 0 where
+  pub last : State
+  pub runs : Delays level d l (firstState level d l (slotIn work at mostWords)) last
+  pub made-is : made ≡ last .made
+  pub work-is : after ≡ withSlot work at mostWords (last .slot)
+
+-- it begins where the length is at most M and the slot is in the work area, apart from the operand
+unfoldable pub delayBegins : ℕ → Source → ℕ → ℕ → Bool
+delayBegins d f at room = leb d M && (leb (at + mostWords) room && apartFrom f at mostWords)
+
+-- Its answer and the work area at exit: as it was where it does not begin, else with the answer in the slot.
+pub record DelayedAt (level : Bool) (d : ℕ) (sheet left right work : List ℕ) (f : Source) (at : ℕ) (answer : SlotAnswer) (after : List ℕ)
+    : Type 0 where
+  pub refused : delayBegins d f at (length work) ≡ false → (answer ≡ NotBegun) × (after ≡ work)
+  pub built : delayBegins d f at (length work) ≡ true
+      → (made : Made) × DelayedIn level d (listAt sheet left right work f) work at made after × (answer ≡ madeAnswer made)
