@@ -1,4 +1,5 @@
--- The operators of a code word, and the answers of its operations as document 01's.
+-- The merge or delay that a part asks for, numbered as its part, and its exact answer.
 pub mod Operators
 pub mod Numbering
 pub mod AppliedExact
+mod PartsMade

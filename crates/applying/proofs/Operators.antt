@@ -1,4 +1,4 @@
--- Which merge or delay a code word of a kind asks for, and its answer as that of the operator which the code word stands for.
+-- Which merge or delay a code word of a kind asks for: its exact answer is that of the operator which the code word stands for.
 use Prim.Native.Nat.{ℕ, _/_, _%_, _≤_, _<_}
 use native.Mathlib.Omega.{arith}
 use mathlib.Core.Path.{_≡_, refl, sym, _∙_, ap}
@@ -7,14 +7,10 @@ use mathlib.Core.List.{List, [], _∷_}
 use lib.Dec.{eqb, ltb}
 use borrow.Author.Tests.{eq-eqb, ne-eqb, lt-ltb, le-ltb, eqb-true, eqb-false}
 use Rattle.signals.specs.Answers.{firstOf}
-use Rattle.signals.specs.Signal.{Table, NOT, rising, falling}
+use Rattle.signals.specs.Signal.{NOT, rising, falling}
 use Rattle.signals.specs.Words.{listFault, pairFault}
-use Rattle.signals.specs.declared.Written.{Written}
 use Rattle.signals.proofs.Truth.{not-both}
 use Rattle.operations.specs.Calls.{lengthFault, exactOfTwo, exactOfDelay}
-use Rattle.building.specs.Slots.{SlotOfTwo, SlotOfDelay}
-use Rattle.building.specs.declared.SlotAnswer.{SlotAnswer}
-use Rattle.showing.specs.declared.Operation.{Operation}
 use Rattle.showing.specs.declared.Operation.the-variants.{Connective, Rising, Falling, SetWins, ResetWins}
 use Rattle.showing.specs.Showing.{merged}
 use Rattle.timing.specs.Delay.{delayOf}
@@ -22,9 +18,10 @@ use Rattle.timing.proofs.DelaySignals.{ton-delay, tof-delay}
 use Rattle.merging.proofs.OneOperand.{none, pair-of-one, exact-of-one, inverted}
 use Rattle.grammar.specs.Kinds as kinds
 use Rattle.grammar.specs.Tree.{Unary, invert, rise, fall, ton, tof}
-use Rattle.applying.specs.PartCalls.{unaryOf, binaryOf, unaryIn, binaryIn, unaryFault, unaryExact, binaryExact, partAnswer}
-use Rattle.applying.specs.PartCalls.{judgedFor, exactFor, AND-table, OR-table, PartInSlot}
-use Rattle.applying.specs.Merges.{operationOf, tableFor, NumberedInSlot, MergedInSlot}
+use Rattle.applying.specs.PartCalls.{unaryOf, binaryOf, unaryIn, binaryIn, unaryFault, unaryExact, binaryExact}
+use Rattle.applying.specs.PartCalls.{judgedFor, exactFor, AND-table, OR-table}
+use Rattle.applying.specs.Merges.{operationOf, tableFor}
+use Rattle.applying.specs.Applied.{edged}
 
 module _ (k : ℕ) where
   pub is-rising : k ≡ kinds.RISING → Rising ≡ operationOf k
@@ -60,7 +57,7 @@ module _ (k : ℕ) where
   is-or a b = rw (ne-eqb k kinds.NOT a, ne-eqb k kinds.AND b)
 
 -- a merge of one operand is one with the list that is always down
-abbrev OfOne : ℕ → Type 0
+abbrev pub OfOne : ℕ → Type 0
 OfOne k =
     (n : ℕ) (a : List ℕ)
     → (pairFault a none ≡ unaryFault (unaryOf k n) a)
@@ -78,11 +75,7 @@ of-falling : OfOne kinds.FALLING
 unfolding unaryOf operationOf
 of-falling n a = (pair-of-one a, exact-of-one falling (merged Falling (tableFor kinds.FALLING)) (λ f g t. refl) a)
 
--- NOT or an edge
-abbrev edged : ℕ → Bool
-edged k = (eqb k kinds.NOT || eqb k kinds.RISING) || eqb k kinds.FALLING
-
-of-one : (k : ℕ) → edged k ≡ true → OfOne k
+pub of-one : (k : ℕ) → edged k ≡ true → OfOne k
 of-one k t = go (eqb k kinds.NOT) (eqb k kinds.RISING) (eqb k kinds.FALLING) refl refl refl t
   where
     go : (x y z : Bool) → eqb k kinds.NOT ≡ x → eqb k kinds.RISING ≡ y → eqb k kinds.FALLING ≡ z → ((x || y) || z) ≡ true → OfOne k
@@ -90,7 +83,7 @@ of-one k t = go (eqb k kinds.NOT) (eqb k kinds.RISING) (eqb k kinds.FALLING) ref
     go false true z e f g h = rw (eqb-true k kinds.RISING f) of-rising
     go false false z e f g h = rw (eqb-true k kinds.FALLING (g ∙ h)) of-falling
 
-of-two : (k : ℕ) → kinds.AND ≤ k → (a b : List ℕ) → exactOfTwo (merged (operationOf k) (tableFor k)) a b ≡ binaryExact (binaryOf k) a b
+pub of-two : (k : ℕ) → kinds.AND ≤ k → (a b : List ℕ) → exactOfTwo (merged (operationOf k) (tableFor k)) a b ≡ binaryExact (binaryOf k) a b
 unfolding binaryOf operationOf tableFor
 of-two k l a b = go (eqb k kinds.AND) (eqb k kinds.OR) (eqb k kinds.SR) refl refl refl
   where
@@ -106,7 +99,7 @@ of-two k l a b = go (eqb k kinds.AND) (eqb k kinds.OR) (eqb k kinds.SR) refl ref
         rw (sym w, e, f, g)
 
 -- the delays are the other operations of one operand
-of-delay : (k n : ℕ) → edged k ≡ false → unaryOf k n ≡ cond (eqb k kinds.TON) (ton n) (tof n)
+pub of-delay : (k n : ℕ) → edged k ≡ false → unaryOf k n ≡ cond (eqb k kinds.TON) (ton n) (tof n)
 unfolding unaryOf
 of-delay k n t = go (eqb k kinds.NOT) (eqb k kinds.RISING) (eqb k kinds.FALLING) t
   where
@@ -117,64 +110,27 @@ of-delay k n t = go (eqb k kinds.NOT) (eqb k kinds.RISING) (eqb k kinds.FALLING)
     go false false true h = not-both {b = true} refl h
     go false false false h = refl
 
-delay-judged : (r : Bool) (n : ℕ) (a : List ℕ) → firstOf (listFault a) (lengthFault n) ≡ unaryFault (cond r (ton n) (tof n)) a
+pub delay-judged : (r : Bool) (n : ℕ) (a : List ℕ) → firstOf (listFault a) (lengthFault n) ≡ unaryFault (cond r (ton n) (tof n)) a
 delay-judged true n a = refl
 delay-judged false n a = refl
 
-delay-exact : (r : Bool) (n : ℕ) (a : List ℕ) → exactOfDelay (delayOf r n) n a ≡ unaryExact (cond r (ton n) (tof n)) a
+pub delay-exact : (r : Bool) (n : ℕ) (a : List ℕ) → exactOfDelay (delayOf r n) n a ≡ unaryExact (cond r (ton n) (tof n)) a
 delay-exact true n a = rw (ton-delay n)
 delay-exact false n a = rw (tof-delay n)
 
--- the answer of a call, its fault and its exact answer under other names
-renamed : (f g : ℕ) (l m : List ℕ) (slot : List ℕ) (answer : Written) (after : List ℕ) → f ≡ g → l ≡ m
-    → NumberedInSlot f l slot answer after → NumberedInSlot g m slot answer after
-renamed f g l m slot answer after e i h = rw (e, i) at h
-
 module _ (w : ℕ) (a b : List ℕ) where
-  judged-one : ltb (w % 16) kinds.AND ≡ true → unaryFault (unaryIn w) a ≡ judgedFor w a b
+  pub judged-one : ltb (w % 16) kinds.AND ≡ true → unaryFault (unaryIn w) a ≡ judgedFor w a b
   unfolding judgedFor
   judged-one e = rw e
 
-  exact-one : ltb (w % 16) kinds.AND ≡ true → unaryExact (unaryIn w) a ≡ exactFor w a b
+  pub exact-one : ltb (w % 16) kinds.AND ≡ true → unaryExact (unaryIn w) a ≡ exactFor w a b
   unfolding exactFor
   exact-one e = rw e
 
-  judged-two : ltb (w % 16) kinds.AND ≡ false → pairFault a b ≡ judgedFor w a b
+  pub judged-two : ltb (w % 16) kinds.AND ≡ false → pairFault a b ≡ judgedFor w a b
   unfolding judgedFor
   judged-two e = rw e
 
-  exact-two : ltb (w % 16) kinds.AND ≡ false → binaryExact (binaryIn w) a b ≡ exactFor w a b
+  pub exact-two : ltb (w % 16) kinds.AND ≡ false → binaryExact (binaryIn w) a b ≡ exactFor w a b
   unfolding exactFor
   exact-two e = rw e
-
--- what the merge gives, numbered
-pub merge-numbered : (k : ℕ) (o : Operation) (table : Table) (a b slot : List ℕ) (given : SlotAnswer) (answer : Written) (after : List ℕ)
-    → o ≡ operationOf k → table ≡ tableFor k → SlotOfTwo (merged o table) a b slot given after → answer ≡ partAnswer given
-    → MergedInSlot k a b slot answer after
-merge-numbered k o table a b slot given answer after i j h e = rw (sym i, sym j) (e ∙ ap partAnswer (h .0), h .1)
-
--- the call that the code word asks for
-module _ (w : ℕ) (a b slot : List ℕ) (answer : Written) (after : List ℕ) where
-  pub asked-delay : (r : Bool) (given : SlotAnswer) → w % 16 < kinds.AND → edged (w % 16) ≡ false → r ≡ eqb (w % 16) kinds.TON
-      → SlotOfDelay (delayOf r (w / 16 % 4294967296)) (w / 16 % 4294967296) a slot given after
-      → answer ≡ partAnswer given → PartInSlot w a b slot answer after
-  asked-delay r given l t q h e =
-      let n = w / 16 % 4294967296 in
-      let i = lt-ltb (w % 16) kinds.AND l in
-      let same : cond r (ton n) (tof n) ≡ unaryIn w = ap (λ s. cond s (ton n) (tof n)) q ∙ sym (of-delay (w % 16) n t) in
-      renamed _ _ _ _ slot answer after
-      (delay-judged r n a ∙ ap (λ o. unaryFault o a) same ∙ judged-one w a b i)
-      (delay-exact r n a ∙ ap (λ o. unaryExact o a) same ∙ exact-one w a b i)
-      (e ∙ ap partAnswer (h .0), h .1)
-
-  pub asked-one : w % 16 < kinds.AND → edged (w % 16) ≡ true → MergedInSlot (w % 16) a none slot answer after
-      → PartInSlot w a b slot answer after
-  asked-one l t h =
-      let o = of-one (w % 16) t (w / 16 % 4294967296) a in
-      let i = lt-ltb (w % 16) kinds.AND l in
-      renamed _ _ _ _ slot answer after (o .0 ∙ judged-one w a b i) (o .1 ∙ exact-one w a b i) h
-
-  pub asked-two : kinds.AND ≤ w % 16 → MergedInSlot (w % 16) a b slot answer after → PartInSlot w a b slot answer after
-  asked-two l h =
-      let i = le-ltb (w % 16) kinds.AND l in
-      renamed _ _ _ _ slot answer after (judged-two w a b i) (of-two (w % 16) l a b ∙ exact-two w a b i) h

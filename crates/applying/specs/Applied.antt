@@ -1,32 +1,87 @@
--- Mirrored: stub
-use Prim.Native.Nat.{ℕ, _+_, _≤_}
+-- Mirrored: What a part's operation makes of its operands' lists, whatever they are, in some slot; and the operation on lists where they
+-- stand, in a slot of the work area.
+use Prim.Native.Nat.{ℕ, _/_, _%_, _≤_, _<_}
 use mathlib.Core.Path.{_≡_}
-use mathlib.Core.Bool.{Bool, true, false, _&&_}
-use mathlib.Core.List.{List}
-use lib.Dec.{leb}
+use mathlib.Core.Bool.{Bool, true, false, _||_}
+use mathlib.Core.List.{List, [], _∷_}
+use lib.Dec.{leb, eqb}
 use lib.ListN.{length, take}
-use Rattle.signals.specs.Answers.{faultIn, countIn}
+use Rattle.signals.specs.Moment.{M}
 use Rattle.signals.specs.Words.{mostWords}
+use Rattle.signals.specs.Answers.{countIn}
 use Rattle.signals.specs.declared.Written.{Written}
 use Rattle.signals.specs.declared.Written.the-variants.{Refused}
-use Rattle.slices.specs.Bytes.{Words}
-use Rattle.operations.specs.Calls.{partFault}
-use Rattle.sources.specs.Sources.{listAt, apartFrom, withSlot}
+use Rattle.building.specs.Slots.{madeAnswer}
+use Rattle.building.specs.declared.Made.{Made}
+use Rattle.sources.specs.Sources.{listAt, withSlot}
 use Rattle.sources.specs.declared.Source.{Source}
+use Rattle.merging.specs.Merging.{Merges, begunIn, mayMerge}
+use Rattle.delays.specs.Turns.{State, firstState, Delays}
+use Rattle.grammar.specs.Kinds as kinds
 use Rattle.code_words.specs.CodeWords.{constants}
-use Rattle.applying.specs.PartCalls.{judgedFor, exactFor}
+use Rattle.applying.specs.PartCalls.{partAnswer}
+use Rattle.applying.specs.Merges.{operationOf, tableFor}
 
-pub record Applied (w : ℕ) (a b : List ℕ) (answer : Written) (l : List ℕ) : Type 0 where
-  pub exactly : judgedFor w a b ≡ 0 → Words a → Words b
-      → (faultIn answer ≡ partFault (exactFor w a b)) × (faultIn answer ≡ 0 → l ≡ exactFor w a b)
+-- a merge in a slot that held other words: the numbered answer, and its list at the front of the slot
+pub record MergedTo (kind : ℕ) (a b : List ℕ) (answer : Written) (l : List ℕ) : Type 0 where
+  pub before : List ℕ
+  pub slot : List ℕ
+  pub made : Made
+  pub wide : length before ≡ mostWords
+  pub merges : Merges (operationOf kind) (tableFor kind) a b slot made (begunIn (operationOf kind) (tableFor kind) a b before)
+  pub answer-is : answer ≡ partAnswer (madeAnswer made)
+  pub list-is : l ≡ take (countIn answer) slot
 
--- the operands are apart from the slot, and it fits
-unfoldable pub partFits : Source → Source → ℕ → ℕ → Bool
-partFits a b at n = apartFrom a at mostWords && (apartFrom b at mostWords && leb (at + mostWords) n)
+-- a delay, whose length is at most M
+pub record DelayRan (level : Bool) (d : ℕ) (a : List ℕ) (answer : Written) (l : List ℕ) : Type 0 where
+  pub before : List ℕ
+  pub last : State
+  pub wide : length before ≡ mostWords
+  pub runs : Delays level d a (firstState level d a before) last
+  pub answer-is : answer ≡ partAnswer (madeAnswer (last .made))
+  pub list-is : l ≡ take (countIn answer) (last .slot)
+
+pub record DelayedTo (level : Bool) (d : ℕ) (a : List ℕ) (answer : Written) (l : List ℕ) : Type 0 where
+  pub too-long : M < d → answer ≡ Refused 5
+  pub ran : d ≤ M → DelayRan level d a answer l
+
+-- NOT or an edge
+abbrev pub edged : ℕ → Bool
+edged k = (eqb k kinds.NOT || eqb k kinds.RISING) || eqb k kinds.FALLING
+
+-- by the kind: of two operands; of one, as a merge with the list that is always down; or a delay
+abbrev pub appliedBy : Bool → Bool → ℕ → List ℕ → List ℕ → Written → List ℕ → Type 0
+appliedBy true edge w a b answer l = MergedTo (w % 16) a b answer l
+appliedBy false true w a b answer l = MergedTo (w % 16) a (0 ∷ []) answer l
+appliedBy false false w a b answer l = DelayedTo (eqb (w % 16) kinds.TON) (w / 16 % 4294967296) a answer l
+
+abbrev pub Applied : ℕ → List ℕ → List ℕ → Written → List ℕ → Type 0
+Applied w a b answer l = appliedBy (leb kinds.AND (w % 16)) (edged (w % 16)) w a b answer l
+
+-- the merge and the delay on lists where they stand, in the slot
+pub record MergePart (kind : ℕ) (sheet work : List ℕ) (a b : Source) (at : ℕ) (answer : Written) (after : List ℕ) : Type 0 where
+  pub slot : List ℕ
+  pub after-is : after ≡ withSlot work at mostWords slot
+  pub short : countIn answer ≤ mostWords
+  pub applied :
+      MergedTo kind (listAt sheet constants constants work a) (listAt sheet constants constants work b) answer (take (countIn answer) slot)
+
+pub record DelayPart (w : ℕ) (sheet work : List ℕ) (a : Source) (at : ℕ) (answer : Written) (after : List ℕ) : Type 0 where
+  pub slot : List ℕ
+  pub after-is : after ≡ withSlot work at mostWords slot
+  pub short : countIn answer ≤ mostWords
+  pub applied :
+      DelayedTo (eqb (w % 16) kinds.TON) (w / 16 % 4294967296) (listAt sheet constants constants work a) answer (take (countIn answer) slot)
+
+-- the operation in the slot: its list at the slot's front
+pub record PartMade (w : ℕ) (sheet work : List ℕ) (a b : Source) (at : ℕ) (answer : Written) (after : List ℕ) : Type 0 where
+  pub slot : List ℕ
+  pub after-is : after ≡ withSlot work at mostWords slot
+  pub short : countIn answer ≤ mostWords
+  pub applied :
+      Applied w (listAt sheet constants constants work a) (listAt sheet constants constants work b) answer (take (countIn answer) slot)
 
 -- The operation on lists where they stand, in the slot of the work area from `at` on: 5 and nothing written where that may not be.
 pub record PartAt (w : ℕ) (sheet work : List ℕ) (a b : Source) (at : ℕ) (answer : Written) (after : List ℕ) : Type 0 where
-  pub refused : partFits a b at (length work) ≡ false → (answer ≡ Refused 5) × (after ≡ work)
-  pub begun : partFits a b at (length work) ≡ true
-      → (slot : List ℕ) × (length slot ≡ mostWords) × (after ≡ withSlot work at mostWords slot) × (countIn answer ≤ mostWords)
-      × Applied w (listAt sheet constants constants work a) (listAt sheet constants constants work b) answer (take (countIn answer) slot)
+  pub refused : mayMerge a b at (length work) ≡ false → (answer ≡ Refused 5) × (after ≡ work)
+  pub begun : mayMerge a b at (length work) ≡ true → PartMade w sheet work a b at answer after

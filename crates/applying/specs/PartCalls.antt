@@ -1,18 +1,15 @@
--- Mirrored: The operation that a part's code word asks for, by its kind in the low four bits, on its operands' lists in a lent slot, and
--- document 01's number for what that gives.
+-- Mirrored: The operation that a part's code word asks for, by its kind in the low four bits: what it is judged by, its exact answer, and
+-- document 01's number for what it gives in a slot.
 use Prim.Native.Nat.{ℕ, _/_, _%_}
-use mathlib.Core.Path.{_≡_}
 use mathlib.Core.Bool.{true, false, cond, _&&_}
 use mathlib.Core.List.{List, [], _∷_}
 use lib.Dec.{ltb, eqb}
-use lib.ListN.{length}
 use Rattle.signals.specs.Answers.{firstOf}
 use Rattle.signals.specs.declared.Written.{Written}
 use Rattle.signals.specs.declared.Written.the-variants as written
 use Rattle.signals.specs.Signal.{Table, tableOf, NOT, rising, falling, SR, RS, TON, TOF, connective}
 use Rattle.signals.specs.Words.{listFault, pairFault}
 use Rattle.operations.specs.Calls.{lengthFault, exactOfOne, exactOfTwo, exactOfDelay}
-use Rattle.building.specs.Slots.{slotAnswer, slotAfter}
 use Rattle.building.specs.declared.SlotAnswer.{SlotAnswer}
 use Rattle.building.specs.declared.SlotAnswer.the-variants.{Stands, TooLong, TooLate, NotBegun}
 use Rattle.grammar.specs.Kinds as kinds
@@ -74,9 +71,3 @@ partAnswer (Stands n) = written.Count n
 partAnswer TooLong = written.Refused 5
 partAnswer TooLate = written.Refused 6
 partAnswer NotBegun = written.Refused 5
-
--- The whole of it: the answer and the slot at exit, from the code word, the operands and the slot at entry.
-abbrev pub PartInSlot : ℕ → List ℕ → List ℕ → List ℕ → Written → List ℕ → Type 0
-PartInSlot w a b slot answer after =
-    (answer ≡ partAnswer (slotAnswer (judgedFor w a b) (exactFor w a b) (length slot)))
-    × (after ≡ slotAfter (judgedFor w a b) (exactFor w a b) slot)

@@ -1,13 +1,21 @@
-// The operation that a part's code word asks for, on its operands' lists, worked out in a slot that is lent. Other code words are taken for
-// these, so that every call has an answer.
+// The operation that a part's code word asks for, on its operands' lists where they stand, in a slot of the work area. Other code words are
+// taken for these, so that every call has an answer.
 ghost use mathlib.Core.Path.{_≡_};
-ghost use Rattle.applying.specs.PartCalls.{partAnswer, PartInSlot};
-ghost use Rattle.applying.specs.Merges.{operationOf, tableFor, MergedInSlot};
+ghost use mathlib.Core.Bool.{true};
+ghost use lib.ListN.{length};
+ghost use Rattle.merging.specs.Merging.{mayMerge};
+ghost use Rattle.applying.specs.PartCalls.{partAnswer};
+ghost use Rattle.applying.specs.Merges.{operationOf, tableFor};
+ghost use Rattle.applying.specs.Applied.{MergePart, DelayPart, PartMade, PartAt};
 use building::SlotAnswer;
+use building::WORDS;
+use code_words::CONSTANTS;
 use marks::kind;
 use showing::Operation;
 use signals::Length;
 use signals::Written;
+use sources::Memory;
+use sources::Source;
 
 const AND: [[bool; 2]; 2] = [[false, false], [false, true]];
 
@@ -15,6 +23,13 @@ const OR: [[bool; 2]; 2] = [[false, true], [true, true]];
 
 // The first operand inverted, whatever the second.
 const INVERT: [[bool; 2]; 2] = [[true, true], [false, false]];
+
+// The list that is always down.
+const NONE: Source = Source {
+    memory: Memory::Right,
+    at: 0,
+    count: 1,
+};
 
 // The merge that a kind asks for, and its table.
 fn operation_of(kind: u64) -> Operation
@@ -60,25 +75,68 @@ fn part_answer(given: SlotAnswer) -> Written
 }
 
 // The merge of two lists.
-fn merged_in(kind: u64, a: &[u32], b: &[u32], slot: &mut [u32]) -> Written
-    ensures { λ r. ⌜ MergedInSlot kind (now (a .entry)) (now (b .entry)) (now (slot .entry)) r (now (slot .exit)) ⌝ }
+fn merged_at(kind: u64, sheet: &[u8], work: &mut [u32], a: Source, b: Source, at: u32) -> Written
+    requires { ⌜ mayMerge a b at (length (now work)) ≡ true ⌝ }
+    ensures { λ r. ⌜ MergePart kind (now (sheet .entry)) (now (work .entry)) a b at r (now (work .exit)) ⌝ }
 {
-    part_answer(merging::operate_in(operation_of(kind), table_of(kind), a, b, slot))
+    part_answer(merging::merge_at(
+        operation_of(kind),
+        table_of(kind),
+        sheet,
+        &CONSTANTS,
+        &CONSTANTS,
+        work,
+        a,
+        b,
+        at,
+    ))
+}
+
+// The delay of a list.
+fn delayed_at(code: u64, sheet: &[u8], work: &mut [u32], a: Source, at: u32) -> Written
+    requires { ⌜ mayMerge a a at (length (now work)) ≡ true ⌝ }
+    ensures { λ r. ⌜ DelayPart code (now (sheet .entry)) (now (work .entry)) a at r (now (work .exit)) ⌝ }
+{
+    let ticks = (code / 16 % 4294967296) as u32;
+    let on_delay = code % 16 == kind::TON;
+    part_answer(delays::delay_at(
+        on_delay,
+        Length(ticks),
+        sheet,
+        &CONSTANTS,
+        &CONSTANTS,
+        work,
+        a,
+        at,
+    ))
 }
 
 // The operation: of the first list where it has one operand, as a merge with the list that is always down or as a delay; else of both.
-pub fn apply(code: u64, a: &[u32], b: &[u32], slot: &mut [u32]) -> Written
-    ensures { λ r. ⌜ PartInSlot code (now (a .entry)) (now (b .entry)) (now (slot .entry)) r (now (slot .exit)) ⌝ }
+fn operate(code: u64, sheet: &[u8], work: &mut [u32], a: Source, b: Source, at: u32) -> Written
+    requires { ⌜ mayMerge a b at (length (now work)) ≡ true ⌝ }
+    ensures { λ r. ⌜ PartMade code (now (sheet .entry)) (now (work .entry)) a b at r (now (work .exit)) ⌝ }
 {
     let kind = code % 16;
     if kind::AND <= kind {
-        return merged_in(kind, a, b, slot);
+        return merged_at(kind, sheet, work, a, b, at);
     }
     if (kind == kind::NOT) | (kind == kind::RISING) | (kind == kind::FALLING) {
-        let none = [0u32; 1];
-        return merged_in(kind, a, &none, slot);
+        return merged_at(kind, sheet, work, a, NONE, at);
     }
-    let ticks = (code / 16 % 4294967296) as u32;
-    let on_delay = kind == kind::TON;
-    part_answer(delays::delay_in(on_delay, Length(ticks), a, slot))
+    delayed_at(code, sheet, work, a, at)
+}
+
+// The operation on lists where they stand, in the slot of 256 words from a place of the work area on: 5, or 6, or the words that then stand
+// there. Where a list is not apart from the slot or the slot does not fit, 5, and nothing is written.
+pub fn apply(code: u64, sheet: &[u8], work: &mut [u32], a: Source, b: Source, at: u32) -> Written
+    ensures { λ r. ⌜ PartAt code (now (sheet .entry)) (now (work .entry)) a b at r (now (work .exit)) ⌝ }
+{
+    if sources::apart(a, at, WORDS as u32) {
+        if sources::apart(b, at, WORDS as u32) {
+            if at as usize + WORDS <= work.len() {
+                return operate(code, sheet, work, a, b, at);
+            }
+        }
+    }
+    Written::Refused(5)
 }

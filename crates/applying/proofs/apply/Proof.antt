@@ -1,67 +1,74 @@
--- `applying::apply` meets its contract: the delay of a timer's kind, else the merge of one operand or of two.
-use mathlib.Core.Path.{refl}
-use Rattle.applying.proofs.Operators.{asked-delay, asked-one, asked-two}
+-- `applying::apply` meets its contract.
 use borrow.Author.Needs.{needs}
+use mathlib.Core.Path.{_≡_, refl, sym, _∙_}
+use Rattle.applying.proofs.PartsMade.{may-be, part-made, part-refused, not-first, not-second, no-fit}
 use Rattle.applying.proofs.apply.Statement.{statement}
 use Rattle.applying.proofs.apply.Tie as tie
 
-merged-in-requires : tie.Need-merged-in-requires
-merged-in-requires c κs = search needs
+cast-apart : tie.Need-cast-apart
+cast-apart c = search needs
+
+apart-requires : tie.Need-apart-requires
+apart-requires c κs = search needs
+
+cast-apart-2 : tie.Need-cast-apart-2
+cast-apart-2 c = search needs
+
+apart-requires-2 : tie.Need-apart-requires-2
+apart-requires-2 c κs = search needs
+
+add-if3 : tie.Need-add-if3
+add-if3 c = search needs
+
+operate-requires : tie.Need-operate-requires
+operate-requires c κs =
+    let second = c .before .before .before in
+    let first = second .before .before in
+    may-be _ _ _ _ (sym (second .before .if1 .taken) ∙ first .apart .ensures) (sym (c .before .before .if2 .taken) ∙ second .apart2 .ensures)
+    (c .before .if3 .taken)
 
 same-length : tie.Need-same-length
 same-length c = search needs
 
 returns : tie.Need-returns
-returns c = asked-two _ _ _ _ _ _ (c .before .before .before .before .if1 .taken) (c .before .before .merged-in .ensures)
-
-slice-aggregate-merged-in : tie.Need-slice-aggregate-merged-in
-slice-aggregate-merged-in c = search needs
-
-merged-in-requires-2 : tie.Need-merged-in-requires-2
-merged-in-requires-2 c κs = search needs
-
-same-length-2 : tie.Need-same-length-2
-same-length-2 c = search needs
+returns c =
+    let second = c .before .before .before .before .before .before in
+    let first = second .before .before in
+    part-made _ _ _ _ _ _ _ _
+    (may-be _ _ _ _ (sym (second .before .if1 .taken) ∙ first .apart .ensures) (sym (c .before .before .before .before .before .if2 .taken) ∙ second .apart2 .ensures)
+    (c .before .before .before .before .if3 .taken))
+    (c .before .before .operate .ensures)
 
 returns-2 : tie.Need-returns-2
 returns-2 c =
-    asked-one _ _ _ _ _ _ (c .before .before .before .before .before .before .if1 .left)
-    (c .before .before .before .before .before .if2 .taken)
-    (c .before .before .merged-in2 .ensures)
-
-cast-ticks : tie.Need-cast-ticks
-cast-ticks c = search needs
-
-delay-in-requires : tie.Need-delay-in-requires
-delay-in-requires c κs = search needs
-
-part-answer-requires : tie.Need-part-answer-requires
-part-answer-requires c κs = search needs
-
-same-length-3 : tie.Need-same-length-3
-same-length-3 c = search needs
+    let second = c .before .before in
+    let first = second .before .before in
+    part-refused _ _ _ _ _ _
+    (no-fit _ _ _ _ (sym (second .before .if1 .taken) ∙ first .apart .ensures) (sym (c .before .if2 .taken) ∙ second .apart2 .ensures)
+    (c .if3 .left))
 
 returns-3 : tie.Need-returns-3
 returns-3 c =
-    asked-delay _ _ _ _ _ _ _ _ (c .before .before .before .before .before .before .if1 .left)
-    (c .before .before .before .before .before .if2 .left)
-    refl
-    (c .before .before .before .delay-in .ensures)
-    (c .part-answer .ensures)
+    let second = c .before in
+    let first = second .before .before in
+    part-refused _ _ _ _ _ _
+    (not-second _ _ _ _ (sym (second .before .if1 .taken) ∙ first .apart .ensures) (sym (c .if2 .left) ∙ second .apart2 .ensures))
+
+returns-4 : tie.Need-returns-4
+returns-4 c = part-refused _ _ _ _ _ _ (not-first _ _ _ _ (sym (c .if1 .left) ∙ c .before .apart .ensures))
 
 pub apply-spec : {M : Type 1} → statement M
 apply-spec =
     tie.close
     (tie.spec
-    merged-in-requires
+    cast-apart
+    apart-requires
+    cast-apart-2
+    apart-requires-2
+    add-if3
+    operate-requires
     same-length
     returns
-    slice-aggregate-merged-in
-    merged-in-requires-2
-    same-length-2
     returns-2
-    cast-ticks
-    delay-in-requires
-    part-answer-requires
-    same-length-3
-    returns-3)
+    returns-3
+    returns-4)
