@@ -1,6 +1,7 @@
 // Where a list stands, and its words read there: on a sheet, in the work area, or in one of two lists that are lent beside them.
 ghost use mathlib.Core.Path.{_≡_};
-ghost use Prim.Native.Nat.{_<_};
+ghost use Prim.Native.Nat.{_<_, _-_, min};
+ghost use lib.ListN.{length};
 ghost use Rattle.sources.specs.Sources.{nextWord, sheetWord, listAt, passOn, apartFrom};
 use reading::Step;
 use signals::Date;
@@ -13,7 +14,8 @@ pub enum Memory {
     Right,
 }
 
-// A list that stands somewhere: its first byte on the sheet, or its first word elsewhere, and how many words it has, as far as they are there.
+// A list that stands somewhere: its first byte on the sheet, or its first word elsewhere, and how many words it has, as far as they are
+// there.
 pub struct Source {
     pub memory: Memory,
     pub at: u32,
@@ -105,5 +107,33 @@ pub fn apart(list: Source, at: u32, room: u32) -> bool
         Memory::Sheet => true,
         Memory::Left => true,
         Memory::Right => true,
+    }
+}
+
+// The smaller of two counts; what is left of so many after a place.
+fn smaller(a: usize, b: usize) -> usize
+    ensures { λ r. ⌜ r ≡ min a b ⌝ }
+{
+    if a < b { a } else { b }
+}
+
+fn left_after(all: usize, at: usize) -> usize
+    ensures { λ r. ⌜ r ≡ all - at ⌝ }
+{
+    if all < at { 0 } else { all - at }
+}
+
+// How many words the list has.
+pub fn length_of(sheet: &[u8], left: &[u32], right: &[u32], work: &[u32], list: Source) -> usize
+    ensures { λ r. ⌜ r ≡ length (listAt (now (sheet .entry)) (now (left .entry)) (now (right .entry)) (now (work .entry)) list) ⌝ }
+{
+    let count = list.count as usize;
+    let at = list.at as usize;
+    let memory = list.memory;
+    match memory {
+        Memory::Sheet => smaller(count, left_after(sheet.len(), at) / 4),
+        Memory::Work => smaller(count, left_after(work.len(), at)),
+        Memory::Left => smaller(count, left_after(left.len(), at)),
+        Memory::Right => smaller(count, left_after(right.len(), at)),
     }
 }
