@@ -7,7 +7,7 @@ use mathlib.Core.Bool.{Bool, true, false, cond}
 use mathlib.Core.List.{List, []}
 use lib.Dec.{ltb, eqb}
 use lib.ListN.{length, getD}
-use borrow.Author.Tests.{ltb-true}
+use borrow.Author.Tests.{ltb-true, ltb-false, eq-eqb, ne-eqb, eqb-false}
 use Rattle.signals.specs.Words.{dateOf, valueAfter}
 use Rattle.signals.specs.Passing.{heldValue, isNext, atDate, passedDate}
 use Rattle.signals.specs.declared.Verdict.{Verdict}
@@ -15,13 +15,14 @@ use Rattle.signals.specs.declared.Verdict.the-variants.{Holds, FailsAt, FailsAf
 use Rattle.signals.proofs.Truth.{and-left}
 use Rattle.reading.specs.Reading.{NEVER, nextDate, stepPast}
 use Rattle.reading.specs.declared.Step.{Step}
-use Rattle.reading.proofs.Counting.{next-left, passed-next}
+use Rattle.reading.proofs.Counting.{next-in, next-left, passed-next}
+use Rattle.reading.proofs.ReadingFacts.{not-next, none-next}
 use Rattle.sources.specs.Sources.{nextWord, listFrom, listAt, passOn}
 use Rattle.sources.specs.declared.Memory.the-variants.{Left, Right}
 use Rattle.sources.specs.declared.Source.{Source}
 use Rattle.sources.proofs.SourceWords.{at-most}
 use Rattle.sources.proofs.Sourcing.{next-word-date, pass-is-step, held-after, first-held, whole-left, whole-right}
-use Rattle.comparing.specs.Finding.{failsBy, nextOf, Quiet, Finds, Found, inGap, ended, atInstant, turn}
+use Rattle.comparing.specs.Finding.{failsBy, nextOf, wordPast, Quiet, Finds, Found, inGap, ended, atInstant, turn}
 use Rattle.comparing.proofs.Watching.{one-of}
 
 -- a list of which i words are passed: the next word and the value held
@@ -53,21 +54,45 @@ passed-few l i d s f = go (isNext l i d) refl
     go true q = omega (arith, ltb-true i (length l) (and-left (ltb i (length l)) (eqb (dateOf (getD l i 0)) d) q))
     go false q = f
 
+-- the next word past a date, by the test that the code makes
+module _ (l : List ℕ) (passed word date r : ℕ) where
+  pub word-read : word / 4 ≡ date → r ≡ nextWord l passed → r ≡ wordPast l passed word date
+  word-read e n = rw (eq-eqb (word / 4) date e) n
+
+  pub word-kept : (word / 4 ≡ date → ⊥) → r ≡ word → r ≡ wordPast l passed word date
+  word-kept n e = rw (ne-eqb (word / 4) date n) e
+
 module _ {l : List ℕ} {i x : ℕ} {p : Bool} (g : Along l i x p) where
   date-is : x / 4 ≡ nextDate l i
   date-is = rw (g .next) (next-word-date l i)
+
+  -- a date that is not the next word's passes none
+  stays : (d : ℕ) → (x / 4 ≡ d → ⊥) → passedDate l i d ≡ i
+  unfolding passedDate
+  stays d n = rw (go (ltb i (length l)) refl)
+    where
+      go : (t : Bool) → ltb i (length l) ≡ t → isNext l i d ≡ false
+      go true q = not-next l i d (λ e. n (date-is ∙ next-in l i (ltb-true i (length l) q) ∙ e))
+      go false q = none-next l i d (ltb-false i (length l) q)
+
+  past-next : (d : ℕ) → wordPast l (passedDate l i d) x d ≡ nextWord l (passedDate l i d)
+  past-next d = go (eqb (x / 4) d) refl
+    where
+      go : (t : Bool) → eqb (x / 4) d ≡ t → cond t (nextWord l (passedDate l i d)) x ≡ nextWord l (passedDate l i d)
+      go true q = refl
+      go false q = rw (stays d (eqb-false (x / 4) d q)) (g .next)
 
   -- past a date
   module _ (d : ℕ) (s : Step) (small : d < NEVER) (e : s ≡ passOn x p i d) where
     step : s ≡ stepPast l i d
     step = e ∙ rw (g .next, g .held) (pass-is-step l i d small (g .few))
 
-    pub along-on : (y : ℕ) → y ≡ nextWord l (s .passed) → Along l (s .passed) y (s .after)
+    pub along-on : (y : ℕ) → y ≡ wordPast l (s .passed) x d → Along l (s .passed) y (s .after)
     along-on y n =
         record {
           short = g .short;
           few = rw step (passed-few l i d (g .short) (g .few));
-          next = n;
+          next = n ∙ rw step (past-next d);
           held = rw step (sym (held-after l i d));
         }
 
@@ -123,7 +148,7 @@ module _ {both : Bool} {a b : List ℕ} {last i j x y : ℕ} {p q v : Bool} (w :
       pub instant-found : failsBy both (s .at) (t .at) ≡ true → Found both a b (FailsAt d)
       instant-found u = w .on (FailsAt d) (atInstant quiet-is (at-fails ∙ u))
 
-      pub scan-on : failsBy both (s .at) (t .at) ≡ false → (x' y' : ℕ) → x' ≡ nextWord a (s .passed) → y' ≡ nextWord b (t .passed)
+      pub scan-on : failsBy both (s .at) (t .at) ≡ false → (x' y' : ℕ) → x' ≡ wordPast a (s .passed) x d → y' ≡ wordPast b (t .passed) y d
           → Scanning both a b d (s .passed) (t .passed) x' y' (s .after) (t .after)
       scan-on u x' y' ex ey =
           record {
