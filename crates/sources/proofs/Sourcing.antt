@@ -18,7 +18,7 @@ use Rattle.sources.specs.Sources.{noWord, nextWord, listOnSheet, listFro
 use Rattle.sources.specs.declared.Memory.{Memory}
 use Rattle.sources.specs.declared.Memory.the-variants.{Sheet, Work, Left, Right}
 use Rattle.sources.specs.declared.Source.{Source}
-use Rattle.sources.proofs.SourceWords.{word-left, no-word-left}
+use Rattle.sources.proofs.SourceWords.{word-left, no-word-left, at-most}
 
 -- the date of the next word
 pub next-word-date : (l : List ℕ) (i : ℕ) → nextWord l i / 4 ≡ nextDate l i
@@ -93,6 +93,10 @@ pub first-held : (l : List ℕ) → valueAfter (nextWord l 0) ≡ heldValue l 1
 unfolding nextWord heldValue valueAfter
 first-held [] = refl
 first-held (w ∷ ws) = rw (lt-ltb 0 (suc (length ws)) (omega arith))
+
+-- a source names at most its count of words
+pub list-short : (sheet left right work : List ℕ) (s : Source) → length (listAt sheet left right work s) ≤ s .count
+list-short sheet left right work s = at-most sheet left right work (s .at) (s .count) 0 (s .memory)
 
 -- a whole slice as a source
 module _ (sheet left right work : List ℕ) where

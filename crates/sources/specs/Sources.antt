@@ -1,6 +1,6 @@
 -- Mirrored: The list that a source names in the memory that it stands in, the next of its words, passing a date by it, and slots of the
 -- work area.
-use Prim.Native.Nat.{ℕ, _+_, _*_, _-_, _/_, _%_, min}
+use Prim.Native.Nat.{ℕ, _+_, _-_, _/_, _%_, min}
 use mathlib.Core.Bool.{Bool, true, cond, _||_}
 use mathlib.Core.List.{List, _++_}
 use lib.Dec.{leb, ltb, eqb}
