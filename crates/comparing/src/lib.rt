@@ -3,8 +3,9 @@ ghost use mathlib.Core.Path.{_≡_};
 ghost use mathlib.Core.Bool.{false};
 ghost use Prim.Native.Nat.{_/_, min};
 ghost use Rattle.signals.specs.Words.{pairFault};
+ghost use Rattle.sources.specs.Sources.{listAt};
 ghost use Rattle.questions.specs.Questions.{equalOf, impliesOf};
-ghost use Rattle.comparing.specs.Finding.{failsBy, Found, FoundAt};
+ghost use Rattle.comparing.specs.Finding.{failsBy, wordPast, Found, FoundAt};
 use lists::pair_fault;
 use reading::NEVER;
 use signals::Date;
@@ -19,10 +20,7 @@ use sources::pass;
 fn fails_by(both: bool, p: bool, q: bool) -> bool
     ensures { λ r. ⌜ r ≡ failsBy both p q ⌝ }
 {
-    if p {
-        return !q;
-    }
-    if q { both } else { false }
+    (p != q) & (p | both)
 }
 
 // The earlier of two words' dates.
@@ -30,6 +28,26 @@ fn earlier_date(x: u64, y: u64) -> u64
     ensures { λ r. ⌜ r ≡ min (x / 4) (y / 4) ⌝ }
 {
     if x < y { x / 4 } else { y / 4 }
+}
+
+// The next word of a list, past a date: a word of that date is passed, a later one stays and is not read again.
+fn word_past(
+    sheet: &[u8],
+    left: &[u32],
+    right: &[u32],
+    work: &[u32],
+    list: Source,
+    passed: usize,
+    word: u64,
+    date: u64,
+) -> u64
+    ensures { λ r.
+        ⌜ r ≡ wordPast (listAt (now (sheet .entry)) (now (left .entry)) (now (right .entry)) (now (work .entry)) list) passed word date ⌝ }
+{
+    if word / 4 == date {
+        return next_word(sheet, left, right, work, list, passed);
+    }
+    word
 }
 
 // The first moment at which f to g fails, of gap 0, then of each date its instant and the gap after it: values change nowhere else.
@@ -69,8 +87,8 @@ fn scan(
         q = b.after;
         i = a.passed;
         j = b.passed;
-        x = next_word(sheet, left, right, work, f, i);
-        y = next_word(sheet, left, right, work, g, j);
+        x = word_past(sheet, left, right, work, f, i, x, date);
+        y = word_past(sheet, left, right, work, g, j, y, date);
     }
 }
 

@@ -79,11 +79,11 @@ returns-3 c =
     _ _ (t .before .before .if2 .left) (t .before .pass .ensures) (t .pass2 .ensures)
     (sym (c .before .fails-by2 .ensures) ∙ c .if3 .taken)
 
-next-word-requires-5 : tie.Need-next-word-requires-5 Inv-loop μ-loop
-next-word-requires-5 c κs = search needs
+word-past-requires : tie.Need-word-past-requires Inv-loop μ-loop
+word-past-requires c κs = search needs
 
-next-word-requires-6 : tie.Need-next-word-requires-6 Inv-loop μ-loop
-next-word-requires-6 c κs = search needs
+word-past-requires-2 : tie.Need-word-past-requires-2 Inv-loop μ-loop
+word-past-requires-2 c κs = search needs
 
 loop-less : tie.Need-loop-less Inv-loop μ-loop
 loop-less c =
@@ -101,7 +101,7 @@ loop-again c =
     (d .before .if1 .left) _ (d .earlier-date .ensures)
     _ _ (t .before .before .if2 .left) (t .before .pass .ensures) (t .pass2 .ensures)
     (sym (c .before .before .before .fails-by2 .ensures) ∙ c .before .before .if3 .left) _ _
-    (c .before .next-word5 .ensures) (c .next-word6 .ensures)
+    (c .before .word-past .ensures) (c .word-past2 .ensures)
 
 pub scan-spec : {M : Type 1} → statement M
 scan-spec =
@@ -124,7 +124,7 @@ scan-spec =
     pass-requires-2
     fails-by-requires-2
     returns-3
-    next-word-requires-5
-    next-word-requires-6
+    word-past-requires
+    word-past-requires-2
     loop-less
     loop-again)
