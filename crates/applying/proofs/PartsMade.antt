@@ -47,9 +47,11 @@ may : (a b : Source) (at n : ℕ) → mayMerge a b at n ≡ true
     → (apartFrom a at mostWords ≡ true) × (apartFrom b at mostWords ≡ true) × (at + mostWords ≤ n)
 unfolding mayMerge
 may a b at n h =
-    let r = and-right (apartFrom a at mostWords) _ h in
-    (and-left (apartFrom a at mostWords) _ h, and-left (apartFrom b at mostWords) _ r,
-     leb-true (at + mostWords) n (and-right (apartFrom b at mostWords) _ r))
+    let r = and-right (apartFrom a at mostWords) _ h in (
+      and-left (apartFrom a at mostWords) _ h,
+      and-left (apartFrom b at mostWords) _ r,
+      leb-true (at + mostWords) n (and-right (apartFrom b at mostWords) _ r),
+    )
 
 pub may-be : (a b : Source) (at n : ℕ) → true ≡ apartFrom a at mostWords → true ≡ apartFrom b at mostWords → at + mostWords ≤ n
     → mayMerge a b at n ≡ true

@@ -1,43 +1,58 @@
 // Formula calls and claims of two formulas on a sheet.
 ghost use mathlib.Core.Path.{_≡_};
-ghost use Prim.Native.Nat.{_≤_};
-ghost use lib.ListN.{length};
-ghost use Rattle.signals.specs.Words.{mostWords};
-ghost use Rattle.signals.specs.Answers.{verdictFor};
+ghost use mathlib.Core.List.{List, _++_};
+ghost use Prim.Native.Nat.{ℕ, _≤_};
+ghost use lib.ListN.{length, drop};
+ghost use Rattle.building.specs.Building.{HandsOver};
 ghost use Rattle.format.specs.Reading.{sheetFault};
-ghost use Rattle.grammar.specs.Tree.{Tree};
-ghost use Rattle.grammar.specs.Parts.{parts};
-ghost use Rattle.grammar.specs.Formula.{formulaTree};
-ghost use Rattle.calls.specs.OnSheet.{exactOn};
-ghost use Rattle.calls.specs.Calls.{workWords, partsFault, workingFault, claimFails};
 ghost use Rattle.calls.specs.Work.{CallOfFormula, CallOfClaim};
-ghost use Rattle.machine.specs.Machine.{Coded, InSlot, Run, Judged, ClaimOn};
+ghost use Rattle.working.specs.Standing.{listOf};
+ghost use Rattle.machine.specs.Machine.{Coded, Run, Judged, ClaimOn};
+use code_words::CONSTANTS;
 use signals::Verdict;
 use signals::Written;
+use sources::Source;
 
 // The work words that a call needs.
 pub const WORK_WORDS: usize = working::WORK_WORDS;
 
-// The words of a slot of the work area: the most that a list has.
-const LIST_WORDS: usize = signals::WORDS;
-
-// A formula whose code words are read, worked out: 18, then 5 or 6, then 7.
-fn run_formula(
-    sheet: &[u8],
-    text: &[u8],
-    codes: &[u64],
-    work: &mut [u32],
-    out: &mut [u32],
-) -> Written
-    requires { ⌜ (sheetFault (now sheet) ≡ 0) × Coded (now sheet) (now text) (now codes) ⌝ }
-    ensures { λ r. ⌜ Run (now (sheet .entry)) (now (text .entry)) (now (work .entry)) (now (out .entry)) r (now (out .exit))
-        (now (work .exit)) ⌝ }
+// The words of a list where it stands, copied to the front of the output.
+fn copy_words(sheet: &[u8], work: &[u32], list: Source, count: usize, out: &mut [u32])
+    requires { ⌜ (count ≡ length (listOf (now sheet) (now work) list)) × (count ≤ length (now out)) ⌝ }
+    ensures { λ r. ⌜ now (out .exit) ≡ listOf (now (sheet .entry)) (now (work .entry)) list ++ drop count (now (out .entry)) ⌝ }
 {
-    let answer = working::work_out(sheet, text, codes, work, 0);
-    match answer {
-        Written::Count(count) => building::hand_over(&work[..count], out),
-        Written::Refused(fault) => Written::Refused(fault),
+    let mut i: usize = 0;
+    while i < count {
+        let word = sources::next_word(sheet, &CONSTANTS, &CONSTANTS, work, list, i);
+        out[i] = (word % 4294967296) as u32;
+        i += 1;
     }
+}
+
+// A list where it stands, handed to the output if that is long enough, else 7.
+fn hand_over(sheet: &[u8], work: &[u32], list: Source, out: &mut [u32]) -> Written
+    ensures { λ r. ⌜ HandsOver (listOf (now (sheet .entry)) (now (work .entry)) list) (now (out .entry)) r (now (out .exit)) ⌝ }
+{
+    let count = sources::length_of(sheet, &CONSTANTS, &CONSTANTS, work, list);
+    if out.len() < count {
+        return Written::Refused(7);
+    }
+    copy_words(sheet, work, list, count, out);
+    Written::Count(count)
+}
+
+// A formula whose code words are read and placed, worked out: 18, then 5 or 6, then 7.
+fn run_formula(sheet: &[u8], codes: &[u64], work: &mut [u32], out: &mut [u32]) -> Written
+    requires { ⌜ sheetFault (now sheet) ≡ 0 ⌝ }
+    ensures { λ r. ⌜ ((text : List ℕ) → Coded (now (sheet .entry)) text (now (codes .entry)) → Run (now (sheet .entry)) text
+        (now (work .entry)) (now (out .entry)) r (now (out .exit)) (now (work .exit))) ⌝ }
+{
+    let ran = working::work_out(sheet, codes, &codes[..0], work);
+    let fault = ran.fault;
+    if fault != 0 {
+        return Written::Refused(fault);
+    }
+    hand_over(sheet, work, ran.top, out)
 }
 
 // The formula call: sheet faults; 10, 11, 8, 12, 13; 18; 5 or 6 at the first part that meets one; 7.
@@ -48,59 +63,35 @@ pub fn evaluate(sheet: &[u8], formula: &[u8], work: &mut [u32], out: &mut [u32])
     let mut codes = [0u64; 32];
     let parts = preparing::judge_and_prepare(sheet, formula, &mut codes);
     match parts {
-        Written::Count(n) => run_formula(sheet, formula, &codes[..n], work, out),
+        Written::Count(n) => run_formula(sheet, &codes[..n], work, out),
         Written::Refused(refusal) => Written::Refused(refusal),
     }
 }
 
-// G worked out above F's list, and the two compared.
-fn compare(sheet: &[u8], f_count: usize, g: &[u8], codes: &[u64], work: &mut [u32]) -> Verdict
-    requires { ⌜ (workWords ≤ length (now work)) × (sheetFault (now sheet) ≡ 0) × Coded (now sheet) (now g) (now codes) ×
-        («f_count» ≤ mostWords) ⌝ }
-    ensures { λ r. ⌜ ((t : Tree) → partsFault (now (sheet .entry)) (parts t) ≡ 0 → InSlot (now (work .entry)) 0 «f_count»
-        (exactOn (now (sheet .entry)) t) → r ≡ verdictFor (workingFault (now (sheet .entry)) (now (g .entry)))
-        (claimFails (now (sheet .entry)) t (formulaTree (now (g .entry))))) ⌝ }
+// Two formulas whose code words are read and placed, worked out: 18, then F's parts before G's, then the verdict.
+fn judge(sheet: &[u8], f_codes: &[u64], g_codes: &[u64], work: &mut [u32]) -> Verdict
+    requires { ⌜ sheetFault (now sheet) ≡ 0 ⌝ }
+    ensures { λ r. ⌜ ((f g : List ℕ) → Coded (now (sheet .entry)) f (now («f_codes» .entry)) → Coded (now (sheet .entry)) g
+        (now («g_codes» .entry)) → Judged (now (sheet .entry)) f g (now (work .entry)) r (now (work .exit))) ⌝ }
 {
-    let answer = working::work_out(sheet, g, codes, work, 1);
-    match answer {
-        Written::Count(count) => {
-            let w = &work[..];
-            let end = LIST_WORDS + count;
-            comparing::implies(&w[..f_count], &w[LIST_WORDS..end])
-        }
-        Written::Refused(fault) => Verdict::Refused(fault),
+    let ran = working::work_out(sheet, f_codes, g_codes, work);
+    let fault = ran.fault;
+    if fault != 0 {
+        return Verdict::Refused(fault);
     }
-}
-
-// Two formulas whose code words are read, worked out: 18, then F's parts before G's, then the verdict.
-fn judge(
-    sheet: &[u8],
-    f: &[u8],
-    f_codes: &[u64],
-    g: &[u8],
-    g_codes: &[u64],
-    work: &mut [u32],
-) -> Verdict
-    requires { ⌜ (sheetFault (now sheet) ≡ 0) × Coded (now sheet) (now f) (now «f_codes») × Coded (now sheet) (now g)
-        (now «g_codes») ⌝ }
-    ensures { λ r. ⌜ Judged (now (sheet .entry)) (now (f .entry)) (now (g .entry)) (now (work .entry)) r (now (work .exit)) ⌝ }
-{
-    let answer = working::work_out(sheet, f, f_codes, work, 0);
-    match answer {
-        Written::Count(count) => compare(sheet, count, g, g_codes, work),
-        Written::Refused(first) => Verdict::Refused(first),
-    }
+    comparing::implies_at(sheet, &CONSTANTS, &CONSTANTS, work, ran.below, ran.top)
 }
 
 // G read for a sheet, F being read: its 10, 11, 8, 12, 13, then 18, then the parts.
-fn claim_on(sheet: &[u8], f: &[u8], f_codes: &[u64], g: &[u8], work: &mut [u32]) -> Verdict
-    requires { ⌜ (sheetFault (now sheet) ≡ 0) × Coded (now sheet) (now f) (now «f_codes») ⌝ }
-    ensures { λ r. ⌜ ClaimOn (now (sheet .entry)) (now (f .entry)) (now (g .entry)) (now (work .entry)) r (now (work .exit)) ⌝ }
+fn claim_on(sheet: &[u8], f_codes: &[u64], g: &[u8], work: &mut [u32]) -> Verdict
+    requires { ⌜ sheetFault (now sheet) ≡ 0 ⌝ }
+    ensures { λ r. ⌜ ((f : List ℕ) → Coded (now (sheet .entry)) f (now («f_codes» .entry)) → ClaimOn (now (sheet .entry)) f
+        (now (g .entry)) (now (work .entry)) r (now (work .exit))) ⌝ }
 {
     let mut g_codes = [0u64; 32];
     let parts = preparing::prepare(sheet, g, &mut g_codes);
     match parts {
-        Written::Count(g_n) => judge(sheet, f, f_codes, g, &g_codes[..g_n], work),
+        Written::Count(n) => judge(sheet, f_codes, &g_codes[..n], work),
         Written::Refused(refusal) => Verdict::Refused(refusal),
     }
 }
@@ -112,7 +103,7 @@ pub fn claim(sheet: &[u8], f: &[u8], g: &[u8], work: &mut [u32]) -> Verdict
     let mut f_codes = [0u64; 32];
     let parts = preparing::judge_and_prepare(sheet, f, &mut f_codes);
     match parts {
-        Written::Count(f_n) => claim_on(sheet, f, &f_codes[..f_n], g, work),
+        Written::Count(n) => claim_on(sheet, &f_codes[..n], g, work),
         Written::Refused(refusal) => Verdict::Refused(refusal),
     }
 }

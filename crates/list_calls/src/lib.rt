@@ -12,6 +12,8 @@ use signals::Date;
 use signals::Length;
 use signals::Told;
 use signals::Written;
+use sources::Memory;
+use sources::Source;
 
 fn question(call: usize, a: &[u32], b: &[u32], k: u32) -> Told {
     match call {
@@ -60,6 +62,34 @@ fn operation(
     }
 }
 
+// A whole list, lent as the one on the left or on the right.
+fn whole(memory: Memory, words: &[u32]) -> Source {
+    Source {
+        memory,
+        at: 0,
+        count: (words.len() % 4294967296) as u32,
+    }
+}
+
+fn merge_in(
+    operation: Operation,
+    t: [[bool; 2]; 2],
+    a: &[u32],
+    b: &[u32],
+    out: &mut [u32],
+) -> SlotAnswer {
+    let none = [0u8; 1];
+    let first = whole(Memory::Left, a);
+    let second = whole(Memory::Right, b);
+    merging::merge_at(operation, t, &none[..0], a, b, out, first, second, 0)
+}
+
+fn delay_in(level: bool, d: u32, a: &[u32], out: &mut [u32]) -> SlotAnswer {
+    let none = [0u8; 1];
+    let list = whole(Memory::Left, a);
+    delays::delay_at(level, Length(d), &none[..0], a, a, out, list, 0)
+}
+
 fn operation_in(
     call: usize,
     t: [[bool; 2]; 2],
@@ -72,14 +102,14 @@ fn operation_in(
     let none = [0u32; 1];
     let invert = [[true, true], [false, false]];
     match call {
-        15 => merging::operate_in(Operation::Connective, invert, a, &none, out),
-        16 => merging::operate_in(Operation::Rising, invert, a, &none, out),
-        17 => merging::operate_in(Operation::Falling, invert, a, &none, out),
-        18 => merging::operate_in(Operation::SetWins, invert, a, b, out),
-        19 => merging::operate_in(Operation::ResetWins, invert, a, b, out),
-        20 => delays::delay_in(true, Length(d), b, out),
-        21 => delays::delay_in(false, Length(d), b, out),
-        _ => merging::operate_in(Operation::Connective, t, b, c, out),
+        15 => merge_in(Operation::Connective, invert, a, &none, out),
+        16 => merge_in(Operation::Rising, invert, a, &none, out),
+        17 => merge_in(Operation::Falling, invert, a, &none, out),
+        18 => merge_in(Operation::SetWins, invert, a, b, out),
+        19 => merge_in(Operation::ResetWins, invert, a, b, out),
+        20 => delay_in(true, d, b, out),
+        21 => delay_in(false, d, b, out),
+        _ => merge_in(Operation::Connective, t, b, c, out),
     }
 }
 

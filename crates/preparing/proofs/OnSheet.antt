@@ -4,7 +4,7 @@ use native.Mathlib.Omega.{arith}
 use mathlib.Core.Path.{_≡_, refl, sym, _∙_, ap}
 use mathlib.Core.List.{List, _++_}
 use mathlib.Core.Logic.{_⊎_, inl, inr}
-use lib.ListN.{length, take, drop, length-map}
+use lib.ListN.{length, take, drop, length-map, length-append}
 use lib.Seq.{take-at}
 use borrow.Author.Tests.{eq-eqb}
 use Rattle.slices.specs.Bytes.{Bytes}
@@ -17,7 +17,7 @@ use Rattle.format.specs.Reading.{sheetFault}
 use Rattle.calls.specs.Calls.{readingFault}
 use Rattle.calls.proofs.FirstFault.{zero-or-not}
 use Rattle.machine.specs.Machine.{placedWord, placedCodes, Coded}
-use Rattle.machine.proofs.Preparing.{names-found, code-short}
+use Rattle.machine.proofs.Preparing.{names-found}
 use Rattle.machine.proofs.FormulaRan.{read-fine}
 use Rattle.machine.proofs.Answers.{counted, refused-by}
 use Rattle.preparing.specs.Preparing.{preparingFault, placedAfter, PreparesFor, judgedFault, judgedCode, JudgesAndPrepares}
@@ -48,8 +48,10 @@ module _ (sheet text : List ℕ) (bytes : Bytes sheet) (ok : sheetFault sheet �
       unfolding placedAfter
       stored = p .1 ∙ rw (eq-eqb (formulaFault text) 0 (read-fine sheet text read-none .0))
 
-      pub few-codes : n ≤ 32
-      few-codes = let s = code-short text (read-fine sheet text read-none .0) in omega (arith, count)
+      pub few-codes : n ≤ length codes
+      few-codes =
+          let l = ap length stored ∙ length-append (placedCodes sheet text) (drop (length (codeOf text)) old) in
+          omega (arith, count, length-map (codeOf text) (placedWord sheet text))
 
       pub coded : Coded sheet text (take n codes)
       coded =
@@ -86,7 +88,7 @@ module _ (sheet text : List ℕ) (bytes : Bytes sheet) (codes old : List ℕ) (a
       rw (eq-eqb (sheetFault sheet) 0 sheet-fine) at (p .1),
     )
 
-    pub judged-few : n ≤ 32
+    pub judged-few : n ≤ length codes
     judged-few = few-codes sheet text bytes sheet-fine codes old answer prepares n e
 
     pub judged-coded : Coded sheet text (take n codes)

@@ -2,3 +2,4 @@
 pub mod SourceWords
 pub mod Sourcing
 pub mod Going
+mod Lengths

@@ -94,6 +94,7 @@ pub stacked-same : (sheet work : List ℕ) (stack stack' : List Source) (slots s
     → ((k : ℕ) → k < length st → (getD stack' k nowhere ≡ getD stack k nowhere) × (getD slots' k 0 ≡ getD slots k 0))
     → Stacked sheet work stack' slots' st
 stacked-same sheet work stack stack' slots slots' [] s h = tt
-stacked-same sheet work stack stack' slots slots' (l ∷ st) s h =
-    (rw (h (length st) (omega arith) .0, h (length st) (omega arith) .1) (s .0),
-     stacked-same sheet work stack stack' slots slots' st (s .1) (λ k i. h k (omega arith)))
+stacked-same sheet work stack stack' slots slots' (l ∷ st) s h = (
+  rw (h (length st) (omega arith) .0, h (length st) (omega arith) .1) (s .0),
+  stacked-same sheet work stack stack' slots slots' st (s .1) (λ k i. h k (omega arith)),
+)

@@ -20,7 +20,26 @@ const HIGHEST: usize = 17;
 
 // Where the slots of the work area stand that a stack uses: one for each place, and one above.
 const SLOTS: [u32; 20] = [
-    0, 256, 512, 768, 1024, 1280, 1536, 1792, 2048, 2304, 2560, 2816, 3072, 3328, 3584, 3840, 4096, 4352, 4608, 4864,
+    0,
+    256,
+    512,
+    768,
+    1024,
+    1280,
+    1536,
+    1792,
+    2048,
+    2304,
+    2560,
+    2816,
+    3072,
+    3328,
+    3584,
+    3840,
+    4096,
+    4352,
+    4608,
+    4864,
 ];
 
 // A source of no words.

@@ -12,7 +12,7 @@ enum-known-answer c = search needs
 
 cast-t7 : tie.Need-cast-t7
 cast-t7 c =
-        let start = c .before .before .before in
+    let start = c .before .before .before in
     let n = ap countIn (c .before .answer .given .1) in
     record { fits = omega (arith, start .pre) }
 

@@ -12,7 +12,7 @@ use Rattle.working.proofs.work_out.Tie as tie
 
 abbrev Inv-loop : tie.InvT-loop
 Inv-loop sheet first second work₀ stack₀ slots₀ height₀ n i₀ work stack slots height i =
-        (workWords ≤ length work₀) × (n ≡ length (first ++ second)) × (i ≤ n)
+    (workWords ≤ length work₀) × (n ≡ length (first ++ second)) × (i ≤ n)
     × Going sheet (first ++ second) work₀ work stack slots height i
 
 abbrev μ-loop : tie.MeasureT-loop
@@ -29,7 +29,7 @@ add-n c = search needs
 
 loop-holds : tie.Need-loop-holds Inv-loop μ-loop
 loop-holds c =
-        let a = c .before .before .before .before .before .args in
+    let a = c .before .before .before .before .before .args in
     (c .if1 .left, sym (length-append (a .first .now) (a .second .now)), omega arith, start _ _ _ _ refl)
 
 code-at-requires : tie.Need-code-at-requires Inv-loop μ-loop
@@ -46,7 +46,7 @@ same-length c = c .before .before .before .before .before .loop .inv .3 .same
 
 returns-2 : tie.Need-returns-2 Inv-loop μ-loop
 returns-2 c =
-        let e = c .before .before in
+    let e = c .before .before in
     let inv = e .before .before .before .loop .inv in
     lacks _ _ _ (inv .0) _ _ _ _ _ (inv .3) (omega (arith, inv .1, e .before .before .loop-test .taken)) _ (e .before .code-at .ensures)
     (rw (sym (e .operands .ensures)) (c .before .if2 .taken)) _ (c .refused2 .ensures)
@@ -59,7 +59,7 @@ same-length-2 c = c .before .before .before .before .before .before .loop .inv .
 
 returns-3 : tie.Need-returns-3 Inv-loop μ-loop
 returns-3 c =
-        let e = c .before .before .before in
+    let e = c .before .before .before in
     let inv = e .before .before .before .loop .inv in
     let t = e .operands .ensures in
     too-high _ _ _ (inv .0) _ _ _ _ _ (inv .3) (omega (arith, inv .1, e .before .before .loop-test .taken)) _ (e .before .code-at .ensures)
@@ -88,11 +88,12 @@ array-copy-out-b c = search needs
 
 step-requires : tie.Need-step-requires Inv-loop μ-loop
 step-requires c κs =
-        let e = c .before .before .before .before .before in
-    let inv = e .before .before .before .loop .inv in
-    (e .operands .ensures,
-     ready _ _ _ (inv .0) _ _ _ _ _ (inv .3) (omega (arith, inv .1, e .before .before .loop-test .taken)) _ (e .before .code-at .ensures)
-     _ (e .operands .ensures) (c .before .before .before .before .if2 .left) (c .before .before .before .if3 .left))
+    let e = c .before .before .before .before .before in
+    let inv = e .before .before .before .loop .inv in (
+      e .operands .ensures,
+      ready _ _ _ (inv .0) _ _ _ _ _ (inv .3) (omega (arith, inv .1, e .before .before .loop-test .taken)) _ (e .before .code-at .ensures)
+          _ (e .operands .ensures) (c .before .before .before .before .if2 .left) (c .before .before .before .if3 .left),
+    )
 
 refused-requires-4 : tie.Need-refused-requires-4 Inv-loop μ-loop
 refused-requires-4 c κs = search needs
@@ -102,7 +103,7 @@ same-length-3 c = search needs
 
 returns-4 : tie.Need-returns-4 Inv-loop μ-loop
 returns-4 c =
-        let e = c .before .before .before .before .before .before .before .before .before .before in
+    let e = c .before .before .before .before .before .before .before .before .before .before in
     let inv = e .before .before .before .loop .inv in
     halted _ _ _ (inv .0) _ _ _ _ _ (inv .3) (omega (arith, inv .1, e .before .before .loop-test .taken)) _ (e .before .code-at .ensures)
     _ (e .operands .ensures) (c .before .before .before .before .before .before .before .before .before .if2 .left) (c .before .before .before .before .before .before .before .before .if3 .left) _ _ (c .before .before .before .before .step .ensures) (c .before .if4 .taken) _ (c .refused4 .ensures)
@@ -142,11 +143,14 @@ loop-less c = search needs
 
 loop-again : tie.Need-loop-again Inv-loop μ-loop
 loop-again c =
-        let e = c .before .before .before .before .before .before .before .before .before .before in
-    let inv = e .before .before .before .loop .inv in
-    (inv .0, inv .1, omega (arith, e .before .before .loop-test .taken),
-     turned _ _ _ (inv .0) _ _ _ _ _ (inv .3) (omega (arith, inv .1, e .before .before .loop-test .taken)) _ (e .before .code-at .ensures)
-     _ (e .operands .ensures) (c .before .before .before .before .before .before .before .before .before .if2 .left) (c .before .before .before .before .before .before .before .before .if3 .left) _ _ (c .before .before .before .before .step .ensures) (c .before .if4 .left))
+    let e = c .before .before .before .before .before .before .before .before .before .before in
+    let inv = e .before .before .before .loop .inv in (
+      inv .0,
+      inv .1,
+      omega (arith, e .before .before .loop-test .taken),
+      turned _ _ _ (inv .0) _ _ _ _ _ (inv .3) (omega (arith, inv .1, e .before .before .loop-test .taken)) _ (e .before .code-at .ensures)
+          _ (e .operands .ensures) (c .before .before .before .before .before .before .before .before .before .if2 .left) (c .before .before .before .before .before .before .before .before .if3 .left) _ _ (c .before .before .before .before .step .ensures) (c .before .if4 .left),
+    )
 
 from-above-requires : tie.Need-from-above-requires Inv-loop μ-loop
 from-above-requires c κs = search needs
@@ -159,7 +163,7 @@ same-length-4 c = c .before .before .before .loop .inv .3 .same
 
 returns-5 : tie.Need-returns-5 Inv-loop μ-loop
 returns-5 c =
-        let inv = c .before .before .before .loop .inv in
+    let inv = c .before .before .before .loop .inv in
     finished _ _ _ (inv .0) _ _ _ _ _ (inv .3) (omega (arith, inv .1, c .before .before .loop-test .left)) _ refl (c .before .from-above .ensures)
     (c .from-above2 .ensures)
 
