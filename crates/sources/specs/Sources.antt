@@ -12,6 +12,8 @@ use Rattle.reading.specs.Reading.{heldOn}
 use Rattle.sources.specs.declared.Memory.{Memory}
 use Rattle.sources.specs.declared.Memory.the-variants.{Sheet, Work, Left, Right}
 use Rattle.sources.specs.declared.Source.{Source}
+use Rattle.sources.specs.declared.Cursor.{Cursor}
+use Rattle.sources.specs.declared.Passed.{Passed}
 
 -- stands for the next word where none is left: 4 times the date that does
 abbrev pub noWord : ℕ
@@ -44,6 +46,29 @@ passOn word held passed date =
     cond (eqb (word / 4) date)
     (record { before = held; at = valueAt word; after = valueAfter word; passed = passed % 4294967296 + 1 })
     (heldOn held passed)
+
+-- the reader of a list of which so many words are passed, and the value held after them; past the first word
+unfoldable pub cursorAt : List ℕ → ℕ → Bool → Cursor
+cursorAt l passed held =
+    record { word = nextWord l passed % 4294967296; date = nextWord l passed / 4 % 4294967296; held = held; passed = passed }
+
+abbrev pub startOf : List ℕ → Cursor
+startOf l = cursorAt l 1 (valueAfter (nextWord l 0))
+
+-- past a date by the reader: a word of that date is passed
+unfoldable pub pastOn : List ℕ → Cursor → ℕ → Passed
+pastOn l c date =
+    cond (eqb (c .date) date)
+    (record {
+      step = record {
+        before = c .held;
+        at = valueAt (c .word);
+        after = valueAfter (c .word);
+        passed = c .passed % 4294967296 + 1;
+      };
+      next = cursorAt l (c .passed % 4294967296 + 1) (valueAfter (c .word));
+    })
+    (record { step = heldOn (c .held) (c .passed); next = c })
 
 -- no word of the list stands among `room` words of the work area from `at` on
 abbrev pub apartIn : Memory → ℕ → ℕ → ℕ → ℕ → Bool

@@ -2,7 +2,7 @@
 ghost use mathlib.Core.Path.{_≡_};
 ghost use Prim.Native.Nat.{_<_, _-_, min};
 ghost use lib.ListN.{length};
-ghost use Rattle.sources.specs.Sources.{nextWord, sheetWord, listAt, passOn, apartFrom};
+ghost use Rattle.sources.specs.Sources.{nextWord, sheetWord, listAt, passOn, cursorAt, startOf, pastOn, apartFrom};
 use reading::Step;
 use signals::Date;
 
@@ -68,7 +68,7 @@ pub fn next_word(
         Memory::Sheet => word_on(sheet, at + 4 * passed),
         Memory::Work => word_in(work, at + passed),
         Memory::Left => word_in(left, at + passed),
-        Memory::Right => word_in(right, at + passed),
+        _ => word_in(right, at + passed),
     }
 }
 
@@ -107,6 +107,87 @@ pub fn apart(list: Source, at: u32, room: u32) -> bool
         Memory::Sheet => true,
         Memory::Left => true,
         Memory::Right => true,
+    }
+}
+
+// A reader of a list where it stands: the low 32 bits of the next word, its date, which is NEVER where none is left, the value held before
+// it, and how many words are passed.
+pub struct Cursor {
+    pub word: u32,
+    pub date: u32,
+    pub held: bool,
+    pub passed: usize,
+}
+
+// What passing a date finds, and the reader past it.
+pub struct Passed {
+    pub step: Step,
+    pub next: Cursor,
+}
+
+// The reader of a list of which so many words are passed, and the value held after them.
+pub fn cursor_at(
+    sheet: &[u8],
+    left: &[u32],
+    right: &[u32],
+    work: &[u32],
+    list: Source,
+    passed: usize,
+    held: bool,
+) -> Cursor
+    ensures { λ r. ⌜ r ≡ cursorAt (listAt (now (sheet .entry)) (now (left .entry)) (now (right .entry)) (now (work .entry)) list) passed held ⌝ }
+{
+    let word = next_word(sheet, left, right, work, list, passed);
+    Cursor {
+        word: (word % 4294967296) as u32,
+        date: (word / 4 % 4294967296) as u32,
+        held,
+        passed,
+    }
+}
+
+// The reader past the first word.
+pub fn start(sheet: &[u8], left: &[u32], right: &[u32], work: &[u32], list: Source) -> Cursor
+    ensures { λ r. ⌜ r ≡ startOf (listAt (now (sheet .entry)) (now (left .entry)) (now (right .entry)) (now (work .entry)) list) ⌝ }
+{
+    let first = next_word(sheet, left, right, work, list, 0);
+    cursor_at(sheet, left, right, work, list, 1, first % 2 == 1)
+}
+
+// Past a date: a word of that date is passed, and only then the next one is read.
+pub fn past(
+    sheet: &[u8],
+    left: &[u32],
+    right: &[u32],
+    work: &[u32],
+    list: Source,
+    at: Cursor,
+    date: Date,
+) -> Passed
+    ensures { λ r.
+        ⌜ r ≡ pastOn (listAt (now (sheet .entry)) (now (left .entry)) (now (right .entry)) (now (work .entry)) list) at (date .0) ⌝ }
+{
+    if at.date == date.0 {
+        let after = at.word % 2 == 1;
+        let passed = at.passed % 4294967296 + 1;
+        return Passed {
+            step: Step {
+                before: at.held,
+                at: at.word / 2 % 2 == 1,
+                after,
+                passed,
+            },
+            next: cursor_at(sheet, left, right, work, list, passed, after),
+        };
+    }
+    Passed {
+        step: Step {
+            before: at.held,
+            at: at.held,
+            after: at.held,
+            passed: at.passed,
+        },
+        next: at,
     }
 }
 
