@@ -62,8 +62,8 @@ unfolding pastDate
 next-state o table l m slot part made made′ bit i j d u v s eu ev es em ep = rw (em, ep, es, eu, ev)
 
 begun-is : (o : Operation) (table : Table) (l m slot : List ℕ) (p q : Bool) → p ≡ heldValue l 1 → q ≡ heldValue m 1
-    → (first : Shown) → first ≡ firstShown o table p q → (made : Made) (part now : List ℕ) → Begins (first .after) slot made part → now ≡ part
-    → reached now made (first .carried) 1 1 ≡ begunIn o table l m slot
+    → (first : Shown) → first ≡ firstShown o table p q → (made : Made) (part now : List ℕ) → Begins (first .after) slot made part
+    → now ≡ part → reached now made (first .carried) 1 1 ≡ begunIn o table l m slot
 unfolding begunIn
 begun-is o table l m slot p q ep eq first ef made part now eb en = rw (en, eb .0, eb .1, ef, ep, eq)
 

@@ -102,12 +102,13 @@ module _ (o : Operation) (table : Table) (sheet left right work : List ℕ) (a b
 
 -- two whole slices, in a slot of their own
 pub merged-slices : (o : Operation) (table : Table) (sheet a b slot : List ℕ) (made : Made) (after : List ℕ)
-    → BuiltAt o table sheet a b slot (record { memory = Left; at = 0; count = length a }) (record { memory = Right; at = 0; count = length b }) 0
-    made after
+    → BuiltAt o table sheet a b slot (record { memory = Left; at = 0; count = length a })
+    (record { memory = Right; at = 0; count = length b }) 0 made after
     → length slot ≡ mostWords → listFault a ≡ 0 → listFault b ≡ 0 → Words a → Words b
     → Built (exactOfTwo (merged o table) a b) slot after made
 merged-slices o table sheet a b slot made after (end, w, e) long ha hb wa wb =
-    rw (e ∙ only, ← whole) (merged-exact o table a b ha hb wa wb (slotIn slot 0 mostWords) end made (rw (take-length a, take-length b) at w))
+    rw (e ∙ only, ← whole)
+    (merged-exact o table a b ha hb wa wb (slotIn slot 0 mostWords) end made (rw (take-length a, take-length b) at w))
   where
     whole : slotIn slot 0 mostWords ≡ slot
     whole = take-all mostWords slot (omega arith)

@@ -23,8 +23,8 @@ fn earlier(x: u64, y: u64) -> u64
     if x / 4 < y / 4 { x / 4 } else { y / 4 }
 }
 
-// The merge of two lists, built in the slot from a place of the work area on: date by date, what the operation makes of both. The next words
-// are read before the answer's is stored.
+// The merge of two lists, built in the slot from a place of the work area on: date by date, what the operation makes of both. The next
+// words are read before the answer's is stored.
 fn merge(
     operation: Operation,
     table: [[bool; 2]; 2],

@@ -129,7 +129,8 @@ words-at sheet left right work s b l r w = go (s .memory)
   where
     go : (m : Memory) → Words (listFrom m sheet left right work (s .at) (s .count))
     go Sheet =
-        words-below (min (s .count) ((length sheet - s .at) / 4)) (drop (s .at) sheet) (λ k. rw (getD-drop (s .at) sheet k 0) (b (s .at + k)))
+        words-below (min (s .count) ((length sheet - s .at) / 4)) (drop (s .at) sheet)
+        (λ k. rw (getD-drop (s .at) sheet k 0) (b (s .at + k)))
     go Work = words-part work (s .at) (s .count) w
     go Left = words-part left (s .at) (s .count) l
     go Right = words-part right (s .at) (s .count) r

@@ -13,7 +13,8 @@ pub enum Memory {
     Right,
 }
 
-// A list that stands somewhere: its first byte on the sheet, or its first word elsewhere, and how many words it has, as far as they are there.
+// A list that stands somewhere: its first byte on the sheet, or its first word elsewhere, and how many words it has, as far as they are
+// there.
 pub struct Source {
     pub memory: Memory,
     pub at: u32,

@@ -10,7 +10,8 @@ use Rattle.signals.specs.Words.{mostWords, valueAfter}
 use Rattle.sources.specs.Sources.{listAt, nextWord, slotIn}
 use Rattle.sources.proofs.Going.{going-begin}
 use Rattle.merging.specs.Merging.{MayMerge}
-use Rattle.merging.proofs.MergeLoop.{Looping, reached, Started, started, looping-turn, looping-falls, looping-end, looping-long, looping-still}
+use Rattle.merging.proofs.MergeLoop.{Looping, reached, Started, started}
+use Rattle.merging.proofs.MergeLoop.{looping-turn, looping-falls, looping-end, looping-long, looping-still}
 use Rattle.merging.proofs.merge.Statement.{statement}
 use Rattle.merging.proofs.merge.Tie as tie
 
@@ -43,7 +44,10 @@ next-word-requires-4 : tie.Need-next-word-requires-4 Inv-loop μ-loop
 next-word-requires-4 c κs = search needs
 
 mul-begin : tie.Need-mul-begin Inv-loop μ-loop
-mul-begin c = let s = c .before .before .before .before .before .before .before .before .before .before .before .before .before in omega (arith, s .pre .2, s .good .1 .1 .1 .1 .1 .0 .1)
+mul-begin c =
+    let first = c .before .before .before .before .before .before .before in
+    let s = first .before .before .before .before .before .before in
+    omega (arith, s .pre .2, s .good .1 .1 .1 .1 .1 .0 .1)
 
 sub-begin : tie.Need-sub-begin Inv-loop μ-loop
 sub-begin c = search needs
@@ -52,7 +56,10 @@ part-begin-start : tie.Need-part-begin-start Inv-loop μ-loop
 part-begin-start c = search needs
 
 part-begin-end : tie.Need-part-begin-end Inv-loop μ-loop
-part-begin-end c = let s = c .before .before .before .before .before .before .before .before .before .before .before .before .before in omega (arith, s .pre .2)
+part-begin-end c =
+    let first = c .before .before .before .before .before .before .before in
+    let s = first .before .before .before .before .before .before in
+    omega (arith, s .pre .2)
 
 begin-requires : tie.Need-begin-requires Inv-loop μ-loop
 begin-requires c κs = search needs
@@ -61,24 +68,38 @@ earlier-requires : tie.Need-earlier-requires Inv-loop μ-loop
 earlier-requires c κs = search needs
 
 begins : (c : tie.After-earlier Inv-loop μ-loop)
-    → let x = c .before .before .before .before .before .before .before .before .before .before .before .before .before .before .before .before .before .before .args in
+    → let begun = c .before .before .before in
+    let fourth = begun .before .before in
+    let third = fourth .before .before in
+    let shown = third .before .before in
+    let second = shown .before in
+    let first = second .before .before in
+    let x = first .before .before .before .before .before .before .args in
     Started (x .operation) (x .table) (x .sheet .now) (x .left .now) (x .right .now) (x .work .now) (x .a) (x .b) (x .at)
-    (take (x .at) (x .work .now) ++ (c .before .before .before .begin .last .0 ++ drop (x .at + 256 - x .at) (drop (x .at) (x .work .now))))
-    (c .before .before .before .before .before .before .before .next-word3 .result) (c .before .before .before .before .before .next-word4 .result) (eqb (c .before .before .before .before .before .before .before .before .before .before .before .before .next-word .result % 2) 1)
-    (eqb (c .before .before .before .before .before .before .before .before .before .before .next-word2 .result % 2) 1) (c .before .before .before .begin .result) (c .before .before .before .before .before .before .before .before .before .first-shown .result .carried) (c .earlier .result)
+    (take (x .at) (x .work .now) ++ (begun .begin .last .0 ++ drop (x .at + 256 - x .at) (drop (x .at) (x .work .now))))
+    (third .next-word3 .result) (fourth .next-word4 .result) (eqb (first .next-word .result % 2) 1)
+    (eqb (second .next-word2 .result % 2) 1) (begun .begin .result) (shown .first-shown .result .carried) (c .earlier .result)
 unfolding valueAfter
 begins c =
-    let s = c .before .before .before .before .before .before .before .before .before .before .before .before .before .before .before .before .before .before in
+    let begun = c .before .before .before in
+    let fourth = begun .before .before in
+    let third = fourth .before .before in
+    let shown = third .before .before in
+    let second = shown .before in
+    let first = second .before .before in
+    let s = first .before .before .before .before .before .before in
     let x = s .args in
     started (x .operation) (x .table) (x .sheet .now) (x .left .now) (x .right .now) (x .work .now) (x .a) (x .b) (x .at) (s .pre)
     (s .good .1 .1 .1 .1 .1 .1 .0 .1 .1 .1 .1 .0 .1) (s .good .1 .1 .1 .1 .1 .1 .1 .0 .1 .1 .1 .1 .0 .1) _ _ _ _
-    (going-begin _ _ _ _ (c .before .before .before .before .before .before .before .before .before .before .before .before .next-word .ensures) refl (c .before .before .before .before .before .before .before .next-word3 .ensures))
-    (going-begin _ _ _ _ (c .before .before .before .before .before .before .before .before .before .before .next-word2 .ensures) refl (c .before .before .before .before .before .next-word4 .ensures)) _ (c .before .before .before .before .before .before .before .before .before .first-shown .ensures)
-    (x .at + 256 - x .at) (omega arith) _ _ (c .before .before .before .begin .ensures) (c .before .before .before .begin .kept .0) _ (c .earlier .ensures)
+    (going-begin _ _ _ _ (first .next-word .ensures) refl (third .next-word3 .ensures))
+    (going-begin _ _ _ _ (second .next-word2 .ensures) refl (fourth .next-word4 .ensures)) _ (shown .first-shown .ensures)
+    (x .at + 256 - x .at) (omega arith) _ _ (begun .begin .ensures) (begun .begin .kept .0) _ (c .earlier .ensures)
 
 loop-holds : tie.Need-loop-holds Inv-loop μ-loop
 loop-holds c =
-    let s = c .before .before .before .before .before .before .before .before .before .before .before .before .before .before .before .before .before .before in
+    let begun = c .before .before .before in
+    let shown = begun .before .before .before .before .before .before in
+    let s = shown .before .before .before .before .before .before .before .before .before in
     let z = begins c in (refl, (s .pre .0, s .pre .1, rw (z .long) (s .pre .2)), z .start)
 
 cast-loop : tie.Need-cast-loop Inv-loop μ-loop
@@ -103,7 +124,10 @@ next-word-requires-6 : tie.Need-next-word-requires-6 Inv-loop μ-loop
 next-word-requires-6 c κs = search needs
 
 mul-emit : tie.Need-mul-emit Inv-loop μ-loop
-mul-emit c = let s = c .before .before .before .before .before .before .before .before .before .before .before .before .before .before .before .before .before .before .before .before .before .before .before .before .before .before .before in omega (arith, s .pre .2, s .good .1 .1 .1 .1 .1 .0 .1)
+mul-emit c =
+    let shown = c .before .before .before .before .before .before .before .before .before .before .before .before .before .before .before in
+    let s = shown .before .before .before .before .before .before .before .before .before .before .before .before in
+    omega (arith, s .pre .2, s .good .1 .1 .1 .1 .1 .0 .1)
 
 sub-emit : tie.Need-sub-emit Inv-loop μ-loop
 sub-emit c = search needs
@@ -113,8 +137,8 @@ part-emit-start c = search needs
 
 part-emit-end : tie.Need-part-emit-end Inv-loop μ-loop
 part-emit-end c =
-    let at = c .before .before .before .before .before .before .before .before .loop .inv in
-    omega (arith, at .1 .2, looping-long _ _ _ _ _ _ _ (at .1 .2) _ _ _ _ _ _ _ _ _ _ (at .2))
+    let here = c .before .before .before .before .before .before .before .before .loop .inv in
+    omega (arith, here .1 .2, looping-long _ _ _ _ _ _ _ (here .1 .2) _ _ _ _ _ _ _ _ _ _ (here .2))
 
 emit-requires : tie.Need-emit-requires Inv-loop μ-loop
 emit-requires c κs = search needs
@@ -124,34 +148,43 @@ earlier-requires-2 c κs = search needs
 
 loop-less : tie.Need-loop-less Inv-loop μ-loop
 loop-less c =
-    let at = c .before .before .before .before .before .before .before .before .before .before .before .before .before .loop .inv in
-    looping-falls _ _ _ _ _ _ _ (at .1 .2) _ _ _ _ _ _ _ _ _ _ (at .2) (c .before .before .before .before .before .before .before .before .before .before .before .before .loop-test .taken) _ _ (c .before .before .before .before .before .before .before .before .before .before .before .pass .ensures)
+    let passed = c .before .before .before .before .before .before .before .before .before .before .before in
+    let here = passed .before .before .loop .inv in
+    looping-falls _ _ _ _ _ _ _ (here .1 .2) _ _ _ _ _ _ _ _ _ _ (here .2) (passed .before .loop-test .taken) _ _ (passed .pass .ensures)
     (c .before .before .before .before .before .before .before .before .before .before .pass2 .ensures)
 
 loop-again : tie.Need-loop-again Inv-loop μ-loop
 loop-again c =
-    let x = c .before .before .before .before .before .before .before .before .before .before .before .before .before .before .before .before .before .before .before .before .before .before .before .before .before .before .before .before .before .before .before .before .args in
-    let at = c .before .before .before .before .before .before .before .before .before .before .before .before .before .loop .inv in
-    let still = looping-still _ _ _ _ _ _ _ (at .1 .2) _ _ _ _ _ _ _ _ _ _ (at .2) (x .sheet .now) (x .left .now) (x .right .now) in (
-      at .0,
-      at .1,
-      looping-turn _ _ _ _ _ _ _ (at .1 .2) _ _ _ _ _ _ _ _ _ _ (at .2) (c .before .before .before .before .before .before .before .before .before .before .before .before .loop-test .taken) _ _ (c .before .before .before .before .before .before .before .before .before .before .before .pass .ensures)
-          (c .before .before .before .before .before .before .before .before .before .before .pass2 .ensures) _ (c .before .before .before .before .before .before .before .before .before .date-shown .ensures) _ _
-          (c .before .before .before .before .before .before .before .next-word5 .ensures ∙ ap (λ (l : List ℕ). nextWord l (c .before .before .before .before .before .before .before .before .before .before .before .pass .result .passed)) (still (x .a) (at .1 .0)))
-          (c .before .before .before .before .before .next-word6 .ensures ∙ ap (λ (l : List ℕ). nextWord l (c .before .before .before .before .before .before .before .before .before .before .pass2 .result .passed)) (still (x .b) (at .1 .1)))
-          (x .at + 256 - x .at) (omega arith) _ _ (c .before .before .before .emit .ensures) (c .before .before .before .emit .kept .0) _ (c .earlier2 .ensures),
+    let emitted = c .before .before .before in
+    let second = emitted .before .before in
+    let first = second .before .before in
+    let shown = first .before .before in
+    let other = shown .before in
+    let passed = other .before in
+    let at = passed .before .before in
+    let here = at .loop .inv in
+    let told = at .before .before .before .before .before .before .before .before .before .before in
+    let x = told .before .before .before .before .before .before .before .before .before .args in
+    let still = looping-still _ _ _ _ _ _ _ (here .1 .2) _ _ _ _ _ _ _ _ _ _ (here .2) (x .sheet .now) (x .left .now) (x .right .now) in (
+      here .0,
+      here .1,
+      looping-turn _ _ _ _ _ _ _ (here .1 .2) _ _ _ _ _ _ _ _ _ _ (here .2) (passed .before .loop-test .taken) _ _ (passed .pass .ensures)
+          (other .pass2 .ensures) _ (shown .date-shown .ensures) _ _
+          (first .next-word5 .ensures ∙ ap (λ (l : List ℕ). nextWord l (passed .pass .result .passed)) (still (x .a) (here .1 .0)))
+          (second .next-word6 .ensures ∙ ap (λ (l : List ℕ). nextWord l (other .pass2 .result .passed)) (still (x .b) (here .1 .1)))
+          (x .at + 256 - x .at) (omega arith) _ _ (emitted .emit .ensures) (emitted .emit .kept .0) _ (c .earlier2 .ensures),
     )
 
 same-length : tie.Need-same-length Inv-loop μ-loop
 same-length c =
-    let at = c .before .loop .inv in
-    looping-long _ _ _ _ _ _ _ (at .1 .2) _ _ _ _ _ _ _ _ _ _ (at .2) ∙ begins (c .before .before) .long
+    let here = c .before .loop .inv in
+    looping-long _ _ _ _ _ _ _ (here .1 .2) _ _ _ _ _ _ _ _ _ _ (here .2) ∙ begins (c .before .before) .long
 
 returns : tie.Need-returns Inv-loop μ-loop
 returns c =
-    let at = c .before .loop .inv in
-    begins (c .before .before) .builds _ _ (at .2 .slot) (at .2 .now-is)
-    (looping-end _ _ _ _ _ _ _ (at .1 .2) _ _ _ _ _ _ _ _ _ _ (at .2) (c .loop-test .left) _ refl)
+    let here = c .before .loop .inv in
+    begins (c .before .before) .builds _ _ (here .2 .slot) (here .2 .now-is)
+    (looping-end _ _ _ _ _ _ _ (here .1 .2) _ _ _ _ _ _ _ _ _ _ (here .2) (c .loop-test .left) _ refl)
 
 pub merge-spec : {M : Type 1} → statement M
 merge-spec =

@@ -35,10 +35,15 @@ same-length c = search needs
 
 returns : tie.Need-returns
 returns c =
-    let x = c .before .before .before .before .before .before .before .before .before .before .before .before .before .before .args in
+    let merged = c .before .before .before in
+    let fits = merged .before .before in
+    let second = fits .before in
+    let first = second .before .before in
+    let apart = first .before in
+    let x = apart .before .before .before .before .before .args in
     begins (x .operation) (x .table) (x .sheet .now) (x .left .now) (x .right .now) (x .work .now) (x .a) (x .b) (x .at)
-    (sym (c .before .before .before .before .before .before .before .before .before .apart .ensures) ∙ c .before .before .before .before .before .before .before .before .if1 .taken, sym (c .before .before .before .before .before .before .before .apart2 .ensures) ∙ c .before .before .before .before .before .before .if2 .taken, c .before .before .before .before .before .if3 .taken) _ _
-    (c .before .before .before .merge .ensures) _ (c .finish .ensures)
+    (sym (apart .apart .ensures) ∙ first .if1 .taken, sym (second .before .apart2 .ensures) ∙ second .if2 .taken, fits .if3 .taken) _ _
+    (merged .merge .ensures) _ (c .finish .ensures)
 
 returns-2 : tie.Need-returns-2
 returns-2 c =
@@ -48,12 +53,14 @@ returns-2 c =
 returns-3 : tie.Need-returns-3
 returns-3 c =
     let x = c .before .before .before .before .before .before .before .before .args in
-    second-touches (x .operation) (x .table) (x .sheet .now) (x .left .now) (x .right .now) (x .work .now) (x .a) (x .b) (x .at) _ (c .before .apart2 .ensures) (c .if2 .left)
+    second-touches (x .operation) (x .table) (x .sheet .now) (x .left .now) (x .right .now) (x .work .now) (x .a) (x .b) (x .at)
+    _ (c .before .apart2 .ensures) (c .if2 .left)
 
 returns-4 : tie.Need-returns-4
 returns-4 c =
     let x = c .before .before .before .before .before .before .args in
-    first-touches (x .operation) (x .table) (x .sheet .now) (x .left .now) (x .right .now) (x .work .now) (x .a) (x .b) (x .at) _ (c .before .apart .ensures) (c .if1 .left)
+    first-touches (x .operation) (x .table) (x .sheet .now) (x .left .now) (x .right .now) (x .work .now) (x .a) (x .b) (x .at)
+    _ (c .before .apart .ensures) (c .if1 .left)
 
 pub merge-at-spec : {M : Type 1} → statement M
 merge-at-spec =

@@ -49,13 +49,15 @@ same-length c = search needs
 returns-2 : tie.Need-returns-2
 unfolding faultOfTwo
 returns-2 c =
-    let z = c .before .before .before .before .before .before .before .before .before in
+    let merged = c .before .before .before .before .before .before in
+    let z = merged .before .before .before in
     let x = z .before .before .before .before .before .args in
     let none = sym (z .before .pair-fault .ensures) ∙ z .if1 .left in
     let ok = pair-none _ _ none in
     let built =
-    merged-slices (x .operation) (x .table) [] (x .a .now) (x .b .now) (replicate 256 0) _ _ (c .before .before .before .before .before .before .merge .ensures) refl (ok .0) (ok .1)
-    (λ i. z .before .before .before .before .shared-slice-known .given i .fits) (λ i. z .before .before .before .shared-slice-known2 .given i .fits) in
+    merged-slices (x .operation) (x .table) [] (x .a .now) (x .b .now) (replicate 256 0) _ _ (merged .merge .ensures) refl (ok .0) (ok .1)
+    (λ i. z .before .before .before .before .shared-slice-known .given i .fits)
+    (λ i. z .before .before .before .shared-slice-known2 .given i .fits) in
     passes-on _ _ _ _ _ _ none
     (delivered _ _ _ _ built (omega arith) (omega arith) (x .out .now) _ _ (c .before .before .deliver .ensures))
 

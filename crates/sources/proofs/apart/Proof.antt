@@ -19,7 +19,8 @@ add-if1 c = search needs
 returns : tie.Need-returns
 returns c =
     let x = c .before .before .before .before .before .args in
-    ends-before (x .list .memory) (x .list .at) (x .list .count) (x .at) (x .room) (c .before .before .before .enum-told .given .1) (c .if1 .taken)
+    ends-before (x .list .memory) (x .list .at) (x .list .count) (x .at) (x .room)
+    (c .before .before .before .enum-told .given .1) (c .if1 .taken)
 
 add-result : tie.Need-add-result
 add-result c = search needs
@@ -39,7 +40,8 @@ enum-told-4 c = search needs
 returns-2 : tie.Need-returns-2
 returns-2 c =
     let x = c .before .before .before .before .before .before .args in
-    begins-after (x .list .memory) (x .list .at) (x .list .count) (x .at) (x .room) (c .before .before .before .before .enum-told .given .1) (c .before .if1 .left)
+    begins-after (x .list .memory) (x .list .at) (x .list .count) (x .at) (x .room)
+    (c .before .before .before .before .enum-told .given .1) (c .before .if1 .left)
 
 returns-3 : tie.Need-returns-3
 returns-3 c = search needs
