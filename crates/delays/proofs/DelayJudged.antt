@@ -19,7 +19,7 @@ use Rattle.building.specs.declared.SlotAnswer.{SlotAnswer}
 use Rattle.building.specs.declared.SlotAnswer.the-variants.{NotBegun}
 use Rattle.sources.specs.Sources.{listAt, apartFrom}
 use Rattle.sources.specs.declared.Source.{Source}
-use Rattle.delays.specs.DelayAt.{DelayedIn, delayBegins, DelayedAt}
+use Rattle.delays.specs.DelayAt.{DelayedIn, mayDelay, DelayedAt}
 
 pub fault-order : (operation : Signal → Signal) (d : ℕ) (l : List ℕ) (n : ℕ)
     → firstOf (firstOf (listFault l) (lengthFault d)) (answerFault (exactOfDelay operation d l) n) ≡ faultOfDelay operation d l n
@@ -40,31 +40,35 @@ neither f l d e z h = sym (next-is (listFault l) (lengthFault d) (sym e ∙ z) �
 
 -- the tests that a delay in a slot of the work area makes before it begins
 module _ (d : ℕ) (f : Source) (at room : ℕ) where
-  pub too-long : M < d → false ≡ delayBegins d f at room
-  unfolding delayBegins
+  pub too-long : M < d → false ≡ mayDelay d f at room
+  unfolding mayDelay
   too-long h = rw (lt-leb d M h)
 
-  pub begins-all : delayBegins d f at room ≡ true → (d ≤ M) × (at + mostWords ≤ room) × (apartFrom f at mostWords ≡ true)
-  unfolding delayBegins
-  begins-all e =
+  pub may-all : mayDelay d f at room ≡ true → (d ≤ M) × (at + mostWords ≤ room) × (apartFrom f at mostWords ≡ true)
+  unfolding mayDelay
+  may-all e =
       let fits = and-right (leb d M) (leb (at + mostWords) room && apartFrom f at mostWords) e in (
         leb-true d M (and-left (leb d M) (leb (at + mostWords) room && apartFrom f at mostWords) e),
         leb-true (at + mostWords) room (and-left (leb (at + mostWords) room) (apartFrom f at mostWords) fits),
         and-right (leb (at + mostWords) room) (apartFrom f at mostWords) fits,
       )
 
+  pub may-delay : d ≤ M → at + mostWords ≤ room → apartFrom f at mostWords ≡ true → mayDelay d f at room ≡ true
+  unfolding mayDelay
+  may-delay h r e = rw (le-leb d M h, le-leb (at + mostWords) room r, e)
+
   module _ (h : d ≤ M) where
-    pub no-room : room < at + mostWords → false ≡ delayBegins d f at room
-    unfolding delayBegins
+    pub no-room : room < at + mostWords → false ≡ mayDelay d f at room
+    unfolding mayDelay
     no-room r = rw (le-leb d M h, lt-leb (at + mostWords) room r)
 
-    pub apart-or-not : at + mostWords ≤ room → apartFrom f at mostWords ≡ delayBegins d f at room
-    unfolding delayBegins
+    pub apart-or-not : at + mostWords ≤ room → apartFrom f at mostWords ≡ mayDelay d f at room
+    unfolding mayDelay
     apart-or-not r = rw (le-leb d M h, le-leb (at + mostWords) room r)
 
 -- the whole call, by whether it begins
 module _ (level : Bool) (d : ℕ) (sheet left right work : List ℕ) (f : Source) (at : ℕ) (begins : Bool)
-    (e : begins ≡ delayBegins d f at (length work))
+    (e : begins ≡ mayDelay d f at (length work))
   where
     pub at-rest : begins ≡ false → DelayedAt level d sheet left right work f at NotBegun work
     at-rest n = record { refused = λ z. (refl, refl); built = λ z. true-false (sym z ∙ sym e ∙ n) }

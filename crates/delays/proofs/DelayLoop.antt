@@ -2,15 +2,15 @@
 use Prim.Native.Nat.{ℕ, _+_, _≤_, _<_}
 use native.Mathlib.Omega.{arith}
 use mathlib.Core.Path.{_≡_, refl, sym, _∙_, ap, subst}
-use mathlib.Core.Bool.{Bool, true, false, not}
+use mathlib.Core.Bool.{Bool, true, false}
 use mathlib.Core.List.{List}
 use lib.ListN.{length, drop, set}
-use Rattle.signals.specs.Moment.{M, gap, instant}
+use Rattle.signals.specs.Moment.{M, gap}
 use Rattle.signals.specs.Signal.{Signal, num}
-use Rattle.signals.specs.Words.{signalOf, lastDate, listOf, listFault}
-use Rattle.signals.specs.Passing.{heldValue, atDate, afterDate, passedDate}
+use Rattle.signals.specs.Words.{signalOf, lastDate, listFault}
+use Rattle.signals.specs.Passing.{heldValue, atDate, afterDate}
 use Rattle.signals.specs.Settled.{SettledFrom}
-use Rattle.signals.specs.Quantified.{Up, Down}
+use Rattle.signals.specs.Quantified.{Down}
 use Rattle.signals.proofs.Truth.{not-both}
 use Rattle.signals.proofs.Scan.{Held}
 use Rattle.signals.proofs.Operand.{At, Passed, at-pass, at-end, value-held}

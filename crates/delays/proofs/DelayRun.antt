@@ -4,38 +4,27 @@ use Prim.Native.Nat.{ℕ, _+_, _/_, _%_, _-_, _≤_, _<_}
 use native.Mathlib.Omega.{arith}
 use native.Mathlib.Nat.{mod-eq-of-lt}
 use mathlib.Core.Path.{_≡_, refl, sym, _∙_, ap, subst}
-use mathlib.Core.Bool.{Bool, true, false, cond, _&&_}
+use mathlib.Core.Bool.{Bool, true, false, cond}
 use mathlib.Core.List.{List}
-use lib.Dec.{ltb, eqb}
-use lib.ListN.{length, getD, set, length-set}
+use lib.Dec.{ltb}
+use lib.ListN.{length, set, length-set}
 use borrow.Author.Tests.{ltb-true, ltb-false}
 use Rattle.slices.specs.Bytes.{Words}
 use Rattle.signals.specs.Signal.{num}
-use Rattle.signals.specs.Words.{mostWords, dateOf, valueAfter, word}
-use Rattle.signals.specs.Passing.{heldValue, isNext, passedDate}
+use Rattle.signals.specs.Words.{mostWords, valueAfter, word}
 use Rattle.reading.specs.Reading.{NEVER, nextDate, stepPast}
 use Rattle.reading.specs.declared.Step.{Step}
 use Rattle.building.specs.Building.{idle, stores, emitted, emittedIn, begun}
 use Rattle.building.specs.declared.Made.{Made}
 use Rattle.timing.specs.Delay.{firstTimer, onLevel}
 use Rattle.timing.specs.declared.Timer.{Timer}
-use Rattle.sources.specs.Sources.{noWord, nextWord, passOn, listAt, apartFrom, slotIn, withSlot}
+use Rattle.sources.specs.Sources.{nextWord, passOn, listAt, apartFrom, slotIn, withSlot}
 use Rattle.sources.specs.declared.Source.{Source}
-use Rattle.sources.proofs.SourceWords.{word-left, no-word-left, at-most}
-use Rattle.sources.proofs.Sourcing.{
-  next-word-date,
-  pass-is-step,
-  held-after,
-  first-held,
-  slot-kept,
-  slot-long,
-  slot-back,
-  slot-again,
-  with-slot-long,
-  apart-kept,
-}
+use Rattle.sources.proofs.SourceWords.{word-left, no-word-left}
+use Rattle.sources.proofs.Sourcing.{next-word-date, list-short, slot-kept, slot-long, slot-back, slot-again, with-slot-long, apart-kept}
+use Rattle.sources.proofs.Going.{Going, going-begin, going-step, going-on}
 use Rattle.delays.specs.Upcoming.{upcomingDate, laterDate}
-use Rattle.delays.specs.Turns.{State, state, shownAt, firstState, stateWith, stateAfter, stateBy, nextState, Delays, done, turn}
+use Rattle.delays.specs.Turns.{State, stateOf, shownAt, firstState, stateWith, stateAfter, stateBy, nextState, Delays, done, turn}
 use Rattle.delays.specs.DelayAt.{DelayedIn}
 use Rattle.delays.specs.declared.Shown.{Shown}
 
@@ -48,16 +37,6 @@ emitted-length slot made date at after = go (idle (made .value) at after) (store
     go true u = refl
     go false true = length-set slot (made .count) (word date at after)
     go false false = refl
-
--- no more words are passed than there are
-passed-small : (l : List ℕ) (i d n : ℕ) → i < n → length l < n → passedDate l i d < n
-unfolding passedDate isNext
-passed-small l i d n h k = go (ltb i (length l)) (eqb (dateOf (getD l i 0)) d) refl
-  where
-    go : (t u : Bool) → ltb i (length l) ≡ t → cond (t && u) (i + 1) i < n
-    go true true e = let q = ltb-true i (length l) e in omega arith
-    go true false e = h
-    go false u e = h
 
 -- the next word's date is a date
 next-date : (l : List ℕ) (i : ℕ) → Words l → nextWord l i / 4 % 4294967296 ≡ nextDate l i
@@ -82,25 +61,26 @@ pub record Running (level : Bool) (d : ℕ) (l old : List ℕ) (at : ℕ) (start
   pub slot : List ℕ
   pub full : length slot ≡ mostWords
   pub work-is : work ≡ withSlot old at mostWords slot
-  pub held-is : held ≡ heldValue l passed
-  pub word-is : word ≡ nextWord l passed
-  pub small : passed < 4294967296
-  pub leads : (t : State) → Delays level d l (state passed timer made date slot) t → Delays level d l start t
+  pub going : Going l word held passed
+  pub leads : (t : State) → Delays level d l (stateOf passed timer made date slot) t → Delays level d l start t
 
 -- the loop's first date, and what its last one gives
 pub record Started (level : Bool) (d : ℕ) (sheet left right old : List ℕ) (f : Source) (at : ℕ) (work : List ℕ) (held : Bool) (word : ℕ)
     (timer : Timer) (made : Made) (date : ℕ) : Type 0 where
   pub placed : Placed sheet left right work f at
-  pub running : Running level d (listAt sheet left right work f) work at (state 1 timer made date (slotIn work at mostWords)) work held 1
+  pub running : Running level d (listAt sheet left right work f) work at (stateOf 1 timer made date (slotIn work at mostWords)) work held 1
       word timer made date
   pub ends : (work' : List ℕ) (held' : Bool) (passed' word' : ℕ) (timer' : Timer) (made' : Made) (date' : ℕ)
-      → Running level d (listAt sheet left right work f) work at (state 1 timer made date (slotIn work at mostWords)) work' held' passed'
+      → Running level d (listAt sheet left right work f) work at (stateOf 1 timer made date (slotIn work at mostWords)) work' held' passed'
       word' timer' made' date' → NEVER ≤ date'
       → DelayedIn level d (listAt sheet left right old f) old at made' work'
 
 module _ (level : Bool) (d : ℕ) (sheet left right old : List ℕ) (f : Source) (at : ℕ) (p : Placed sheet left right old f at) where
   abbrev list : List ℕ
   list = listAt sheet left right old f
+
+  short : length list < 4294967296
+  short = omega (arith, list-short sheet left right old f, p .few)
 
   pub running-length : (start : State) (work : List ℕ) (held : Bool) (passed word : ℕ) (timer : Timer) (made : Made) (date : ℕ)
       → Running level d list old at start work held passed word timer made date → length work ≡ length old
@@ -120,7 +100,7 @@ module _ (level : Bool) (d : ℕ) (sheet left right old : List ℕ) (f : Source)
       (date' : ℕ) (e6 : date' ≡ laterDate date next)
     where
       step-is : step ≡ stepPast list passed date
-      step-is = e0 ∙ rw (r .word-is, r .held-is) (pass-is-step list passed date h (r .small))
+      step-is = going-step list word held passed (r .going) date h step e0
 
       same : listAt sheet left right work f ≡ list
       same = rw (r .work-is) (apart-kept old at mostWords (p .fits) (r .slot) (r .full) sheet left right f (p .apart))
@@ -140,12 +120,13 @@ module _ (level : Bool) (d : ℕ) (sheet left right old : List ℕ) (f : Source)
           (e5 ∙ ap (λ (n : ℕ). upcomingDate n (shown .timer))
           (ap (λ (w : ℕ). w / 4 % 4294967296) word-next ∙ next-date list (step .passed) (p .words)))
 
-      by-step : state (step .passed) (shown .timer) made' date' slot' ≡ stateBy level d list (state passed timer made date (r .slot)) step
-      by-step = rw (e3, date-next) (ap (stateAfter list (state passed timer made date (r .slot)) (step .passed)) e1)
+      by-step : stateOf (step .passed) (shown .timer) made' date' slot'
+          ≡ stateBy level d list (stateOf passed timer made date (r .slot)) step
+      by-step = rw (e3, date-next) (ap (stateAfter list (stateOf passed timer made date (r .slot)) (step .passed)) e1)
 
-      leads-on : state (step .passed) (shown .timer) made' date' slot' ≡ nextState level d list (state passed timer made date (r .slot))
+      leads-on : stateOf (step .passed) (shown .timer) made' date' slot' ≡ nextState level d list (stateOf passed timer made date (r .slot))
       unfolding nextState
-      leads-on = by-step ∙ ap (stateBy level d list (state passed timer made date (r .slot))) step-is
+      leads-on = by-step ∙ ap (stateBy level d list (stateOf passed timer made date (r .slot))) step-is
 
       pub running-turn : Running level d list old at start work' (step .after) (step .passed) word' (shown .timer) made' date'
       running-turn =
@@ -156,11 +137,7 @@ module _ (level : Bool) (d : ℕ) (sheet left right old : List ℕ) (f : Source)
                 e4 ∙ ap (λ (s : List ℕ). withSlot work at mostWords (emittedIn s made date (shown .at) (shown .after))) there
                 ∙ ap (λ (w : List ℕ). withSlot w at mostWords slot') (r .work-is)
                 ∙ slot-again old at mostWords (p .fits) (r .slot) (r .full) slot';
-            held-is = rw step-is (sym (held-after list passed date));
-            word-is = word-next;
-            small =
-                rw step-is (passed-small list passed date 4294967296 (r .small)
-                (omega (arith, at-most sheet left right old (f .at) (f .count) 0 (f .memory), p .few)));
+            going = going-on list word held passed (r .going) date h step e0 short word' word-next;
             leads = λ t q. r .leads t (turn h (subst (λ (s : State). Delays level d list s t) leads-on q));
           }
 
@@ -171,8 +148,8 @@ module _ (level : Bool) (d : ℕ) (sheet left right old : List ℕ) (f : Source)
       (work : List ℕ) (e6 : work ≡ withSlot old at mostWords (set (slotIn old at mostWords) 0 (num shown)))
       (next : ℕ) (e7 : next ≡ upcomingDate (word / 4 % 4294967296) timer) (date : ℕ) (e8 : date ≡ laterDate 0 next)
     where
-      held-first : valueAfter first ≡ heldValue list 1
-      held-first = ap valueAfter e0 ∙ first-held list
+      going : Going list word (valueAfter first) 1
+      going = going-begin list first word (valueAfter first) e0 refl e1
 
       one-full : length (set (slotIn old at mostWords) 0 (num shown)) ≡ mostWords
       one-full = length-set (slotIn old at mostWords) 0 (num shown) ∙ slot-long old at mostWords (p .fits)
@@ -185,7 +162,7 @@ module _ (level : Bool) (d : ℕ) (sheet left right old : List ℕ) (f : Source)
       length-same = rw e6 (with-slot-long old at mostWords (p .fits) (set (slotIn old at mostWords) 0 (num shown)) one-full)
 
       abbrev start : State
-      start = state 1 timer made date (slotIn work at mostWords)
+      start = stateOf 1 timer made date (slotIn work at mostWords)
 
       still : Placed sheet left right work f at
       still = record { fits = rw length-same (p .fits); apart = p .apart; words = rw list-same (p .words); few = p .few }
@@ -204,7 +181,8 @@ module _ (level : Bool) (d : ℕ) (sheet left right old : List ℕ) (f : Source)
       start-is : start ≡ firstState level d list (slotIn old at mostWords)
       unfolding firstState
       start-is =
-          by-timer ∙ ap (stateWith level list (slotIn old at mostWords)) (e3 ∙ ap (firstTimer level d) (e2 ∙ ap (onLevel level) held-first))
+          by-timer
+          ∙ ap (stateWith level list (slotIn old at mostWords)) (e3 ∙ ap (firstTimer level d) (e2 ∙ ap (onLevel level) (going .held-is)))
 
       pub started : Started level d sheet left right old f at work (valueAfter first) word timer made date
       started =
@@ -214,15 +192,13 @@ module _ (level : Bool) (d : ℕ) (sheet left right old : List ℕ) (f : Source)
               slot = slotIn work at mostWords;
               full = slot-long work at mostWords (still .fits);
               work-is = sym (slot-kept work at mostWords (still .fits));
-              held-is = rw list-same held-first;
-              word-is = rw list-same e1;
-              small = omega arith;
+              going = rw list-same going;
               leads = λ t q. q;
             };
             ends = λ work' held' passed' word' timer' made' date' r h. record {
-              last = state passed' timer' made' date' (r .slot);
+              last = stateOf passed' timer' made' date' (r .slot);
               runs =
-                  subst (λ (s : State). Delays level d list s (state passed' timer' made' date' (r .slot))) start-is
+                  subst (λ (s : State). Delays level d list s (stateOf passed' timer' made' date' (r .slot))) start-is
                   (rw list-same at (r .leads _ (done h)));
               made-is = refl;
               work-is =

@@ -1,13 +1,13 @@
 -- The date that a delay looks at next: after the date passed, not after the next word's nor the pending one, within the horizon.
-use Prim.Native.Nat.{ℕ, zero, suc, _+_, _*_, _-_, _≤_, _<_}
+use Prim.Native.Nat.{ℕ, zero, suc, _+_, _≤_, _<_}
 use native.Mathlib.Omega.{arith}
-use mathlib.Core.Path.{_≡_, refl, sym, _∙_, ap, subst}
-use mathlib.Core.Bool.{Bool, true, false, cond}
+use mathlib.Core.Path.{_≡_, refl, _∙_, ap, subst}
+use mathlib.Core.Bool.{Bool, true, false}
 use mathlib.Core.List.{List, [], _∷_}
-use lib.Dec.{leb, ltb, eqb}
+use lib.Dec.{ltb}
 use lib.ListN.{length, getD, drop}
 use borrow.Author.Tests.{ltb-true, ltb-false, lt-ltb, le-ltb}
-use Rattle.signals.specs.Moment.{M, gap, instant}
+use Rattle.signals.specs.Moment.{M, gap}
 use Rattle.signals.specs.Signal.{Signal}
 use Rattle.signals.specs.Words.{dateOf, lastFrom, lastDate}
 use Rattle.signals.specs.Normal.{Rising}

@@ -1,16 +1,15 @@
 -- The delay of an accepted list, built from date to date, is the exact answer: its dates rise, so that it ends where none is left.
-use Prim.Native.Nat.{ℕ, _+_, _≤_, _<_}
+use Prim.Native.Nat.{ℕ, _≤_, _<_}
 use native.Mathlib.Omega.{arith}
-use mathlib.Core.Path.{_≡_, refl, sym, _∙_, ap, subst}
+use mathlib.Core.Path.{_≡_, refl, _∙_, ap, subst}
 use mathlib.Core.Bool.{Bool, true}
 use mathlib.Core.List.{List, _++_, append-nil}
 use lib.ListN.{length, take, drop, drop-of-length-le}
 use lib.Seq.{take-all}
-use Rattle.slices.specs.Bytes.{Words}
+use Rattle.slices.specs.Bytes.{Bytes, Words}
 use Rattle.signals.specs.Moment.{M}
 use Rattle.signals.specs.Words.{mostWords, listFault}
 use Rattle.operations.specs.Calls.{exactOfDelay}
-use Rattle.operations.specs.CallFaults.{Words32}
 use Rattle.operations.proofs.NeverMet.{last-32}
 use Rattle.reading.specs.Reading.{NEVER}
 use Rattle.building.specs.Building.{Built, slotWith}
@@ -20,12 +19,13 @@ use Rattle.building.specs.declared.SlotAnswer.{SlotAnswer}
 use Rattle.building.proofs.JudgedSlots.{built-answer}
 use Rattle.timing.specs.Delay.{delayOf}
 use Rattle.timing.specs.declared.Timer.{Timer}
-use Rattle.sources.specs.Sources.{listAt, apartFrom, slotIn, withSlot}
+use Rattle.sources.specs.Sources.{listAt, slotIn, withSlot}
 use Rattle.sources.specs.declared.Source.{Source}
-use Rattle.delays.specs.Upcoming.{upcomingDate, laterDate, upcomingAfter}
+use Rattle.sources.proofs.Sourcing.{words-at}
+use Rattle.delays.specs.Upcoming.{laterDate}
 use Rattle.delays.specs.Turns.{State, shownAt, firstState, nextState, Delays, done, turn}
-use Rattle.delays.specs.DelayAt.{DelayedIn, DelayedAt}
-use Rattle.delays.proofs.DelayJudged.{apart-or-not}
+use Rattle.delays.specs.DelayAt.{mayDelay, DelayedIn, DelayedAt}
+use Rattle.delays.proofs.DelayJudged.{may-all}
 use Rattle.delays.proofs.DelayUpcoming.{later-date}
 use Rattle.delays.proofs.DelayLoop.{Delaying, delaying-begin, delaying-turn, delaying-done, next}
 
@@ -40,11 +40,11 @@ rises level d l old slot passed s made last date i e =
     (later-date last date (omega (arith, next level d l old slot passed s made date i .later))) i
 
 module _ (level : Bool) (d : ℕ) (l old : List ℕ) where
-  first-delaying : listFault l ≡ 0 → d ≤ M → Words32 l → DelayingIn level d l old (firstState level d l old)
+  first-delaying : listFault l ≡ 0 → d ≤ M → Words l → DelayingIn level d l old (firstState level d l old)
   unfolding firstState
   first-delaying accepted short small =
       rises level d l old _ _ _ _ 0 _
-      (delaying-begin level d l old accepted short (last-32 l small) _ refl _ refl _ refl _ refl _ refl _ refl) (omega arith)
+      (delaying-begin level d l old accepted short (last-32 l (λ i h. small i)) _ refl _ refl _ refl _ refl _ refl _ refl) (omega arith)
 
   next-delaying : (s : State) → s .date < NEVER → DelayingIn level d l old s → DelayingIn level d l old (nextState level d l s)
   unfolding nextState shownAt
@@ -58,7 +58,7 @@ module _ (level : Bool) (d : ℕ) (l old : List ℕ) where
   runs-exact {s} (done h) i = delaying-done level d l old (s .slot) (s .passed) (s .timer) (s .made) (s .date) i h
   runs-exact {s} (turn h r) i = runs-exact r (next-delaying s h i)
 
-  pub delayed-exact : listFault l ≡ 0 → d ≤ M → Words32 l → (t : State) → Delays level d l (firstState level d l old) t
+  pub delayed-exact : listFault l ≡ 0 → d ≤ M → Words l → (t : State) → Delays level d l (firstState level d l old) t
       → Built (exactOfDelay (delayOf level d) d l) old (t .slot) (t .made)
   delayed-exact accepted short small t r = runs-exact r (first-delaying accepted short small)
 
@@ -67,7 +67,7 @@ delayed-in : (level : Bool) (d : ℕ) (l work : List ℕ) (at : ℕ) (made : Mad
     → (r : DelayedIn level d l work at made after)
     → Built (exactOfDelay (delayOf level d) d l) (slotIn work at mostWords) (r .last .slot) made
 delayed-in level d l work at made after accepted short small r =
-    rw (r .made-is) (delayed-exact level d l (slotIn work at mostWords) accepted short (λ i h. small i) (r .last) (r .runs))
+    rw (r .made-is) (delayed-exact level d l (slotIn work at mostWords) accepted short small (r .last) (r .runs))
 
 -- in a work area that is one slot
 pub delayed-whole : (level : Bool) (d : ℕ) (l work : List ℕ) (made : Made) (after : List ℕ) → length work ≡ mostWords → listFault l ≡ 0
@@ -78,17 +78,20 @@ delayed-whole level d l work made after long accepted short small r =
     ap (λ (rest : List ℕ). r .last .slot ++ rest) (drop-of-length-le work {i = mostWords} (omega arith)) ∙ append-nil (r .last .slot) in
     rw (r .work-is ∙ none) (rw all at (delayed-in level d l work 0 made after accepted short small r))
 
--- What a delay in a slot of the work area gives where its operand is an accepted list: the exact answer, if that has no fault.
-pub delayed-at-exact : (level : Bool) (d : ℕ) (sheet left right work : List ℕ) (f : Source) (at : ℕ) (answer : SlotAnswer) (after : List ℕ)
-    → DelayedAt level d sheet left right work f at answer after
-    → d ≤ M → at + mostWords ≤ length work → apartFrom f at mostWords ≡ true
-    → listFault (listAt sheet left right work f) ≡ 0 → Words (listAt sheet left right work f)
-    → (answer ≡ builtAnswer (exactOfDelay (delayOf level d) d (listAt sheet left right work f)))
-    × (after ≡ withSlot work at mostWords
-    (slotWith (exactOfDelay (delayOf level d) d (listAt sheet left right work f)) (slotIn work at mostWords)))
-delayed-at-exact level d sheet left right work f at answer after r short room apart accepted small =
-    let ran = r .built (sym (apart-or-not d f at (length work) short room) ∙ apart) in
-    let b = delayed-in level d (listAt sheet left right work f) work at (ran .0) after accepted short small (ran .1) in (
-      ran .2 ∙ built-answer _ _ _ _ b,
-      ran .1 .work-is ∙ ap (withSlot work at mostWords) (b .slot-is),
-    )
+-- What a delay in a slot of the work area gives where its operand is an accepted list: the exact answer, judged.
+module _ (level : Bool) (d : ℕ) (sheet left right work : List ℕ) (f : Source) (at : ℕ) where
+  abbrev exact : List ℕ
+  exact = exactOfDelay (delayOf level d) d (listAt sheet left right work f)
+
+  pub delayed-at : (answer : SlotAnswer) (after : List ℕ) → DelayedAt level d sheet left right work f at answer after
+      → mayDelay d f at (length work) ≡ true → Bytes sheet → Words left → Words right → Words work
+      → listFault (listAt sheet left right work f) ≡ 0
+      → (answer ≡ builtAnswer exact) × (after ≡ withSlot work at mostWords (slotWith exact (slotIn work at mostWords)))
+  delayed-at answer after c may s l r w accepted =
+      let z = c .built may in
+      let b =
+      delayed-in level d (listAt sheet left right work f) work at (z .0) after accepted (may-all d f at (length work) may .0)
+      (words-at sheet left right work f s l r w) (z .1) in (
+        z .2 ∙ built-answer exact (slotIn work at mostWords) (z .1 .last .slot) (z .0) b,
+        z .1 .work-is ∙ ap (λ (slot : List ℕ). withSlot work at mostWords slot) (b .slot-is),
+      )

@@ -23,12 +23,12 @@ pub record DelayedIn (level : Bool) (d : ℕ) (l work : List ℕ) (at : ℕ) (ma
   pub work-is : after ≡ withSlot work at mostWords (last .slot)
 
 -- it begins where the length is at most M and the slot is in the work area, apart from the operand
-unfoldable pub delayBegins : ℕ → Source → ℕ → ℕ → Bool
-delayBegins d f at room = leb d M && (leb (at + mostWords) room && apartFrom f at mostWords)
+unfoldable pub mayDelay : ℕ → Source → ℕ → ℕ → Bool
+mayDelay d f at room = leb d M && (leb (at + mostWords) room && apartFrom f at mostWords)
 
 -- Its answer and the work area at exit: as it was where it does not begin, else with the answer in the slot.
 pub record DelayedAt (level : Bool) (d : ℕ) (sheet left right work : List ℕ) (f : Source) (at : ℕ) (answer : SlotAnswer) (after : List ℕ)
     : Type 0 where
-  pub refused : delayBegins d f at (length work) ≡ false → (answer ≡ NotBegun) × (after ≡ work)
-  pub built : delayBegins d f at (length work) ≡ true
+  pub refused : mayDelay d f at (length work) ≡ false → (answer ≡ NotBegun) × (after ≡ work)
+  pub built : mayDelay d f at (length work) ≡ true
       → (made : Made) × DelayedIn level d (listAt sheet left right work f) work at made after × (answer ≡ madeAnswer made)

@@ -37,13 +37,13 @@ pub record State : Type 0 where
   pub date : ℕ
   pub slot : List ℕ
 
-abbrev pub state : ℕ → Timer → Made → ℕ → List ℕ → State
-state passed timer made date slot = record { passed = passed; timer = timer; made = made; date = date; slot = slot }
+abbrev pub stateOf : ℕ → Timer → Made → ℕ → List ℕ → State
+stateOf passed timer made date slot = record { passed = passed; timer = timer; made = made; date = date; slot = slot }
 
 -- before the first date: the first word counts as passed, and the answer has its first word
 abbrev pub stateWith : Bool → List ℕ → List ℕ → Timer → State
 stateWith level l slot timer =
-    state 1 timer (begun (onLevel level (timer .level))) (upcomingAfter 0 (nextDate l 1) timer)
+    stateOf 1 timer (begun (onLevel level (timer .level))) (upcomingAfter 0 (nextDate l 1) timer)
     (set slot 0 (num (onLevel level (timer .level))))
 
 unfoldable pub firstState : Bool → ℕ → List ℕ → List ℕ → State
@@ -52,7 +52,7 @@ firstState level d l slot = stateWith level l slot (firstTimer level d (onLevel 
 -- from a date to the next: its word is passed, the delay follows, and what it shows is put into the slot
 abbrev pub stateAfter : List ℕ → State → ℕ → Shown → State
 stateAfter l s passed shown =
-    state passed (shown .timer) (emitted (s .made) (s .date) (shown .at) (shown .after))
+    stateOf passed (shown .timer) (emitted (s .made) (s .date) (shown .at) (shown .after))
     (upcomingAfter (s .date) (nextDate l passed) (shown .timer))
     (emittedIn (s .slot) (s .made) (s .date) (shown .at) (shown .after))
 

@@ -11,7 +11,7 @@ ghost use Rattle.sources.specs.Sources.{listAt, apartFrom, slotIn, withSlot};
 ghost use Rattle.timing.specs.Delay.{delayOf};
 ghost use Rattle.delays.specs.Upcoming.{upcomingDate, laterDate};
 ghost use Rattle.delays.specs.Turns.{shownAt};
-ghost use Rattle.delays.specs.DelayAt.{DelayedIn, delayBegins, DelayedAt};
+ghost use Rattle.delays.specs.DelayAt.{DelayedIn, mayDelay, DelayedAt};
 use building::Made;
 use building::SlotAnswer;
 use building::WORDS;
@@ -122,7 +122,7 @@ fn run(
 
 // Whether a delay begins: its length is at most M, and the slot is in the work area, apart from the operand.
 fn begins(d: Length, f: Source, at: u32, room: usize) -> bool
-    ensures { λ r. ⌜ r ≡ delayBegins (d .0) f at room ⌝ }
+    ensures { λ r. ⌜ r ≡ mayDelay (d .0) f at room ⌝ }
 {
     let length = d.0;
     if M < length {

@@ -50,7 +50,8 @@ fn has_come(timer: Timer, date: Date, at: bool) -> bool
     }
 }
 
-// The delay with its pending change made if it has come.
+// The delay with its pending change made if it has come. Else it is given back field by field, as in `follow`, so that the bytes between
+// the fields are not copied in every turn of a loop.
 fn rise(timer: Timer, date: Date, at: bool) -> Timer
     ensures { λ r. ⌜ r ≡ risen timer (date .0) at ⌝ }
 {
@@ -62,7 +63,13 @@ fn rise(timer: Timer, date: Date, at: bool) -> Timer
             at,
         };
     }
-    timer
+    let due = timer.due;
+    Timer {
+        level: timer.level,
+        waiting: timer.waiting,
+        due,
+        at: timer.at,
+    }
 }
 
 // The delay at the next moment, the instant of the date or the gap after it, where its input has the value.
@@ -71,7 +78,13 @@ pub fn follow(timer: Timer, d: Length, date: Date, at: bool, value: bool) -> Tim
 {
     if value {
         if timer.level {
-            return timer;
+            let due = timer.due;
+            return Timer {
+                level: timer.level,
+                waiting: timer.waiting,
+                due,
+                at: timer.at,
+            };
         }
         if timer.waiting {
             return rise(timer, date, at);

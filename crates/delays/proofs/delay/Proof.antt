@@ -21,7 +21,8 @@ returns c =
 returns-2 : tie.Need-returns-2
 returns-2 c =
     rw (← (fault-order _ _ _ _))
-    (refused _ _ _ _ _ (length-next _ _ _ (c .before .before .list-fault .ensures) (c .before .if1 .left) (c .if2 .taken)) (λ z. omega (arith, z)))
+    (refused _ _ _ _ _ (length-next _ _ _ (c .before .before .list-fault .ensures) (c .before .if1 .left) (c .if2 .taken))
+    (λ z. omega (arith, z)))
 
 cast-t14 : tie.Need-cast-t14
 cast-t14 c =
@@ -55,7 +56,8 @@ returns-3 c =
     (rw (whole-left _ _ _ _) at (c .before .before .before .before .before .before .run .ensures)) in
     rw (← (fault-order _ _ _ _))
     (passes-on _ _ _ _ _ _ (sym (neither _ _ _ (judged .list-fault .ensures) (test .before .if1 .left) (test .if2 .left)))
-    (delivered _ _ _ _ built (omega arith) (omega arith) (judged .before .before .before .args .out .now) _ _ (c .before .before .deliver .ensures)))
+    (delivered _ _ _ _ built (omega arith) (omega arith) (judged .before .before .before .args .out .now) _ _
+    (c .before .before .deliver .ensures)))
 
 pub delay-spec : {M : Type 1} → statement M
 delay-spec =

@@ -1,6 +1,6 @@
 -- `delays::delay_at` meets its contract: it begins where it may, and then the engine builds its answer in the slot.
 use mathlib.Core.Path.{sym, _∙_}
-use Rattle.delays.proofs.DelayJudged.{begins-all, at-rest, at-work}
+use Rattle.delays.proofs.DelayJudged.{may-all, at-rest, at-work}
 use borrow.Author.Needs.{needs}
 use Rattle.delays.proofs.delay_at.Statement.{statement}
 use Rattle.delays.proofs.delay_at.Tie as tie
@@ -9,7 +9,7 @@ begins-requires : tie.Need-begins-requires
 begins-requires c κs = search needs
 
 run-requires : tie.Need-run-requires
-run-requires c κs = let z = begins-all _ _ _ _ (sym (c .before .before .begins .ensures) ∙ c .before .if1 .taken) in (z .1, z .2)
+run-requires c κs = let z = may-all _ _ _ _ (sym (c .before .before .begins .ensures) ∙ c .before .if1 .taken) in (z .1, z .2)
 
 finish-requires : tie.Need-finish-requires
 finish-requires c κs = search needs

@@ -6,7 +6,7 @@ use Rattle.signals.specs.Words.{mostWords, valueAfter}
 use Rattle.reading.specs.Reading.{NEVER}
 use Rattle.sources.specs.Sources.{listAt, slotIn}
 use Rattle.sources.proofs.Sourcing.{words-at}
-use Rattle.delays.specs.Turns.{state}
+use Rattle.delays.specs.Turns.{stateOf}
 use Rattle.delays.proofs.DelayRun.{Placed, Running, Started, running-length, running-turn, started, later-never}
 use borrow.Author.Needs.{needs}
 use Rattle.delays.proofs.run.Statement.{statement}
@@ -15,7 +15,7 @@ use Rattle.delays.proofs.run.Tie as tie
 abbrev Inv-loop : tie.InvT-loop
 Inv-loop level d sheet left right work₀ f at first held₀ passed₀ word₀ timer₀ made₀ date₀ work held passed word timer made date =
     Placed sheet left right work₀ f at
-    × Running level (d .0) (listAt sheet left right work₀ f) work₀ at (state passed₀ timer₀ made₀ (date₀ .0) (slotIn work₀ at mostWords))
+    × Running level (d .0) (listAt sheet left right work₀ f) work₀ at (stateOf passed₀ timer₀ made₀ (date₀ .0) (slotIn work₀ at mostWords))
     work held passed word timer made (date .0)
 
 abbrev μ-loop : tie.MeasureT-loop
@@ -51,11 +51,13 @@ begins : (c : tie.After-later Inv-loop μ-loop)
     → Started (start (known c) .args .level) (start (known c) .args .d .0) (start (known c) .args .sheet .now)
     (start (known c) .args .left .now) (start (known c) .args .right .now) (start (known c) .args .work .now) (start (known c) .args .f)
     (start (known c) .args .at) (c .before .before .before .before .begin-at .last .0)
-    (valueAfter (words c .before .before .next-word .result)) (words c .next-word2 .result) (c .before .before .before .before .before .before .before .first .result)
+    (valueAfter (words c .before .before .next-word .result)) (words c .next-word2 .result)
+    (c .before .before .before .before .before .before .before .first .result)
     (c .before .before .before .before .begin-at .result) (c .later .result .0)
 unfolding valueAfter
 begins c =
-    started _ _ _ _ _ _ _ _ (placed (known c)) _ (words c .before .before .next-word .ensures) _ (words c .next-word2 .ensures) _
+    started (start (known c) .args .level) _ _ _ _ _ _ _ (placed (known c)) _ (words c .before .before .next-word .ensures) _
+    (words c .next-word2 .ensures) _
     (c .before .before .before .before .before .before .before .before .on-level .ensures) _
     (c .before .before .before .before .before .before .before .first .ensures) _
     (c .before .before .before .before .before .on-level2 .ensures) _ (c .before .before .before .before .begin-at .ensures .0) _

@@ -7,7 +7,7 @@ use Rattle.timing.proofs.follow.Statement.{statement}
 use Rattle.timing.proofs.follow.Tie as tie
 
 returns : tie.Need-returns
-returns c = sym (next-up _ _ _ _ _ (c .before .if1 .taken) (c .if2 .taken))
+returns c = sym (next-up _ _ _ _ _ (c .before .before .if1 .taken) (c .before .if2 .taken))
 
 rise-requires : tie.Need-rise-requires
 rise-requires c κs = search needs

@@ -14,7 +14,7 @@ returns c = rw (sym (c .before .has-come .ensures) ∙ c .if1 .taken)
 
 returns-2 : tie.Need-returns-2
 unfolding risen
-returns-2 c = rw (sym (c .before .has-come .ensures) ∙ c .if1 .left)
+returns-2 c = rw (sym (c .before .before .has-come .ensures) ∙ c .before .if1 .left)
 
 pub rise-spec : {M : Type 1} → statement M
 rise-spec = tie.close (tie.spec has-come-requires returns returns-2)
