@@ -1,27 +1,24 @@
--- The scan's loop: the next words and the values held go along the lists, and a verdict from here on is one from the start.
-use Prim.Native.Nat.{ℕ, _+_, _-_, _/_, _%_, _≤_, _<_, min}
+-- The scan's loop: its readers go along the lists, and a verdict from here on is one from the start.
+use Prim.Native.Nat.{ℕ, _+_, _-_, _≤_, _<_, min}
 use native.Mathlib.Omega.{arith}
-use mathlib.Core.Path.{_≡_, refl, _∙_}
+use mathlib.Core.Path.{_≡_, sym, subst, _∙_}
 use mathlib.Core.Logic.{⊎-elim}
 use mathlib.Core.Bool.{Bool, true, false, cond}
 use mathlib.Core.List.{List, []}
-use lib.Dec.{ltb, eqb}
 use lib.ListN.{length}
-use borrow.Author.Tests.{ltb-true, ltb-false, eq-eqb, ne-eqb, eqb-false}
-use Rattle.signals.specs.Words.{valueAfter}
+use Rattle.slices.specs.Bytes.{Words}
 use Rattle.signals.specs.Passing.{heldValue, isNext, atDate, passedDate}
 use Rattle.signals.specs.declared.Verdict.{Verdict}
 use Rattle.signals.specs.declared.Verdict.the-variants.{Holds, FailsAt, FailsAfter}
 use Rattle.reading.specs.Reading.{NEVER, nextDate, stepPast}
-use Rattle.reading.specs.declared.Step.{Step}
-use Rattle.reading.proofs.Counting.{next-in, next-left, passed-next}
-use Rattle.reading.proofs.ReadingFacts.{not-next, none-next}
-use Rattle.sources.specs.Sources.{nextWord, listFrom, listAt, passOn}
+use Rattle.reading.proofs.Counting.{next-left, passed-next}
+use Rattle.sources.specs.Sources.{listFrom, cursorAt, startOf, pastOn}
 use Rattle.sources.specs.declared.Memory.the-variants.{Left, Right}
-use Rattle.sources.specs.declared.Source.{Source}
-use Rattle.sources.proofs.Sourcing.{list-short, whole-left, whole-right}
-use Rattle.sources.proofs.Going.{Going, going-begin, going-date, going-step, going-on}
-use Rattle.comparing.specs.Finding.{failsBy, nextOf, wordPast, Quiet, Finds, Found, inGap, ended, atInstant, turn}
+use Rattle.sources.specs.declared.Cursor.{Cursor}
+use Rattle.sources.specs.declared.Passed.{Passed}
+use Rattle.sources.proofs.Sourcing.{whole-left, whole-right}
+use Rattle.sources.proofs.Going.{On, on-start, on-date, on-held, on-step, on-next}
+use Rattle.comparing.specs.Finding.{failsBy, nextOf, Quiet, Finds, Found, inGap, ended, atInstant, turn}
 use Rattle.comparing.proofs.Watching.{one-of}
 
 passed-le : (l : List ℕ) (i d : ℕ) → i ≤ passedDate l i d
@@ -38,109 +35,109 @@ passed-one l i d small e =
     let h : i < length l = next-left l i (omega arith) in
     (h, rw e (passed-next l i h))
 
--- the next word past a date, by the test that the code makes
-module _ (l : List ℕ) (passed word date r : ℕ) where
-  pub word-read : word / 4 ≡ date → r ≡ nextWord l passed → r ≡ wordPast l passed word date
-  word-read e n = rw (eq-eqb (word / 4) date e) n
-
-  pub word-kept : (word / 4 ≡ date → ⊥) → r ≡ word → r ≡ wordPast l passed word date
-  word-kept n e = rw (ne-eqb (word / 4) date n) e
-
-module _ {l : List ℕ} {i x : ℕ} {p : Bool} (g : Going l x p i) where
-  -- a date that is not the next word's passes none
-  stays : (d : ℕ) → (x / 4 ≡ d → ⊥) → passedDate l i d ≡ i
-  unfolding passedDate
-  stays d n = rw (go (ltb i (length l)) refl)
-    where
-      go : (t : Bool) → ltb i (length l) ≡ t → isNext l i d ≡ false
-      go true q = not-next l i d (λ e. n (going-date l x p i g ∙ next-in l i (ltb-true i (length l) q) ∙ e))
-      go false q = none-next l i d (ltb-false i (length l) q)
-
-  past-next : (d : ℕ) → wordPast l (passedDate l i d) x d ≡ nextWord l (passedDate l i d)
-  past-next d = go (eqb (x / 4) d) refl
-    where
-      go : (t : Bool) → eqb (x / 4) d ≡ t → cond t (nextWord l (passedDate l i d)) x ≡ nextWord l (passedDate l i d)
-      go true q = refl
-      go false q = rw (stays d (eqb-false (x / 4) d q)) (g .word-is)
-
-  -- past a date
-  module _ (d : ℕ) (s : Step) (small : d < NEVER) (e : s ≡ passOn x p i d) where
-    step : s ≡ stepPast l i d
-    step = going-step l x p i g d small s e
-
-    on-past : length l < 4294967296 → (y : ℕ) → y ≡ wordPast l (s .passed) x d → Going l y (s .after) (s .passed)
-    on-past short y n = going-on l x p i g d small s e short y (n ∙ rw step (past-next d))
-
 -- where the loop stands: a verdict from here on is one from the start
-pub record Scanning (both : Bool) (a b : List ℕ) (last i j x y : ℕ) (p q : Bool) : Type 0 where
+pub record Scanning (both : Bool) (a b : List ℕ) (last : ℕ) (x y : Cursor) : Type 0 where
   pub short-a : length a < 4294967296
   pub short-b : length b < 4294967296
-  pub left : Going a x p i
-  pub right : Going b y q j
-  pub on : (r : Verdict) → Finds both a b last i j r → Found both a b r
+  pub words-a : Words a
+  pub words-b : Words b
+  pub left : On a x (x .passed)
+  pub right : On b y (y .passed)
+  pub on : (r : Verdict) → Finds both a b last (x .passed) (y .passed) r → Found both a b r
 
-module _ (sheet left right work : List ℕ) where
-  -- at the start the first words are passed
-  pub scan-start : (both : Bool) (f g : Source) (u v x y : ℕ) → f .count < 4294967296 → g .count < 4294967296
-      → u ≡ nextWord (listAt sheet left right work f) 0 → v ≡ nextWord (listAt sheet left right work g) 0
-      → x ≡ nextWord (listAt sheet left right work f) 1 → y ≡ nextWord (listAt sheet left right work g) 1
-      → Scanning both (listAt sheet left right work f) (listAt sheet left right work g) 0 1 1 x y (eqb (u % 2) 1) (eqb (v % 2) 1)
-  unfolding valueAfter
-  scan-start both f g u v x y lf lg eu ev ex ey =
-      record {
-        short-a = omega (arith, list-short sheet left right work f);
-        short-b = omega (arith, list-short sheet left right work g);
-        left = going-begin (listAt sheet left right work f) u x (eqb (u % 2) 1) eu refl ex;
-        right = going-begin (listAt sheet left right work g) v y (eqb (v % 2) 1) ev refl ey;
-        on = λ r h. h;
-      }
+passed-is : (l : List ℕ) (c : Cursor) (i : ℕ) → On l c i → c .passed ≡ i
+unfolding cursorAt
+passed-is l c i o = rw (o .is)
 
-module _ {both : Bool} {a b : List ℕ} {last i j x y : ℕ} {p q v : Bool} (w : Scanning both a b last i j x y p q)
-    (e : failsBy both p q ≡ v) where
-  held-fails : failsBy both (heldValue a i) (heldValue b j) ≡ v
-  held-fails = rw (← w .left .held-is, ← w .right .held-is) e
+-- at the start the first words are passed
+pub scan-start : (both : Bool) (a b : List ℕ) (x y : Cursor) → length a < 4294967296 → length b < 4294967296 → Words a → Words b
+    → x ≡ startOf a → y ≡ startOf b → Scanning both a b 0 x y
+scan-start both a b x y short-a short-b words-a words-b ex ey =
+    let left = on-start a x ex in
+    let right = on-start b y ey in
+    let i = passed-is a x 1 left in
+    let j = passed-is b y 1 right in
+    record {
+      short-a = short-a;
+      short-b = short-b;
+      words-a = words-a;
+      words-b = words-b;
+      left = subst (On a x) (sym i) left;
+      right = subst (On b y) (sym j) right;
+      on = λ r h. rw (i, j) at h;
+    }
+
+module _ {both : Bool} {a b : List ℕ} {last : ℕ} {x y : Cursor} {v : Bool} (w : Scanning both a b last x y)
+    (e : failsBy both (x .held) (y .held) ≡ v) where
+  held-fails : failsBy both (heldValue a (x .passed)) (heldValue b (y .passed)) ≡ v
+  held-fails =
+      rw
+      (← on-held a (w .words-a) (w .short-a) x (x .passed) (w .left), ← on-held b (w .words-b) (w .short-b) y (y .passed) (w .right))
+      e
 
   pub gap-found : v ≡ true → Found both a b (FailsAfter last)
   gap-found t = w .on (FailsAfter last) (inGap (held-fails ∙ t))
 
-  module _ (quiet : v ≡ false) (d : ℕ) (m : d ≡ min (x / 4) (y / 4)) where
-    next-is : d ≡ nextOf a b i j
+  module _ (quiet : v ≡ false) (d : ℕ) (m : d ≡ min (x .date) (y .date)) where
+    next-is : d ≡ nextOf a b (x .passed) (y .passed)
     unfolding nextOf
-    next-is = rw (← going-date a x p i (w .left), ← going-date b y q j (w .right)) m
+    next-is =
+        rw
+        (← on-date a (w .words-a) (w .short-a) x (x .passed) (w .left), ← on-date b (w .words-b) (w .short-b) y (y .passed) (w .right))
+        m
 
     pub none-found : NEVER ≤ d → Found both a b Holds
     none-found h = w .on Holds (ended (held-fails ∙ quiet) (omega (arith, next-is)))
 
-    module _ (s t : Step) (small : d < NEVER) (es : s ≡ passOn x p i d) (et : t ≡ passOn y q j d) where
-      quiet-is : Quiet both a b i j d
+    module _ (s t : Passed) (small : d < NEVER) (es : s ≡ pastOn a x d) (et : t ≡ pastOn b y d) where
+      quiet-is : Quiet both a b (x .passed) (y .passed) d
       quiet-is = record { held = held-fails ∙ quiet; next = next-is; left = small }
 
-      at-fails : failsBy both (atDate a i d) (atDate b j d) ≡ failsBy both (s .at) (t .at)
-      at-fails = rw (step (w .left) d s small es, step (w .right) d t small et)
+      step-a : s .step ≡ stepPast a (x .passed) d
+      step-a = on-step a (w .words-a) (w .short-a) x (x .passed) (w .left) d small s es
 
-      pub instant-found : failsBy both (s .at) (t .at) ≡ true → Found both a b (FailsAt d)
+      step-b : t .step ≡ stepPast b (y .passed) d
+      step-b = on-step b (w .words-b) (w .short-b) y (y .passed) (w .right) d small t et
+
+      next-a : On a (s .next) (s .step .passed)
+      next-a = on-next a (w .words-a) (w .short-a) x (x .passed) (w .left) d small s es
+
+      next-b : On b (t .next) (t .step .passed)
+      next-b = on-next b (w .words-b) (w .short-b) y (y .passed) (w .right) d small t et
+
+      passed-a : s .next .passed ≡ passedDate a (x .passed) d
+      passed-a = passed-is a (s .next) (s .step .passed) next-a ∙ rw step-a
+
+      passed-b : t .next .passed ≡ passedDate b (y .passed) d
+      passed-b = passed-is b (t .next) (t .step .passed) next-b ∙ rw step-b
+
+      at-fails : failsBy both (atDate a (x .passed) d) (atDate b (y .passed) d) ≡ failsBy both (s .step .at) (t .step .at)
+      at-fails = rw (step-a, step-b)
+
+      pub instant-found : failsBy both (s .step .at) (t .step .at) ≡ true → Found both a b (FailsAt d)
       instant-found u = w .on (FailsAt d) (atInstant quiet-is (at-fails ∙ u))
 
-      pub scan-on : failsBy both (s .at) (t .at) ≡ false → (x' y' : ℕ) → x' ≡ wordPast a (s .passed) x d → y' ≡ wordPast b (t .passed) y d
-          → Scanning both a b d (s .passed) (t .passed) x' y' (s .after) (t .after)
-      scan-on u x' y' ex ey =
+      pub scan-on : failsBy both (s .step .at) (t .step .at) ≡ false → Scanning both a b d (s .next) (t .next)
+      scan-on u =
           record {
             short-a = w .short-a;
             short-b = w .short-b;
-            left = on-past (w .left) d s small es (w .short-a) x' ex;
-            right = on-past (w .right) d t small et (w .short-b) y' ey;
-            on = λ r h. w .on r (turn quiet-is (at-fails ∙ u) (rw (step (w .left) d s small es, step (w .right) d t small et) at h));
+            words-a = w .words-a;
+            words-b = w .words-b;
+            left = subst (On a (s .next)) (sym (passed-is a (s .next) (s .step .passed) next-a)) next-a;
+            right = subst (On b (t .next)) (sym (passed-is b (t .next) (t .step .passed) next-b)) next-b;
+            on = λ r h. w .on r (turn quiet-is (at-fails ∙ u) (rw (passed-a, passed-b) at h));
           }
 
       -- a word is passed
-      pub falls : (length a - s .passed) + (length b - t .passed) < (length a - i) + (length b - j)
+      pub falls : (length a - s .next .passed) + (length b - t .next .passed) < (length a - x .passed) + (length b - y .passed)
       falls =
           rw
-          (step (w .left) d s small es, step (w .right) d t small et)
+          (passed-a, passed-b)
           (⊎-elim
-          (λ n. omega (arith, passed-one a i d small n, passed-le b j d))
-          (λ n. omega (arith, passed-one b j d small n, passed-le a i d))
-          (one-of a b i j d next-is))
+          (λ n. omega (arith, passed-one a (x .passed) d small n, passed-le b (y .passed) d))
+          (λ n. omega (arith, passed-one b (y .passed) d small n, passed-le a (x .passed) d))
+          (one-of a b (x .passed) (y .passed) d next-is))
 
 -- whole slices as sources
 pub found-whole : (both : Bool) (a b : List ℕ) (r : Verdict)

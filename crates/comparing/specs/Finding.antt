@@ -1,14 +1,13 @@
 -- Mirrored: The scan along two lists for the first moment at which they fail: what its contract says of any two lists.
-use Prim.Native.Nat.{ℕ, _/_, _≤_, _<_, min}
+use Prim.Native.Nat.{ℕ, _≤_, _<_, min}
 use mathlib.Core.Path.{_≡_}
-use mathlib.Core.Bool.{Bool, true, false, cond, not, Bool·beq, _&&_, _||_}
+use mathlib.Core.Bool.{Bool, true, false, not, Bool·beq, _&&_, _||_}
 use mathlib.Core.List.{List}
-use lib.Dec.{eqb}
 use Rattle.signals.specs.Passing.{heldValue, atDate, passedDate}
 use Rattle.signals.specs.declared.Verdict.{Verdict}
 use Rattle.signals.specs.declared.Verdict.the-variants.{Holds, FailsAt, FailsAfter}
 use Rattle.reading.specs.Reading.{NEVER, nextDate}
-use Rattle.sources.specs.Sources.{nextWord, listAt}
+use Rattle.sources.specs.Sources.{listAt}
 use Rattle.sources.specs.declared.Source.{Source}
 
 -- p to q fails: p up and q down; both ways, also q up and p down
@@ -18,10 +17,6 @@ failsBy both p q = not (Bool·beq p q) && (p || both)
 -- the earlier of the next dates, i and j words being passed
 unfoldable pub nextOf : List ℕ → List ℕ → ℕ → ℕ → ℕ
 nextOf a b i j = min (nextDate a i) (nextDate b j)
-
--- the next word past a date: the word at a place where the next was of that date, else the next as it was
-abbrev pub wordPast : List ℕ → ℕ → ℕ → ℕ → ℕ
-wordPast l passed word date = cond (eqb (word / 4) date) (nextWord l passed) word
 
 -- the values held do not fail up to the next date d, which is a word's
 pub record Quiet (both : Bool) (a b : List ℕ) (i j d : ℕ) : Type 0 where

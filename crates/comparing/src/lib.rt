@@ -1,11 +1,10 @@
 // Two lists compared: equality and implication, by one scan along both.
 ghost use mathlib.Core.Path.{_≡_};
 ghost use mathlib.Core.Bool.{false};
-ghost use Prim.Native.Nat.{_/_, min};
+ghost use Prim.Native.Nat.{min};
 ghost use Rattle.signals.specs.Words.{pairFault};
-ghost use Rattle.sources.specs.Sources.{listAt};
 ghost use Rattle.questions.specs.Questions.{equalOf, impliesOf};
-ghost use Rattle.comparing.specs.Finding.{failsBy, wordPast, Found, FoundAt};
+ghost use Rattle.comparing.specs.Finding.{failsBy, Found, FoundAt};
 use lists::pair_fault;
 use reading::NEVER;
 use signals::Date;
@@ -13,8 +12,8 @@ use signals::Told;
 use signals::Verdict;
 use sources::Memory;
 use sources::Source;
-use sources::next_word;
-use sources::pass;
+use sources::past;
+use sources::start;
 
 // p to q fails: p up and q down; both ways, also q up and p down.
 fn fails_by(both: bool, p: bool, q: bool) -> bool
@@ -23,31 +22,11 @@ fn fails_by(both: bool, p: bool, q: bool) -> bool
     (p != q) & (p | both)
 }
 
-// The earlier of two words' dates.
-fn earlier_date(x: u64, y: u64) -> u64
-    ensures { λ r. ⌜ r ≡ min (x / 4) (y / 4) ⌝ }
+// The earlier of two dates.
+fn earlier_date(x: u32, y: u32) -> u32
+    ensures { λ r. ⌜ r ≡ min x y ⌝ }
 {
-    if x < y { x / 4 } else { y / 4 }
-}
-
-// The next word of a list, past a date: a word of that date is passed, a later one stays and is not read again.
-fn word_past(
-    sheet: &[u8],
-    left: &[u32],
-    right: &[u32],
-    work: &[u32],
-    list: Source,
-    passed: usize,
-    word: u64,
-    date: u64,
-) -> u64
-    ensures { λ r.
-        ⌜ r ≡ wordPast (listAt (now (sheet .entry)) (now (left .entry)) (now (right .entry)) (now (work .entry)) list) passed word date ⌝ }
-{
-    if word / 4 == date {
-        return next_word(sheet, left, right, work, list, passed);
-    }
-    word
+    if x < y { x } else { y }
 }
 
 // The first moment at which f to g fails, of gap 0, then of each date its instant and the gap after it: values change nowhere else.
@@ -63,32 +42,24 @@ fn scan(
     ensures { λ r. ⌜ FoundAt both (now (sheet .entry)) (now (left .entry)) (now (right .entry)) (now (work .entry)) f g r ⌝ }
 {
     let mut last: u32 = 0;
-    let mut p = next_word(sheet, left, right, work, f, 0) % 2 == 1;
-    let mut q = next_word(sheet, left, right, work, g, 0) % 2 == 1;
-    let mut i: usize = 1;
-    let mut j: usize = 1;
-    let mut x = next_word(sheet, left, right, work, f, i);
-    let mut y = next_word(sheet, left, right, work, g, j);
+    let mut a = start(sheet, left, right, work, f);
+    let mut b = start(sheet, left, right, work, g);
     loop {
-        if fails_by(both, p, q) {
+        if fails_by(both, a.held, b.held) {
             return Verdict::FailsAfter(last);
         }
-        let date = earlier_date(x, y);
-        if NEVER as u64 <= date {
+        let date = earlier_date(a.date, b.date);
+        if NEVER <= date {
             return Verdict::Holds;
         }
-        last = date as u32;
-        let a = pass(x, p, i, Date(last));
-        let b = pass(y, q, j, Date(last));
-        if fails_by(both, a.at, b.at) {
-            return Verdict::FailsAt(last);
+        let p = past(sheet, left, right, work, f, a, Date(date));
+        let q = past(sheet, left, right, work, g, b, Date(date));
+        if fails_by(both, p.step.at, q.step.at) {
+            return Verdict::FailsAt(date);
         }
-        p = a.after;
-        q = b.after;
-        i = a.passed;
-        j = b.passed;
-        x = word_past(sheet, left, right, work, f, i, x, date);
-        y = word_past(sheet, left, right, work, g, j, y, date);
+        last = date;
+        a = p.next;
+        b = q.next;
     }
 }
 
