@@ -103,7 +103,7 @@ delay-told level d a answer l m z u =
     let s = small d (j .1) in
     let r = m .ran s in
     built-told _ (r .before) (r .last .slot) (r .last .made)
-    (delayed-exact level d a (r .before) (j .0) s (λ i h. u i) (r .last) (r .runs)) (r .wide) answer (r .answer-is) l (r .list-is)
+    (delayed-exact level d a (r .before) (j .0) s u (r .last) (r .runs)) (r .wide) answer (r .answer-is) l (r .list-is)
 
 none-words : Words none
 none-words zero = omega arith

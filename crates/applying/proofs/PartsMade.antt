@@ -24,7 +24,7 @@ use Rattle.sources.specs.declared.Memory.the-variants.{Right}
 use Rattle.sources.specs.declared.Source.{Source}
 use Rattle.sources.proofs.Sourcing.{slot-long, slot-kept}
 use Rattle.merging.specs.Merging.{mayMerge, MergedAt}
-use Rattle.delays.specs.DelayAt.{delayBegins, DelayedAt}
+use Rattle.delays.specs.DelayAt.{mayDelay, DelayedAt}
 use Rattle.grammar.specs.Kinds as kinds
 use Rattle.code_words.specs.CodeWords.{constants}
 use Rattle.applying.specs.PartCalls.{partAnswer}
@@ -90,7 +90,7 @@ module _ (sheet work : List ℕ) (at : ℕ) (given : SlotAnswer) (answer : Writt
   pub delay-part : (w d : ℕ) (level : Bool) (a : Source) → level ≡ eqb (w % 16) kinds.TON → d ≡ w / 16 % 4294967296
       → mayMerge a a at (length work) ≡ true → DelayedAt level d sheet constants constants work a at given after
       → DelayPart w sheet work a at answer after
-  unfolding delayBegins
+  unfolding mayDelay
   delay-part w d level a i j h m = go (leb d M) refl
     where
       room : (apartFrom a at mostWords ≡ true) × (apartFrom a at mostWords ≡ true) × (at + mostWords ≤ length work)

@@ -1,5 +1,6 @@
 -- `evaluation::judge` meets its contract: 18, 5 or 6 of the two formulas, or the verdict of their lists where they stand.
 use borrow.Author.Needs.{needs}
+use mathlib.Core.Path.{refl}
 use Rattle.evaluation.proofs.OnStack.{claim-refused, claim-judged}
 use Rattle.evaluation.proofs.judge.Statement.{statement}
 use Rattle.evaluation.proofs.judge.Tie as tie
@@ -34,7 +35,7 @@ returns-2 c =
     let start = c .before .before .before .before .before .before .before .before .before .before .before .before .before in
     let ran = c .before .before .before .before .before .before .before in
     λ f g cf cg. claim-judged _ f g _ _ _ _ _ (start .pre) (λ i. c .before .before .before .before .before .before .before .before .before .before .before .before .shared-slice-known .given i .fits) cf cg (ran .work-out .ensures)
-    (c .before .before .before .before .if1 .left) _ (c .implies-at .ensures)
+    (c .before .before .before .before .if1 .left) _ _ _ (c .implies-at .ensures) refl refl
 
 pub judge-spec : {M : Type 1} → statement M
 judge-spec =
