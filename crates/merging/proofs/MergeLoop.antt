@@ -1,5 +1,5 @@
 -- The loop of `merge` as the code makes it: whatever the merge ends with from the state reached, it ends with from where the loop began.
-use Prim.Native.Nat.{ℕ, _+_, _-_, _/_, _≤_, _<_, min}
+use Prim.Native.Nat.{ℕ, _+_, _-_, _≤_, _<_, min}
 use native.Mathlib.Omega.{arith}
 use mathlib.Core.Path.{_≡_, refl, sym, subst, _∙_, ap}
 use mathlib.Core.Bool.{Bool, true, false}
@@ -8,6 +8,7 @@ use mathlib.Core.Logic.{_⊎_, inl, inr}
 use lib.Dec.{ltb}
 use lib.ListN.{length, take, drop}
 use borrow.Author.Tests.{ltb-true, ltb-false}
+use Rattle.slices.specs.Bytes.{Bytes, Words}
 use Rattle.signals.specs.Signal.{Table}
 use Rattle.signals.specs.Words.{mostWords}
 use Rattle.signals.specs.Passing.{heldValue, passedDate}
@@ -18,10 +19,12 @@ use Rattle.building.specs.declared.Made.{Made}
 use Rattle.showing.specs.Showing.{firstShown, dateShown}
 use Rattle.showing.specs.declared.Operation.{Operation}
 use Rattle.showing.specs.declared.Shown.{Shown}
-use Rattle.sources.specs.Sources.{nextWord, passOn, listAt, apartFrom, slotIn, withSlot}
+use Rattle.sources.specs.Sources.{cursorAt, startOf, pastOn, listAt, apartFrom, slotIn, withSlot}
+use Rattle.sources.specs.declared.Cursor.{Cursor}
+use Rattle.sources.specs.declared.Passed.{Passed}
 use Rattle.sources.specs.declared.Source.{Source}
-use Rattle.sources.proofs.Sourcing.{slot-kept, slot-long, slot-back, slot-again, part-back, with-slot-long, list-short, apart-kept}
-use Rattle.sources.proofs.Going.{Going, going-date, going-step, going-on}
+use Rattle.sources.proofs.Sourcing.{slot-kept, slot-long, slot-back, slot-again, part-back, with-slot-long, list-short, words-at, apart-kept}
+use Rattle.sources.proofs.Going.{On, on-start, on-date, on-held, on-step, on-next}
 use Rattle.merging.specs.Merging.{State, dateAhead, begunIn, pastDate, Merges, turn, done, BuiltAt, MayMerge}
 use Rattle.merging.proofs.MergeTurn.{passed-keeps, passed-next, left-or-none, next-none}
 
@@ -67,23 +70,58 @@ begun-is : (o : Operation) (table : Table) (l m slot : List ℕ) (p q : Bool) �
 unfolding begunIn
 begun-is o table l m slot p q ep eq first ef made part now eb en = rw (en, eb .0, eb .1, ef, ep, eq)
 
+on-passed : (l : List ℕ) (c : Cursor) (i : ℕ) → On l c i → c .passed ≡ i
+unfolding cursorAt
+on-passed l c i o = rw (o .is)
+
+start-passed : (l : List ℕ) (c : Cursor) → c ≡ startOf l → c .passed ≡ 1
+start-passed l c e = on-passed l c 1 (on-start l c e)
+
+-- a reader of a list of words below 2^32, past its first word and past a date
+pub record Reading (l : List ℕ) (x : Cursor) : Type 0 where
+  pub small : Words l
+  pub short : length l < 4294967296
+  pub on : On l x (x .passed)
+
+pub reads-start : (l : List ℕ) → Words l → length l < 4294967296 → (x : Cursor) → x ≡ startOf l → Reading l x
+reads-start l small short x e = record { small = small; short = short; on = subst (λ (i : ℕ). On l x i) (sym (start-passed l x e)) (on-start l x e) }
+
+module _ (l : List ℕ) (x : Cursor) (g : Reading l x) where
+  pub reads-date : x .date ≡ nextDate l (x .passed)
+  reads-date = on-date l (g .small) (g .short) x (x .passed) (g .on)
+
+  pub reads-held : x .held ≡ heldValue l (x .passed)
+  reads-held = on-held l (g .small) (g .short) x (x .passed) (g .on)
+
+  module _ (d : ℕ) (early : d < NEVER) (u : Passed) (e : u ≡ pastOn l x d) where
+    pub reads-step : u .step ≡ stepPast l (x .passed) d
+    reads-step = on-step l (g .small) (g .short) x (x .passed) (g .on) d early u e
+
+    goes : On l (u .next) (u .step .passed)
+    goes = on-next l (g .small) (g .short) x (x .passed) (g .on) d early u e
+
+    pub reads-passed : u .next .passed ≡ u .step .passed
+    reads-passed = on-passed l (u .next) (u .step .passed) goes
+
+    pub reads-on : Reading l (u .next)
+    reads-on = record { small = g .small; short = g .short; on = subst (λ (i : ℕ). On l (u .next) i) (sym reads-passed) goes }
+
 module _ (o : Operation) (table : Table) (l m : List ℕ) (work : List ℕ) (at : ℕ) (start : State) where
-  pub record Looping (now : List ℕ) (x y : ℕ) (p q : Bool) (made : Made) (bit : Bool) (i j date : ℕ) : Type 0 where
-    pub first-short : length l < 4294967296
-    pub second-short : length m < 4294967296
+  pub record Looping (now : List ℕ) (x y : Cursor) (made : Made) (bit : Bool) (date : ℕ) : Type 0 where
     pub slot : List ℕ
     pub full : length slot ≡ mostWords
     pub now-is : now ≡ withSlot work at mostWords slot
-    pub first : Going l x p i
-    pub second : Going m y q j
-    pub date-is : date ≡ min (x / 4) (y / 4)
-    pub on : (end : List ℕ) (last : Made) → Merges o table l m end last (reached slot made bit i j) → Merges o table l m end last start
+    pub first : Reading l x
+    pub second : Reading m y
+    pub date-is : date ≡ min (x .date) (y .date)
+    pub on : (end : List ℕ) (last : Made) → Merges o table l m end last (reached slot made bit (x .passed) (y .passed))
+        → Merges o table l m end last start
 
-  module _ (fits : at + mostWords ≤ length work) (now : List ℕ) (x y : ℕ) (p q : Bool) (made : Made) (bit : Bool) (i j date : ℕ)
-      (g : Looping now x y p q made bit i j date) where
-    ahead : date ≡ dateAhead l m (reached (g .slot) made bit i j)
+  module _ (fits : at + mostWords ≤ length work) (now : List ℕ) (x y : Cursor) (made : Made) (bit : Bool) (date : ℕ)
+      (g : Looping now x y made bit date) where
+    ahead : date ≡ dateAhead l m (reached (g .slot) made bit (x .passed) (y .passed))
     unfolding dateAhead
-    ahead = g .date-is ∙ rw (going-date l x p i (g .first), going-date m y q j (g .second))
+    ahead = g .date-is ∙ rw (reads-date l x (g .first), reads-date m y (g .second))
 
     pub looping-long : length now ≡ length work
     looping-long = ap length (g .now-is) ∙ with-slot-long work at mostWords fits (g .slot) (g .full)
@@ -98,30 +136,32 @@ module _ (o : Operation) (table : Table) (l m : List ℕ) (work : List ℕ) (at 
     pub looping-end : NEVER ≤ date → (last : Made) → last ≡ made → Merges o table l m (g .slot) last start
     looping-end h last e = g .on (g .slot) last (done (rw (sym ahead) h) refl (sym e))
 
-    module _ (small : date < NEVER) (u v : Step) (eu : u ≡ passOn x p i date) (ev : v ≡ passOn y q j date) where
-      pub looping-falls : length l - u .passed + (length m - v .passed) < length l - i + (length m - j)
+    module _ (small : date < NEVER) (u v : Passed) (eu : u ≡ pastOn l x date) (ev : v ≡ pastOn m y date) where
+      pub looping-falls : length l - u .next .passed + (length m - v .next .passed) < length l - x .passed + (length m - y .passed)
       unfolding dateAhead
       looping-falls =
-          rw (going-step l x p i (g .first) date small u eu, going-step m y q j (g .second) date small v ev)
-          (falls l m i j date ahead small)
+          rw (
+            reads-passed l x (g .first) date small u eu,
+            reads-passed m y (g .second) date small v ev,
+            reads-step l x (g .first) date small u eu,
+            reads-step m y (g .second) date small v ev,
+          )
+          (falls l m (x .passed) (y .passed) date ahead small)
 
-      pub looping-turn : (s : Shown) → s ≡ dateShown o table bit (u .before) (u .at) (u .after) (v .at) (v .after)
-          → (x′ y′ : ℕ) → x′ ≡ nextWord l (u .passed) → y′ ≡ nextWord m (v .passed)
+      pub looping-turn : (s : Shown)
+          → s ≡ dateShown o table bit (u .step .before) (u .step .at) (u .step .after) (v .step .at) (v .step .after)
           → (k : ℕ) → k ≡ mostWords → (made′ : Made) (part : List ℕ) → Emits made date (s .at) (s .after) (take k (drop at now)) made′ part
           → length part ≡ length (take k (drop at now))
-          → (date′ : ℕ) → date′ ≡ min (x′ / 4) (y′ / 4)
-          → Looping (take at now ++ (part ++ drop k (drop at now))) x′ y′ (u .after) (v .after) made′ (s .carried) (u .passed) (v .passed)
-          date′
-      looping-turn s es x′ y′ ex ey k ek made′ part em kept date′ ed =
+          → (date′ : ℕ) → date′ ≡ min (u .next .date) (v .next .date)
+          → Looping (take at now ++ (part ++ drop k (drop at now))) (u .next) (v .next) made′ (s .carried) date′
+      looping-turn s es k ek made′ part em kept date′ ed =
           record {
-            first-short = g .first-short;
-            second-short = g .second-short;
             slot = part;
             full = kept ∙ rw ek (slot-long now at mostWords here);
             now-is = part-back now at mostWords here part k ek ∙ ap (λ (w : List ℕ). withSlot w at mostWords part) (g .now-is)
                 ∙ slot-again work at mostWords fits (g .slot) (g .full) part;
-            first = going-on l x p i (g .first) date small u eu (g .first-short) x′ ex;
-            second = going-on m y q j (g .second) date small v ev (g .second-short) y′ ey;
+            first = reads-on l x (g .first) date small u eu;
+            second = reads-on m y (g .second) date small v ev;
             date-is = ed;
             on = λ end last w. g .on end last (turn (rw (sym ahead) small) (subst (λ (z : State). Merges o table l m end last z) next w));
           }
@@ -133,40 +173,41 @@ module _ (o : Operation) (table : Table) (l m : List ℕ) (work : List ℕ) (at 
           whole =
               rw ek (ap (λ (w : List ℕ). slotIn w at mostWords) (g .now-is) ∙ slot-back work at mostWords fits (g .slot) (g .full))
 
-          next : reached part made′ (s .carried) (u .passed) (v .passed)
-              ≡ pastDate o table l m (reached (g .slot) made bit i j) (dateAhead l m (reached (g .slot) made bit i j))
+          next : reached part made′ (s .carried) (u .next .passed) (v .next .passed)
+              ≡ pastDate o table l m (reached (g .slot) made bit (x .passed) (y .passed))
+              (dateAhead l m (reached (g .slot) made bit (x .passed) (y .passed)))
           next =
-              next-state o table l m (g .slot) part made made′ bit i j date u v s (going-step l x p i (g .first) date small u eu)
-              (going-step m y q j (g .second) date small v ev) es (em .0)
+              ap (λ (i : ℕ). reached part made′ (s .carried) i (v .next .passed)) (reads-passed l x (g .first) date small u eu)
+              ∙ ap (λ (j : ℕ). reached part made′ (s .carried) (u .step .passed) j) (reads-passed m y (g .second) date small v ev)
+              ∙ next-state o table l m (g .slot) part made made′ bit (x .passed) (y .passed) date (u .step) (v .step) s
+              (reads-step l x (g .first) date small u eu) (reads-step m y (g .second) date small v ev) es (em .0)
               (em .1 ∙ ap (λ (w : List ℕ). emittedIn w made date (s .at) (s .after)) whole)
-              ∙ ap (λ (d : ℕ). pastDate o table l m (reached (g .slot) made bit i j) d) ahead
+              ∙ ap (λ (d : ℕ). pastDate o table l m (reached (g .slot) made bit (x .passed) (y .passed)) d) ahead
 
 -- where the loop begins: the work area is as long as at the call, the state is that after gap 0, and what the loop builds from there is
 -- built from the call's work area
-pub record Started (o : Operation) (table : Table) (sheet left right entry : List ℕ) (a b : Source) (at : ℕ) (work : List ℕ) (x y : ℕ)
-    (p q : Bool) (made : Made) (bit : Bool) (date : ℕ) : Type 0 where
+pub record Started (o : Operation) (table : Table) (sheet left right entry : List ℕ) (a b : Source) (at : ℕ) (work : List ℕ)
+    (x y : Cursor) (made : Made) (bit : Bool) (date : ℕ) : Type 0 where
   pub long : length work ≡ length entry
   pub start : Looping o table (listAt sheet left right work a) (listAt sheet left right work b) work at
-      (reached (slotIn work at mostWords) made bit 1 1) work x y p q made bit 1 1 date
+      (reached (slotIn work at mostWords) made bit (x .passed) (y .passed)) work x y made bit date
   pub builds : (after : List ℕ) (last : Made) (slot : List ℕ) → after ≡ withSlot work at mostWords slot
       → Merges o table (listAt sheet left right work a) (listAt sheet left right work b) slot last
-      (reached (slotIn work at mostWords) made bit 1 1)
+      (reached (slotIn work at mostWords) made bit (x .passed) (y .passed))
       → BuiltAt o table sheet left right entry a b at last after
 
 pub started : (o : Operation) (table : Table) (sheet left right entry : List ℕ) (a b : Source) (at : ℕ) → MayMerge a b at (length entry)
-    → a .count < 4294967296 → b .count < 4294967296
-    → (x y : ℕ) (p q : Bool) → Going (listAt sheet left right entry a) x p 1 → Going (listAt sheet left right entry b) y q 1
-    → (first : Shown) → first ≡ firstShown o table p q
+    → Bytes sheet → Words left → Words right → Words entry → a .count < 4294967296 → b .count < 4294967296
+    → (x y : Cursor) → x ≡ startOf (listAt sheet left right entry a) → y ≡ startOf (listAt sheet left right entry b)
+    → (first : Shown) → first ≡ firstShown o table (x .held) (y .held)
     → (k : ℕ) → k ≡ mostWords → (made : Made) (part : List ℕ) → Begins (first .after) (take k (drop at entry)) made part
-    → length part ≡ length (take k (drop at entry)) → (date : ℕ) → date ≡ min (x / 4) (y / 4)
-    → Started o table sheet left right entry a b at (take at entry ++ (part ++ drop k (drop at entry))) x y p q made (first .carried) date
-started o table sheet left right entry a b at may ca cb x y p q gx gy first ef k ek made part eb kept date ed =
+    → length part ≡ length (take k (drop at entry)) → (date : ℕ) → date ≡ min (x .date) (y .date)
+    → Started o table sheet left right entry a b at (take at entry ++ (part ++ drop k (drop at entry))) x y made (first .carried) date
+started o table sheet left right entry a b at may hs hl hr hw ca cb x y ex ey first ef k ek made part eb kept date ed =
     rw put
     (record {
       long = long;
       start = record {
-        first-short = omega (arith, list-short sheet left right work a);
-        second-short = omega (arith, list-short sheet left right work b);
         slot = slotIn work at mostWords;
         full = slot-long work at mostWords fits;
         now-is = sym (slot-kept work at mostWords fits);
@@ -187,6 +228,18 @@ started o table sheet left right entry a b at may ca cb x y p q gx gy first ef k
 
     m : List ℕ
     m = listAt sheet left right entry b
+
+    gx : Reading l x
+    gx = reads-start l (words-at sheet left right entry a hs hl hr hw) (omega (arith, list-short sheet left right entry a)) x ex
+
+    gy : Reading m y
+    gy = reads-start m (words-at sheet left right entry b hs hl hr hw) (omega (arith, list-short sheet left right entry b)) y ey
+
+    one : x .passed ≡ 1
+    one = start-passed l x ex
+
+    other : y .passed ≡ 1
+    other = start-passed m y ey
 
     work : List ℕ
     work = withSlot entry at mostWords part
@@ -209,6 +262,11 @@ started o table sheet left right entry a b at may ca cb x y p q gx gy first ef k
     same-second : listAt sheet left right work b ≡ m
     same-second = apart-kept entry at mostWords (may .2) part full sheet left right b (may .1)
 
-    begun-state : reached (slotIn work at mostWords) made (first .carried) 1 1 ≡ begunIn o table l m (slotIn entry at mostWords)
-    begun-state = begun-is o table l m (slotIn entry at mostWords) p q (gx .held-is) (gy .held-is) first ef made part
+    begun-state : reached (slotIn work at mostWords) made (first .carried) (x .passed) (y .passed)
+        ≡ begunIn o table l m (slotIn entry at mostWords)
+    begun-state =
+        ap (λ (i : ℕ). reached (slotIn work at mostWords) made (first .carried) i (y .passed)) one
+        ∙ ap (λ (j : ℕ). reached (slotIn work at mostWords) made (first .carried) 1 j) other
+        ∙ begun-is o table l m (slotIn entry at mostWords) (x .held) (y .held)
+        (reads-held l x gx ∙ ap (heldValue l) one) (reads-held m y gy ∙ ap (heldValue m) other) first ef made part
         (slotIn work at mostWords) (rw ek at eb) (slot-back entry at mostWords (may .2) part full)

@@ -1,6 +1,6 @@
 // The merge of two lists, and what it makes: NOT, connectives, edges and latches.
 ghost use mathlib.Core.Path.{_≡_};
-ghost use Prim.Native.Nat.{_/_, min};
+ghost use Prim.Native.Nat.{min};
 ghost use lib.ListN.{length};
 ghost use Rattle.signals.specs.Signal.{NOT, connective, rising, falling, SR, RS};
 ghost use Rattle.operations.specs.Calls.{CallOfOne, CallOfTwo};
@@ -16,11 +16,11 @@ use signals::Written;
 use sources::Memory;
 use sources::Source;
 
-// The earlier date of two words.
-fn earlier(x: u64, y: u64) -> u64
-    ensures { λ r. ⌜ r ≡ min (x / 4) (y / 4) ⌝ }
+// The earlier of two dates.
+fn earlier(x: u32, y: u32) -> u32
+    ensures { λ r. ⌜ r ≡ min x y ⌝ }
 {
-    if x / 4 < y / 4 { x / 4 } else { y / 4 }
+    if x < y { x } else { y }
 }
 
 // The merge of two lists, built in the slot from a place of the work area on: date by date, what the operation makes of both. The next
@@ -42,32 +42,22 @@ fn merge(
         (now (work .exit)) ⌝ }
 {
     let end = at + WORDS;
-    let mut x = sources::next_word(sheet, left, right, work, a, 0);
-    let mut y = sources::next_word(sheet, left, right, work, b, 0);
-    let mut p = x % 2 == 1;
-    let mut q = y % 2 == 1;
-    let first = showing::first_shown(operation, table, p, q);
-    x = sources::next_word(sheet, left, right, work, a, 1);
-    y = sources::next_word(sheet, left, right, work, b, 1);
+    let mut x = sources::start(sheet, left, right, work, a);
+    let mut y = sources::start(sheet, left, right, work, b);
+    let first = showing::first_shown(operation, table, x.held, y.held);
     let mut made = building::begin(&mut work[at..end], first.after);
     let mut carried = first.carried;
-    let mut i: usize = 1;
-    let mut j: usize = 1;
-    let mut date = earlier(x, y);
-    while date < NEVER as u64 {
-        let on = Date(date as u32);
-        let u = sources::pass(x, p, i, on);
-        let v = sources::pass(y, q, j, on);
-        let shown = showing::date_shown(operation, table, carried, u, v);
-        i = u.passed;
-        j = v.passed;
-        x = sources::next_word(sheet, left, right, work, a, i);
-        y = sources::next_word(sheet, left, right, work, b, j);
+    let mut date = earlier(x.date, y.date);
+    while date < NEVER {
+        let on = Date(date);
+        let u = sources::past(sheet, left, right, work, a, x, on);
+        let v = sources::past(sheet, left, right, work, b, y, on);
+        let shown = showing::date_shown(operation, table, carried, u.step, v.step);
         made = building::emit(&mut work[at..end], made, on, shown.at, shown.after);
         carried = shown.carried;
-        p = u.after;
-        q = v.after;
-        date = earlier(x, y);
+        x = u.next;
+        y = v.next;
+        date = earlier(x.date, y.date);
     }
     made
 }

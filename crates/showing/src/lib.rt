@@ -22,15 +22,13 @@ pub struct Shown {
     pub carried: bool,
 }
 
-// Row by the first operand, column by the second. Each index is a constant, so that the table can stay in registers.
+// Row by the first operand, column by the second.
 fn cell_of(table: [[bool; 2]; 2], p: bool, q: bool) -> bool
     ensures { λ r. ⌜ r ≡ cell table p q ⌝ }
 {
-    if p {
-        if q { table[1][1] } else { table[1][0] }
-    } else {
-        if q { table[0][1] } else { table[0][0] }
-    }
+    let row = words::index(p);
+    let column = words::index(q);
+    table[row][column]
 }
 
 fn both(a: bool, b: bool) -> bool
