@@ -1,7 +1,8 @@
 // Checking a sheet, front to back.
 ghost use mathlib.Core.Path.{_≡_};
-ghost use Prim.Native.Nat.{_≤_};
+ghost use Prim.Native.Nat.{_+_, _≤_, min};
 ghost use lib.ListN.{length, drop};
+ghost use Rattle.slices.specs.Bytes.{low32};
 ghost use Rattle.format.specs.Names.{among};
 ghost use Rattle.format.specs.Reading.{sheetWordsFault, signalFault, frontFault, sheetFault, signalsFrom, names};
 ghost use Rattle.format.specs.Walk.{Whole};
@@ -26,39 +27,50 @@ pub const VERSION_AT: usize = 3;
 
 pub const COUNT_AT: usize = 5;
 
-// The fault of the n words of a signal that start at a place: each is judged before the next is read.
+// The word whose four bytes begin at a place.
+fn word_at(s: &[u8], at: usize) -> u32
+    requires { ⌜ at + 4 ≤ length (now s) ⌝ }
+    ensures { λ r. ⌜ r ≡ low32 (drop at (now (s .entry))) ⌝ }
+{
+    let low = s[at] as u32 + 256 * (s[at + 1] as u32);
+    let high = s[at + 2] as u32 + 256 * (s[at + 3] as u32);
+    low + 65536 * high
+}
+
+fn lesser(a: usize, b: usize) -> usize
+    ensures { λ r. ⌜ r ≡ min a b ⌝ }
+{
+    if a < b { a } else { b }
+}
+
+// The fault of the n words of a signal that start at a place: each is judged before the next is read. Those that are whole are judged
+// without a test of the length for each.
 fn words_fault(s: &[u8], from: usize, n: usize) -> u32
     requires { ⌜ from ≤ length (now s) ⌝ }
     ensures { λ r. ⌜ r ≡ sheetWordsFault n (drop from (now (s .entry))) ⌝ }
 {
-    if s.len() - from < WORD_BYTES {
+    let whole = (s.len() - from) / WORD_BYTES;
+    if whole == 0 {
         return 15;
     }
-    let head = slices::read32(s, from);
-    if 1 < head {
+    let mut before = word_at(s, from);
+    if 1 < before {
         return 17;
     }
-    let mut before = head == 1;
-    let mut last: u32 = 0;
-    let mut at = from + WORD_BYTES;
+    let end = lesser(n, whole);
     let mut i: usize = 1;
-    while i < n {
-        if s.len() - at < WORD_BYTES {
-            return 15;
-        }
-        let word = slices::read32(s, at);
-        if word / 4 <= last {
+    while i < end {
+        let word = word_at(s, from + WORD_BYTES * i);
+        if word / 4 <= before / 4 {
             return 17;
         }
-        if words::changes_nothing(before, word) {
+        if words::changes_nothing(before % 2 == 1, word) {
             return 17;
         }
-        last = word / 4;
-        before = word % 2 == 1;
-        at += WORD_BYTES;
+        before = word;
         i += 1;
     }
-    0
+    if whole < n { 15 } else { 0 }
 }
 
 // The name is one of the first `count` signals'.

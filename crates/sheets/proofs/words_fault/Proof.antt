@@ -1,89 +1,107 @@
 -- `sheets::words_fault` meets its contract: the fault of the words left from here is that of all after the first.
-use Rattle.format.proofs.Walking.{words-cut, words-high, words-next, later-cut, later-date, later-same, later-next, later-end}
+use Rattle.format.proofs.Walking.{words-cut, words-high, later-cut, later-date, later-same, later-next, later-end}
 use borrow.Author.Needs.{needs}
 use native.Mathlib.Omega.{arith}
-use Prim.Native.Nat.{_-_, _≤_}
+use Prim.Native.Nat.{ℕ, _+_, _-_, _*_, _/_, _%_, _≤_, _<_}
 use mathlib.Core.Path.{_≡_, sym, _∙_}
+use mathlib.Core.List.{List}
+use lib.Dec.{eqb}
 use lib.ListN.{length, drop}
 use denote.Ref.{now}
 use Rattle.format.specs.Reading.{sheetWordsFault, laterWordsFault}
+use Rattle.sheets.proofs.WholeWords.{after-first}
 use Rattle.sheets.proofs.words_fault.Statement.{statement}
 use Rattle.sheets.proofs.words_fault.Tie as tie
 
 abbrev Inv-loop : tie.InvT-loop
-Inv-loop s from n head before₀ last₀ at₀ i₀ before last at i =
-    (1 ≤ i) × (at ≤ length s) × (laterWordsFault last before (n - i) (drop at s) ≡ sheetWordsFault n (drop from s))
+Inv-loop s from n whole before₀ end i₀ before i =
+    (1 ≤ i)
+    × (i ≤ whole)
+    × (laterWordsFault (before / 4) (eqb (before % 2) 1) (n - i) (drop (from + 4 * i) s) ≡ sheetWordsFault n (drop from s))
 
 abbrev μ-loop : tie.MeasureT-loop
-μ-loop s from n head before₀ last₀ at₀ i₀ before last at i = n - i
+μ-loop s from n whole before₀ end i₀ before i = end - i
 
-sub-if1 : tie.Need-sub-if1 Inv-loop μ-loop
-sub-if1 c = search needs
+sub-whole : tie.Need-sub-whole Inv-loop μ-loop
+sub-whole c = search needs
 
 returns : tie.Need-returns Inv-loop μ-loop
-returns c = sym (words-cut (c .before .before .args .n) (now (c .before .before .args .s)) (c .before .before .args .from) (c .if1 .taken))
+returns c =
+    let args = c .before .before .args in
+    let cut = c .if1 .taken in
+    sym (words-cut (args .n) (now (args .s)) (args .from) (omega arith))
 
-read32-requires : tie.Need-read32-requires Inv-loop μ-loop
-read32-requires c κs = search needs
+word-at-requires : tie.Need-word-at-requires Inv-loop μ-loop
+word-at-requires c κs = let some = c .if1 .left in omega arith
 
 returns-2 : tie.Need-returns-2 Inv-loop μ-loop
 returns-2 c =
     let args = c .before .before .before .before .args in
-    let if1 = c .before .before .if1 in
-    let read32 = c .before .read32 in
-    sym (words-high (args .n) (now (args .s)) (args .from) (read32 .result) (read32 .ensures) (if1 .left) (c .if2 .taken))
+    let some = c .before .before .if1 .left in
+    let word-at = c .before .word-at in
+    sym (words-high (args .n) (now (args .s)) (args .from) (word-at .result) (word-at .ensures) (omega arith) (c .if2 .taken))
 
-add-at : tie.Need-add-at Inv-loop μ-loop
-add-at c = omega arith
+lesser-requires : tie.Need-lesser-requires Inv-loop μ-loop
+lesser-requires c κs = search needs
 
 loop-holds : tie.Need-loop-holds Inv-loop μ-loop
 loop-holds c =
-    let args = c .before .before .before .before .args in
-    let read32 = c .before .read32 in
-    let long = c .before .before .if1 .left in
-    (omega arith, omega arith, words-next (args .n) (now (args .s)) (args .from) (read32 .result) (read32 .ensures) long (c .if2 .left))
+    let args = c .before .before .before .before .before .args in
+    let some = c .before .before .before .if1 .left in
+    let word-at = c .before .before .word-at in (
+      omega arith,
+      omega arith,
+      after-first (args .n) (now (args .s)) (args .from) (word-at .result) (word-at .ensures) (omega arith) (c .before .if2 .left),
+    )
 
-sub-if3 : tie.Need-sub-if3 Inv-loop μ-loop
-sub-if3 c = search needs
+-- in the loop: the list, where its words begin, their number, and the place in it; it is whole there
+abbrev S : tie.In-loop Inv-loop μ-loop → List ℕ
+S c = c .before .before .before .before .before .before .before .args .s .now
+
+abbrev F : tie.In-loop Inv-loop μ-loop → ℕ
+F c = c .before .before .before .before .before .before .before .args .from
+
+abbrev N : tie.In-loop Inv-loop μ-loop → ℕ
+N c = c .before .before .before .before .before .before .before .args .n
+
+more : (c : tie.In-loop Inv-loop μ-loop) → c .before .loop .i < N c
+more c = omega (arith, c .before .before .lesser .ensures)
+
+room : (c : tie.In-loop Inv-loop μ-loop) → F c + 4 * c .before .loop .i + 4 ≤ length (S c)
+room c = omega (arith, c .before .before .lesser .ensures)
+
+mul-word-at : tie.Need-mul-word-at Inv-loop μ-loop
+mul-word-at c = omega (arith, room c)
+
+add-word-at : tie.Need-add-word-at Inv-loop μ-loop
+add-word-at c = omega (arith, room c)
+
+word-at-requires-2 : tie.Need-word-at-requires-2 Inv-loop μ-loop
+word-at-requires-2 c κs = room c
+
+-- the place of the next word
+next : (from i : ℕ) → from + 4 * i + 4 ≡ from + 4 * (i + 1)
+next from i = omega arith
 
 returns-3 : tie.Need-returns-3 Inv-loop μ-loop
 returns-3 c =
-    let args = c .before .before .before .before .before .before .before .args in
-    let loop = c .before .before .loop in
-    let loop-test = c .before .loop-test in
-    sym (later-cut (loop .last) (loop .before) (args .n) (loop .i) (now (args .s)) (loop .at) (loop-test .taken) (c .if3 .taken))
-    ∙ loop .inv .2
-
-read32-requires-2 : tie.Need-read32-requires-2 Inv-loop μ-loop
-read32-requires-2 c κs = search needs
-
-returns-4 : tie.Need-returns-4 Inv-loop μ-loop
-returns-4 c =
-    let args = c .before .before .before .before .before .before .before .before .before .args in
-    let loop = c .before .before .before .before .loop in
-    let loop-test = c .before .before .before .loop-test in
-    let if3 = c .before .before .if3 in
-    let read322 = c .before .read322 in
-    sym (later-date (loop .last) (loop .before) (args .n) (loop .i) (now (args .s)) (loop .at) (loop-test .taken) (read322 .result)
-    (read322 .ensures) (if3 .left) (c .if4 .taken)) ∙ loop .inv .2
+    let l = c .before .before in
+    let loop = l .before .loop in
+    let word = c .before .word-at2 in
+    sym (later-date (loop .before / 4) (eqb (loop .before % 2) 1) (N l) (loop .i) (S l) (F l + 4 * loop .i) (more l) (word .result)
+    (word .ensures) (omega (arith, room l)) (c .if3 .taken)) ∙ loop .inv .2
 
 changes-nothing-requires : tie.Need-changes-nothing-requires Inv-loop μ-loop
 changes-nothing-requires c κs = tt
 
-returns-5 : tie.Need-returns-5 Inv-loop μ-loop
-returns-5 c =
-    let args = c .before .before .before .before .before .before .before .before .before .before .before .args in
-    let loop = c .before .before .before .before .before .before .loop in
-    let loop-test = c .before .before .before .before .before .loop-test in
-    let if3 = c .before .before .before .before .if3 in
-    let read322 = c .before .before .before .read322 in
-    let if4 = c .before .before .if4 in
-    let changes-nothing = c .before .changes-nothing in
-    sym (later-same (loop .last) (loop .before) (args .n) (loop .i) (now (args .s)) (loop .at) (loop-test .taken) (read322 .result)
-    (read322 .ensures) (if3 .left) (if4 .left) (sym (changes-nothing .ensures) ∙ c .if5 .taken)) ∙ loop .inv .2
-
-add-at-2 : tie.Need-add-at-2 Inv-loop μ-loop
-add-at-2 c = omega arith
+returns-4 : tie.Need-returns-4 Inv-loop μ-loop
+returns-4 c =
+    let l = c .before .before .before .before in
+    let loop = l .before .loop in
+    let word = c .before .before .before .word-at2 in
+    sym (later-same (loop .before / 4) (eqb (loop .before % 2) 1) (N l) (loop .i) (S l) (F l + 4 * loop .i) (more l) (word .result)
+    (word .ensures) (omega (arith, room l)) (c .before .before .if3 .left) (sym (c .before .changes-nothing .ensures) ∙ c .if4 .taken))
+    ∙ loop .inv .2
 
 add-i : tie.Need-add-i Inv-loop μ-loop
 add-i c = search needs
@@ -93,24 +111,31 @@ loop-less c = omega arith
 
 loop-again : tie.Need-loop-again Inv-loop μ-loop
 loop-again c =
-    let args = c .before .before .before .before .before .before .before .before .before .before .before .args in
-    let loop = c .before .before .before .before .before .before .loop in
-    let loop-test = c .before .before .before .before .before .loop-test in
-    let if3 = c .before .before .before .before .if3 in
-    let read322 = c .before .before .before .read322 in
-    let if4 = c .before .before .if4 in
-    let changes-nothing = c .before .changes-nothing in (
+    let l = c .before .before .before .before in
+    let loop = l .before .loop in
+    let word = c .before .before .before .word-at2 in (
       omega arith,
-      omega arith,
-      later-next (loop .last) (loop .before) (args .n) (loop .i) (now (args .s)) (loop .at) (loop-test .taken)
-          (read322 .result) (read322 .ensures) (if3 .left) (if4 .left) (sym (changes-nothing .ensures) ∙ c .if5 .left) ∙ loop .inv .2,
+      omega (arith, room l),
+      rw (← next (F l) (loop .i)) (later-next (loop .before / 4) (eqb (loop .before % 2) 1) (N l) (loop .i) (S l) (F l + 4 * loop .i)
+          (more l) (word .result) (word .ensures) (omega (arith, room l)) (c .before .before .if3 .left)
+          (sym (c .before .changes-nothing .ensures) ∙ c .if4 .left)) ∙ loop .inv .2,
     )
+
+returns-5 : tie.Need-returns-5 Inv-loop μ-loop
+returns-5 c =
+    let args = c .before .before .before .before .before .before .before .before .args in
+    let loop = c .before .before .loop in
+    let lesser = c .before .before .before .lesser in
+    sym (later-cut _ _ (args .n) (loop .i) (now (args .s)) (args .from + 4 * loop .i) (omega (arith, lesser .ensures))
+    (omega (arith, lesser .ensures))) ∙ loop .inv .2
 
 returns-6 : tie.Need-returns-6 Inv-loop μ-loop
 returns-6 c =
-    let args = c .before .before .before .before .before .before .args in
-    let loop = c .before .loop in
-    sym (later-end _ _ (args .n) (loop .i) (drop (loop .at) (now (args .s))) (c .loop-test .left)) ∙ loop .inv .2
+    let args = c .before .before .before .before .before .before .before .before .args in
+    let loop = c .before .before .loop in
+    let lesser = c .before .before .before .lesser in
+    sym (later-end _ _ (args .n) (loop .i) (drop (args .from + 4 * loop .i) (now (args .s))) (omega (arith, lesser .ensures)))
+    ∙ loop .inv .2
 
 pub words-fault-spec : {M : Type 1} → statement M
 words-fault-spec =
@@ -118,20 +143,20 @@ words-fault-spec =
     (tie.spec
     Inv-loop
     μ-loop
-    sub-if1
+    sub-whole
     returns
-    read32-requires
+    word-at-requires
     returns-2
-    add-at
+    lesser-requires
     loop-holds
-    sub-if3
+    mul-word-at
+    add-word-at
+    word-at-requires-2
     returns-3
-    read32-requires-2
-    returns-4
     changes-nothing-requires
-    returns-5
-    add-at-2
+    returns-4
     add-i
     loop-less
     loop-again
+    returns-5
     returns-6)
