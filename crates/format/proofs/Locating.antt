@@ -89,9 +89,6 @@ module _ (sheet name : List ℕ) where
         go true e = found-place (placeOn sheet name) e
         go false e = sym (place-refused name 7 (countOn sheet) (drop 7 sheet) e)
 
-    pub place-sought : (n : ℕ) → n ≡ low16 (drop 5 sheet) → wellNamed name ≡ true → placeAmong name 7 n (drop 7 sheet) ≡ placeOf sheet name
-    place-sought n e t = rw (count-is sheet n e, wholes-all _ _ (sheet-whole sheet z)) (place-walked t)
-
 -- a place that a lookup gives lies within the sheet
 within-from : (name : List ℕ) (at n : ℕ) (rest : List ℕ) (start count : ℕ) → Whole n rest
     → placeFrom name at n rest ≡ At start count → (at ≤ start) × (start + count ≤ at + length rest)

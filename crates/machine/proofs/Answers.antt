@@ -6,7 +6,7 @@ use mathlib.Core.Bool.{Bool, true, false, cond}
 use mathlib.Core.List.{List}
 use lib.Dec.{eqb}
 use lib.ListN.{length}
-use borrow.Author.Tests.{eqb-true, eqb-false, eq-eqb, ne-eqb}
+use borrow.Author.Tests.{eqb-true, eqb-false}
 use Rattle.signals.specs.Answers.{writtenOf}
 use Rattle.signals.specs.declared.Written.the-variants.{Count, Refused}
 
@@ -25,11 +25,3 @@ refused-by f l g e = go (eqb f 0) refl e
     go : (b : Bool) → eqb f 0 ≡ b → cond b (Count (length l)) (Refused f) ≡ Refused g → (f ≡ g) × (g ≡ 0 → ⊥)
     go true q z = absurd (let x : _≡_ {A = ℕ} 0 1 = cc in omega arith)
     go false q z = let s : f ≡ g = cc in (s, λ h. eqb-false f 0 q (s ∙ h))
-
-pub refused-is : (f : ℕ) (l : List ℕ) → (f ≡ 0 → ⊥) → Refused f ≡ writtenOf f l
-unfolding writtenOf
-refused-is f l x = rw (ne-eqb f 0 x)
-
-pub counted-is : (f : ℕ) (l : List ℕ) (n : ℕ) → f ≡ 0 → n ≡ length l → Count n ≡ writtenOf f l
-unfolding writtenOf
-counted-is f l n z e = rw (eq-eqb f 0 z, e)

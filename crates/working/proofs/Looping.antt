@@ -26,7 +26,8 @@ use Rattle.machine.specs.Stack.{leafList, firstTaken, onTop, Runs, Worked, lack
 use Rattle.machine.proofs.PartCodes.{arity-small}
 use Rattle.working.specs.declared.Next.{Next}
 use Rattle.working.specs.declared.Ran.{Ran}
-use Rattle.working.specs.Standing.{listOf, nowhere, slotSource, fromAbove, Stands, Stacked, Slotted, Ready}
+use Rattle.working.specs.Standing.{listOf, nowhere, slotSource, fromAbove, Ready}
+use Rattle.working.proofs.OnStack.{Stands, Stacked, Slotted}
 use Rattle.working.specs.Standing.{LeafMade, ListMade, StepMade, WorkedOut}
 use Rattle.working.proofs.Standing.{stands-at, stacked-drop, stands-apart, stacked-kept, stacked-same}
 use Rattle.working.proofs.Slots.{exchanged, exchanged-slotted, exchanged-below, exchanged-top, firstSlots, first-slotted}

@@ -13,7 +13,7 @@ use lib.Seq.{getD-set-same, getD-set-other}
 use Rattle.signals.specs.Words.{mostWords}
 use Rattle.calls.specs.Calls.{workWords}
 use Rattle.working.specs.Layout.{slotAt}
-use Rattle.working.specs.Standing.{Slotted}
+use Rattle.working.proofs.OnStack.{Slotted}
 
 -- two slots exchanged
 abbrev pub exchanged : List ℕ → ℕ → ℕ → List ℕ

@@ -17,7 +17,8 @@ use Rattle.sources.specs.declared.Memory.the-variants.{Sheet, Work, Left, Right
 use Rattle.sources.specs.declared.Source.{Source}
 use Rattle.sources.proofs.Sourcing.{apart-kept}
 use Rattle.code_words.specs.CodeWords.{constants}
-use Rattle.working.specs.Standing.{listOf, nowhere, Stands, Stacked, Slotted}
+use Rattle.working.specs.Standing.{listOf, nowhere}
+use Rattle.working.proofs.OnStack.{Stands, Stacked, Slotted}
 
 -- the list at a place of the stack
 pub stands-at : (sheet work : List ℕ) (stack : List Source) (slots : List ℕ) (st : List (List ℕ)) → Stacked sheet work stack slots st

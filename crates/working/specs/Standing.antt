@@ -1,16 +1,14 @@
--- Mirrored: A stack of lists, each where it stands: on the sheet, among the constants, or in a slot of its own; one part worked out on it; and
--- the whole of working code words out.
+-- Mirrored: Lists where they stand: on the sheet, among the constants, or in a slot of the work area; one part worked out; and the whole of
+-- working code words out.
 use Prim.Native.Nat.{ℕ, _+_, _-_, _≤_, _<_}
 use mathlib.Core.Path.{_≡_}
 use mathlib.Core.Bool.{true, cond}
 use lib.Dec.{leb, ltb}
-use mathlib.Core.List.{List, [], _∷_}
-use mathlib.Core.Logic.{_⊎_}
+use mathlib.Core.List.{List, []}
 use lib.ListN.{length, take, getD}
 use Rattle.signals.specs.Words.{mostWords}
 use Rattle.signals.specs.Answers.{faultIn, countIn}
 use Rattle.signals.specs.declared.Written.{Written}
-use Rattle.calls.specs.Calls.{workWords}
 use Rattle.sources.specs.Sources.{listAt, apartFrom, withSlot}
 use Rattle.sources.specs.declared.Memory.the-variants.{Sheet, Work}
 use Rattle.sources.specs.declared.Source.{Source}
@@ -33,25 +31,8 @@ abbrev pub slotSource : ℕ → Written → Source
 slotSource at answer = record { memory = Work; at = at; count = countIn answer }
 
 unfoldable pub fromAbove : List Source → ℕ → ℕ → Source
-fromAbove stack height depth = cond (leb height depth) nowhere (cond (ltb (height - depth - 1) 20) (getD stack (height - depth - 1) nowhere) nowhere)
-
--- the source names the list; where it is in the work area, in the slot that is its own
-pub record Stands (sheet work : List ℕ) (s : Source) (slot : ℕ) (l : List ℕ) : Type 0 where
-  pub names : listOf sheet work s ≡ l
-  pub own : s .memory ≡ Work → (s .at ≡ slot) × (s .count ≤ mostWords)
-
--- the stack's lists stand where its sources say, the last one topmost
-abbrev pub Stacked : List ℕ → List ℕ → List Source → List ℕ → List (List ℕ) → Type 0
-Stacked sheet work stack slots [] = Unit {0}
-Stacked sheet work stack slots (l ∷ st) =
-    Stands sheet work (getD stack (length st) nowhere) (getD slots (length st) 0) l × Stacked sheet work stack slots st
-
--- the slots of the stack's places, and of the one above them: in the work area, and no two overlap
-pub record Slotted (slots : List ℕ) : Type 0 where
-  pub long : length slots ≡ 20
-  pub within : (k : ℕ) → k < 20 → getD slots k 0 + mostWords ≤ workWords
-  pub apart : (j k : ℕ) → j < 20 → k < 20 → (j ≡ k → ⊥)
-      → (getD slots j 0 + mostWords ≤ getD slots k 0) ⊎ (getD slots k 0 + mostWords ≤ getD slots j 0)
+fromAbove stack height depth =
+    cond (leb height depth) nowhere (cond (ltb (height - depth - 1) 20) (getD stack (height - depth - 1) nowhere) nowhere)
 
 -- the operands of a part stand apart from the slot that it may use, which is in the work area
 pub record Ready (a b : Source) (at room : ℕ) : Type 0 where
