@@ -32,7 +32,8 @@ use Rattle.applying.specs.PartCalls.{partAnswer, unaryIn, unaryFault, un
 use Rattle.applying.specs.Merges.{operationOf, tableFor}
 use Rattle.applying.specs.Applied.{MergedTo, DelayRan, DelayedTo, edged, appliedBy, Applied}
 use Rattle.applying.proofs.Numbering.{numbered}
-use Rattle.applying.proofs.Operators.{of-one, of-two, of-delay, delay-judged, delay-exact, judged-one, exact-one, judged-two, exact-two}
+use Rattle.applying.proofs.Operators.{of-one, of-two, of-delay, delay-judged, delay-exact}
+use Rattle.applying.proofs.Operators.{judged-one, exact-one, judged-two, exact-two}
 
 -- the answer's fault, and without one its list
 abbrev pub Told : Written → List ℕ → List ℕ → Type 0

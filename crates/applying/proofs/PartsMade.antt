@@ -102,7 +102,8 @@ module _ (sheet work : List ℕ) (at : ℕ) (given : SlotAnswer) (answer : Writt
       go : (t : Bool) → leb d M ≡ t → DelayPart w sheet work a at answer after
       go true s =
           let z = m .built (begins s) in
-          let told : answer ≡ partAnswer (madeAnswer (z .1 .last .made)) = e ∙ ap partAnswer (z .2) ∙ ap (λ x. partAnswer (madeAnswer x)) (z .1 .made-is) in
+          let told : answer ≡ partAnswer (madeAnswer (z .1 .last .made)) = e ∙ ap partAnswer (z .2) ∙ ap (λ x. partAnswer (madeAnswer x))
+          (z .1 .made-is) in
           record {
             slot = z .1 .last .slot;
             after-is = z .1 .work-is;
@@ -141,7 +142,8 @@ module _ (w : ℕ) (sheet work : List ℕ) (a b : Source) (at : ℕ) (answer : W
       }
 
   pub by-one : w % 16 < kinds.AND → edged (w % 16) ≡ true
-      → MergePart (w % 16) sheet work a (record { memory = Right; at = 0; count = 1 }) at answer after → PartMade w sheet work a b at answer after
+      → MergePart (w % 16) sheet work a (record { memory = Right; at = 0; count = 1 }) at answer after
+      → PartMade w sheet work a b at answer after
   by-one l e p =
       record {
         slot = p .slot;
@@ -150,7 +152,8 @@ module _ (w : ℕ) (sheet work : List ℕ) (a b : Source) (at : ℕ) (answer : W
         applied = rw (lt-leb kinds.AND (w % 16) l, e) (p .applied);
       }
 
-  pub by-delay : w % 16 < kinds.AND → edged (w % 16) ≡ false → DelayPart w sheet work a at answer after → PartMade w sheet work a b at answer after
+  pub by-delay : w % 16 < kinds.AND → edged (w % 16) ≡ false → DelayPart w sheet work a at answer after
+      → PartMade w sheet work a b at answer after
   by-delay l e p =
       record {
         slot = p .slot;

@@ -1,5 +1,5 @@
-// What a part's code word holds: its name in the text, where its list stands, how many operands it has. Other code words are taken for these, so
-// that every call has an answer.
+// What a part's code word holds: its name in the text, where its list stands, how many operands it has. Other code words are taken for
+// these, so that every call has an answer.
 ghost use mathlib.Core.Path.{_≡_};
 ghost use Prim.Native.Nat.{_/_, _%_};
 ghost use Rattle.grammar.specs.Formula.{nameAt};

@@ -55,6 +55,7 @@ module _ (sheet f g fs gs before : List ℕ) (ran : Ran) (after : List ℕ) (ok 
       let h : FoundAt false sheet constants constants after (ran .below) (ran .top) v = rw (first, second) at found in
       let s = stands sheet f g before after ok bytes (cf .read) (cg .read) (ran .fault) (w .end) both z in
       let t : listOf sheet after (ran .top) ≡ wordsOn sheet g = w .top-is z (rw (s .0) (omega arith)) ∙ ap (λ st. getD st 0 []) (s .0) in
-      let b : listOf sheet after (ran .below) ≡ wordsOn sheet f = w .below-is z (rw (s .0) (omega arith)) ∙ ap (λ st. getD st 1 []) (s .0) in
+      let b : listOf sheet after (ran .below) ≡ wordsOn sheet f = w .below-is z (rw (s .0) (omega arith)) ∙ ap (λ st. getD st 1 [])
+      (s .0) in
       judge-done sheet f g before after ok bytes (cf .read) (cg .read) (ran .fault) (w .end) both z v
       (implies-exact (wordsOn sheet f) (wordsOn sheet g) v (s .1) (s .2) (s .3) (s .4) (rw (b, t) at h))

@@ -55,7 +55,8 @@ unfolding placeJudged
 judged-accepted sheet name ok = rw (eq-eqb _ _ ok)
 
 -- by the cases of the place found
-module _ (sheet name : List ℕ) (n : ℕ) (en : n ≡ low16 (drop 5 sheet)) (place : Place) (e : place ≡ placeAmong name 7 n (drop 7 sheet)) where
+module _ (sheet name : List ℕ) (n : ℕ) (en : n ≡ low16 (drop 5 sheet)) (place : Place)
+    (e : place ≡ placeAmong name 7 n (drop 7 sheet)) where
   pub judged-found : (start count : ℕ) → place ≡ At start count → place ≡ placeJudged sheet name
   judged-found start count q =
       q ∙ sym (ap (orMissing (wellNamed name)) q) ∙ ap (orMissing (wellNamed name)) e ∙ judged-place sheet name n en

@@ -60,7 +60,8 @@ module _ (sheet text before after : List ℕ) (ok : sheetFault sheet ≡ 0) (byt
   unfolding workedFault
   worked-fault = go (outcome sheet _ before after fault end r)
     where
-      go : Outcome sheet (placedCodes sheet text) before after fault end → fault ≡ firstOf (workFault sheet (length before)) (workingFault sheet text)
+      go : Outcome sheet (placedCodes sheet text) before after fault end → fault ≡ firstOf (workFault sheet (length before))
+          (workingFault sheet text)
       go (inl h) = h .1 ∙ sym (first-is _ _ (h .0))
       go (inr h) = left (h .1) .fault-is ∙ sym (next-is _ _ (h .0))
 
@@ -92,9 +93,11 @@ module _ (sheet text before after : List ℕ) (ok : sheetFault sheet ≡ 0) (byt
   ran out out′ a h = let q = rw (whole (length out)) at h in record { answer-is = q .0; output-is = q .1; kept = worked-kept }
 
   pub run-refused : (fault ≡ 0 → ⊥) → (out : List ℕ) → Run sheet text before out (written.Refused fault) out after
-  run-refused x out = ran out out (written.Refused fault) (refused (workedFault sheet text (length before)) _ (wordsOn sheet text) out fault worked-fault x)
+  run-refused x out = ran out out (written.Refused fault) (refused (workedFault sheet text (length before)) _
+      (wordsOn sheet text) out fault worked-fault x)
 
-  pub run-handed : fault ≡ 0 → (out out′ : List ℕ) (a : Written) → HandsOver (wordsOn sheet text) out a out′ → Run sheet text before out a out′ after
+  pub run-handed : fault ≡ 0 → (out out′ : List ℕ) (a : Written) → HandsOver (wordsOn sheet text) out a out′
+      → Run sheet text before out a out′ after
   run-handed z out out′ a h =
       ran out out′ a (passes-on (workedFault sheet text (length before)) (roomFault (wordsOn sheet text) (length out))
       (wordsOn sheet text) out a out′ (sym worked-fault ∙ z) h)

@@ -72,7 +72,8 @@ in-a-row sheet (w ∷ ws) vs st fault end r = go r (λ next q. in-a-row sheet ws
         → Both sheet ws vs next fault end → Both sheet (w ∷ ws) vs st fault end
     on next q b = record { middle = b .middle; ran = each (b .ran) }
       where
-        each : (Runs sheet ws next 0 (b .middle) × Runs sheet vs (b .middle) fault end) ⊎ ((fault ≡ 0 → ⊥) × Runs sheet ws next fault (b .middle))
+        each : (Runs sheet ws next 0 (b .middle) × Runs sheet vs (b .middle) fault end) ⊎ ((fault ≡ 0 → ⊥) × Runs sheet ws next fault
+            (b .middle))
             → (Runs sheet (w ∷ ws) st 0 (b .middle) × Runs sheet vs (b .middle) fault end)
             ⊎ ((fault ≡ 0 → ⊥) × Runs sheet (w ∷ ws) st fault (b .middle))
         each (inl h) = inl (q _ _ (h .0), h .1)

@@ -162,7 +162,8 @@ at-found sheet n z = rw z
 -- a name's list on the sheet, read where it stands
 module _ (sheet n : List ℕ) (ok : sheetFault sheet ≡ 0) (bytes : Bytes sheet)
     (known : (wellNamed n ≡ true) × (among n (names (signalsOn sheet)) ≡ true)) where
-  there : (start count : ℕ) → placeOf sheet n ≡ At start count → leafList sheet (placedName (At start count)) ≡ exactOn sheet (leaf (name n))
+  there : (start count : ℕ) → placeOf sheet n ≡ At start count → leafList sheet (placedName (At start count)) ≡ exactOn sheet (leaf
+      (name n))
   unfolding listOnSheet lookupOf
   there start count e =
       let w = place-within sheet n start count e in
@@ -236,7 +237,8 @@ unfolding wordFound
 found-plain w x = rw (ne-eqb (w % 16) kinds.NAME x)
 
 -- a name that a lookup finds has 1 to 256 words, another none
-pub part-some : (sheet n : List ℕ) → Bytes sheet → lookupFault sheet n ≡ 0 → (1 ≤ byteCount (placeOf sheet n) / 4) × (byteCount (placeOf sheet n) / 4 ≤ mostWords)
+pub part-some : (sheet n : List ℕ) → Bytes sheet → lookupFault sheet n ≡ 0 → (1 ≤ byteCount (placeOf sheet n) / 4) × (byteCount
+    (placeOf sheet n) / 4 ≤ mostWords)
 unfolding lookupOf decoded
 part-some sheet n bytes z = go (placeOf sheet n) refl
   where

@@ -161,7 +161,11 @@ module _ (sheet text : List ℕ) (ok : sheetFault sheet ≡ 0) (bytes : Bytes sh
           ≡ eqb (lookupFault sheet n) 0
       go (yes z) =
           rw (name-kind (placeOf sheet n), name-count (placeOf sheet n), eq-eqb _ _ z)
-          (ap not (ne-eqb (byteCount (placeOf sheet n) / 4 % 512) 0 (λ e. absurd (omega (arith, part-some sheet n bytes z .0, part-some sheet n bytes z .1)))))
+          (ap not (ne-eqb (byteCount (placeOf sheet n) / 4 % 512) 0 (λ e. absurd (omega (
+            arith,
+            part-some sheet n bytes z .0,
+            part-some sheet n bytes z .1,
+          )))))
       go (no x) = rw (name-kind (placeOf sheet n), name-count (placeOf sheet n), ne-eqb _ _ x, part-missing sheet n x)
 
   found-word : (w : ℕ) → wordFound (placedWord sheet text w) ≡ partLooked sheet (partOf text w)

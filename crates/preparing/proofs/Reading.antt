@@ -40,7 +40,8 @@ module _ (sheet text codes old : List ℕ) (answer : Written) (a : answer ≡ wr
     few = let s = code-short text fine in omega (arith, count)
 
     module _ (long : length codes ≡ 32) (b : Bool) (after : List ℕ)
-        (h : (after ≡ map (placedWord sheet text) (take n codes) ++ drop n codes) × (b ≡ allFound (map (placedWord sheet text) (take n codes))))
+        (h : (after ≡ map (placedWord sheet text) (take n codes) ++ drop n codes) × (b ≡ allFound (map (placedWord sheet text)
+        (take n codes))))
       where
         stored : codes ≡ codeOf text ++ drop (length (codeOf text)) old
         stored =

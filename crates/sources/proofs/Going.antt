@@ -139,7 +139,8 @@ module _ (l : List ℕ) (small : Words l) (short : length l < 4294967296) (c : C
     unfolding Both
     on-taken q =
         let r = e ∙ past-taken l c d (on-date ∙ q) in (
-          ap (λ x. x .step) r ∙ rw (held-is, at-is, after-is, passed-is) (pass-word (nextWord l i) (heldValue l i) i d (next-word-date l i ∙ q)),
+          ap (λ x. x .step) r ∙ rw (held-is, at-is, after-is, passed-is) (pass-word (nextWord l i) (heldValue l i) i d (next-word-date l i
+              ∙ q)),
           ap (λ x. x .next) r ∙ ap (λ (x : Passed). cursorAt l (x .step .passed) (x .step .after)) (sym r),
         )
 

@@ -135,7 +135,8 @@ pub fn cursor_at(
     passed: usize,
     held: bool,
 ) -> Cursor
-    ensures { λ r. ⌜ r ≡ cursorAt (listAt (now (sheet .entry)) (now (left .entry)) (now (right .entry)) (now (work .entry)) list) passed held ⌝ }
+    ensures { λ r. ⌜ r ≡ cursorAt (listAt (now (sheet .entry)) (now (left .entry)) (now (right .entry)) (now (work .entry)) list) passed
+        held ⌝ }
 {
     let word = next_word(sheet, left, right, work, list, passed);
     Cursor {

@@ -60,10 +60,12 @@ leaf-stands sheet work w slot = go (eqb (w % 16) kinds.NAME)
   where
     go : (b : Bool)
         → Stands sheet work
-        (cond b (record { memory = Sheet; at = w / 8192 % 4294967296; count = w / 16 % 512 }) (record { memory = Left; at = constantOf w; count = 1 }))
+        (cond b (record { memory = Sheet; at = w / 8192 % 4294967296; count = w / 16 % 512 })
+        (record { memory = Left; at = constantOf w; count = 1 }))
         slot
         (listAt sheet constants constants []
-        (cond b (record { memory = Sheet; at = w / 8192 % 4294967296; count = w / 16 % 512 }) (record { memory = Left; at = constantOf w; count = 1 })))
+        (cond b (record { memory = Sheet; at = w / 8192 % 4294967296; count = w / 16 % 512 })
+        (record { memory = Left; at = constantOf w; count = 1 })))
     go true = record { names = refl; own = λ e. absurd (let z : _≡_ {A = ℕ} 0 1 = ap in-work e in omega arith) }
     go false = record { names = refl; own = λ e. absurd (let z : _≡_ {A = ℕ} 0 1 = ap in-work e in omega arith) }
 
@@ -140,7 +142,8 @@ module _ (sheet codes before : List ℕ) where
         now-runs fault end r = g .on fault end (rw next r)
 
         pub lacks : height < operandsOf w → (ran : Ran) → ran .fault ≡ 12 → WorkedOut sheet codes before ran work
-        lacks h ran f = stops ran work [] (λ z. absurd (let q = sym f ∙ z in omega arith)) (now-runs (ran .fault) [] (lacking (omega (arith, g .tall)) f))
+        lacks h ran f = stops ran work [] (λ z. absurd (let q = sym f ∙ z in omega arith)) (now-runs (ran .fault) [] (lacking (omega
+            (arith, g .tall)) f))
 
         pub too-high : operandsOf w ≤ height → 17 < height - operandsOf w → (ran : Ran) → ran .fault ≡ 12
             → WorkedOut sheet codes before ran work
@@ -157,14 +160,17 @@ module _ (sheet codes before : List ℕ) where
           own n l =
               rw (g .tall) at (stands-at sheet work stack slots (g .st) (g .stacked) n (omega (arith, g .tall)))
 
-          far : (n : ℕ) → n < height → (getD slots n 0 + mostWords ≤ getD slots height 0) ⊎ (getD slots height 0 + mostWords ≤ getD slots n 0)
+          far : (n : ℕ) → n < height → (getD slots n 0 + mostWords ≤ getD slots height 0) ⊎
+              (getD slots height 0 + mostWords ≤ getD slots n 0)
           far n l = g .slotted .apart n height (omega (arith, g .few)) (omega (arith, g .few)) (λ q. absurd (omega arith))
 
-          pub ready : 1 ≤ taken → Ready (getD stack (height - taken) nowhere) (getD stack (height - taken + taken / 2) nowhere) (getD slots height 0)
+          pub ready : 1 ≤ taken → Ready (getD stack (height - taken) nowhere) (getD stack (height - taken + taken / 2) nowhere)
+              (getD slots height 0)
               (length work)
           ready l =
               record {
-                first = stands-apart sheet work _ _ _ (own (height - taken) (omega arith)) (getD slots height 0) (far (height - taken) (omega arith));
+                first = stands-apart sheet work _ _ _ (own (height - taken) (omega arith)) (getD slots height 0) (far (height - taken)
+                    (omega arith));
                 second = stands-apart sheet work _ _ _ (own (height - taken + taken / 2) (omega (arith, small))) (getD slots height 0)
                     (far (height - taken + taken / 2) (omega (arith, small)));
                 fits = let z = g .slotted .within height (omega (arith, g .few)) in omega (arith, g .same);
@@ -198,7 +204,10 @@ module _ (sheet codes before : List ℕ) where
                 top =
                     rw (
                       getD-set-same stack (height - taken) list nowhere (omega (arith, g .long)),
-                      exchanged-top height (height - taken) slots (omega (arith, g .few, g .slotted .long)) (omega (arith, g .slotted .long)),
+                      exchanged-top height (height - taken) slots (omega (arith, g .few, g .slotted .long)) (omega (
+                        arith,
+                        g .slotted .long,
+                      )),
                     ) stands
 
           -- the sources and slots of the places below are as they were
@@ -217,7 +226,8 @@ module _ (sheet codes before : List ℕ) where
               → Going work' (set stack (height - taken) (next .list)) (exchanged slots height (height - taken)) (height - taken + 1) (i + 1)
           leaf-turn z next work' m =
               placed (next .list) work' (leafList sheet w) here (ap length (m .kept))
-              (rw (m .kept) (stacked-same sheet work stack _ slots _ (drop taken (g .st)) (stacked-drop sheet work stack slots taken (g .st) (g .stacked))
+              (rw (m .kept) (stacked-same sheet work stack _ slots _ (drop taken (g .st)) (stacked-drop sheet work stack slots taken
+              (g .st) (g .stacked))
               (under (next .list))))
               (λ fault end r. leaf (sym t ∙ z) (omega (arith, g .tall)) (rw z at r))
             where
@@ -246,7 +256,8 @@ module _ (sheet codes before : List ℕ) where
             fits = ready l .fits
 
             pub list-turn : next .fault ≡ 0
-                → Going work' (set stack (height - taken) (next .list)) (exchanged slots height (height - taken)) (height - taken + 1) (i + 1)
+                → Going work' (set stack (height - taken) (next .list)) (exchanged slots height (height - taken)) (height - taken + 1)
+                (i + 1)
             list-turn z =
                 placed (next .list) work' (take (countIn (m .answer)) (m .slot)) here
                 (ap length (m .after-is) ∙ with-slot-long work (getD slots height 0) mostWords fits (m .slot) (m .wide))
@@ -274,7 +285,8 @@ module _ (sheet codes before : List ℕ) where
           turned next work' m z = go (ℕ-discrete taken 0)
             where
               go : Dec (taken ≡ 0)
-                  → Going work' (set stack (height - taken) (next .list)) (exchanged slots height (height - taken)) (height - taken + 1) (i + 1)
+                  → Going work' (set stack (height - taken) (next .list)) (exchanged slots height (height - taken)) (height - taken + 1)
+                  (i + 1)
               go (yes e) = leaf-turn e next work' (m .0 e)
               go (no x) = let l : 1 ≤ taken = omega arith in list-turn l next work' (m .1 l) z
 

@@ -80,7 +80,8 @@ module _ (h p : ℕ) where
         record {
           long = length-set (set slots h (getD slots p 0)) p (getD slots h 0) ∙ length-set slots h (getD slots p 0) ∙ s .long;
           within = λ k c. rw (exchanged-at k) (s .within (other h p k) (below 20 k a b c));
-          apart = λ j k c d n. rw (exchanged-at j, exchanged-at k) (s .apart (other h p j) (other h p k) (below 20 j a b c) (below 20 k a b d)
+          apart = λ j k c d n. rw (exchanged-at j, exchanged-at k) (s .apart (other h p j) (other h p k) (below 20 j a b c)
+              (below 20 k a b d)
               (λ e. n (sym (twice j) ∙ ap (other h p) e ∙ twice k)));
         }
 
@@ -109,8 +110,64 @@ firstSlots =
 
 in-order : Firsts 0 firstSlots 0
 unfolding Firsts
-in-order =
-    (refl, (refl, (refl, (refl, (refl, (refl, (refl, (refl, (refl, (refl, (refl, (refl, (refl, (refl, (refl, (refl, (refl, (refl, (refl, (refl, tt))))))))))))))))))))
+in-order = (
+  refl,
+  (
+    refl,
+    (
+      refl,
+      (
+        refl,
+        (
+          refl,
+          (
+            refl,
+            (
+              refl,
+              (
+                refl,
+                (
+                  refl,
+                  (
+                    refl,
+                    (
+                      refl,
+                      (
+                        refl,
+                        (
+                          refl,
+                          (
+                            refl,
+                            (
+                              refl,
+                              (
+                                refl,
+                                (
+                                  refl,
+                                  (
+                                    refl,
+                                    (
+                                      refl,
+                                      (refl, tt),
+                                    ),
+                                  ),
+                                ),
+                              ),
+                            ),
+                          ),
+                        ),
+                      ),
+                    ),
+                  ),
+                ),
+              ),
+            ),
+          ),
+        ),
+      ),
+    ),
+  ),
+)
 
 first-slot : (k : ℕ) → k < 20 → getD firstSlots k 0 ≡ mostWords * k
 first-slot k h = firsts-at 0 firstSlots in-order k h ∙ (let e : mostWords * (0 + k) ≡ mostWords * k = omega arith in e)

@@ -24,7 +24,8 @@ operate-requires : tie.Need-operate-requires
 operate-requires c κs =
     let second = c .before .before .before in
     let first = second .before .before in
-    may-be _ _ _ _ (sym (second .before .if1 .taken) ∙ first .apart .ensures) (sym (c .before .before .if2 .taken) ∙ second .apart2 .ensures)
+    may-be _ _ _ _ (sym (second .before .if1 .taken) ∙ first .apart .ensures) (sym (c .before .before .if2 .taken)
+    ∙ second .apart2 .ensures)
     (c .before .if3 .taken)
 
 same-length : tie.Need-same-length
@@ -35,7 +36,8 @@ returns c =
     let second = c .before .before .before .before .before .before in
     let first = second .before .before in
     part-made _ _ _ _ _ _ _ _
-    (may-be _ _ _ _ (sym (second .before .if1 .taken) ∙ first .apart .ensures) (sym (c .before .before .before .before .before .if2 .taken) ∙ second .apart2 .ensures)
+    (may-be _ _ _ _ (sym (second .before .if1 .taken) ∙ first .apart .ensures) (sym
+    (c .before .before .before .before .before .if2 .taken) ∙ second .apart2 .ensures)
     (c .before .before .before .before .if3 .taken))
     (c .before .before .operate .ensures)
 

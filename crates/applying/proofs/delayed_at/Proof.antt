@@ -26,7 +26,8 @@ same-length c = search needs
 returns : tie.Need-returns
 returns c =
     let m = c .before .before .before in
-    delay-part _ _ _ _ _ _ (c .part-answer .ensures) _ _ _ _ refl refl (m .before .before .before .before .before .before .pre) (m .delay-at .ensures)
+    delay-part _ _ _ _ _ _ (c .part-answer .ensures) _ _ _ _ refl refl (m .before .before .before .before .before .before .pre)
+    (m .delay-at .ensures)
 
 pub delayed-at-spec : {M : Type 1} → statement M
 delayed-at-spec =

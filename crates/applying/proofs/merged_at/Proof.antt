@@ -29,7 +29,8 @@ same-length c = search needs
 returns : tie.Need-returns
 returns c =
     let m = c .before .before .before in
-    merge-part _ _ _ _ _ _ (c .part-answer .ensures) _ _ _ _ _ (m .before .before .before .before .before .operation-of .ensures) (m .before .before .before .before .table-of .ensures) (m .before .before .before .before .before .before .before .before .pre)
+    merge-part _ _ _ _ _ _ (c .part-answer .ensures) _ _ _ _ _ (m .before .before .before .before .before .operation-of .ensures)
+    (m .before .before .before .before .table-of .ensures) (m .before .before .before .before .before .before .before .before .pre)
     (m .merge-at .ensures)
 
 pub merged-at-spec : {M : Type 1} → statement M

@@ -21,7 +21,8 @@ same-length-2 : tie.Need-same-length-2
 same-length-2 c = search needs
 
 returns-2 : tie.Need-returns-2
-returns-2 c = by-one _ _ _ _ _ _ _ _ (c .before .before .before .before .before .if1 .left) (c .before .before .before .before .if2 .taken) (c .before .before .merged-at2 .ensures)
+returns-2 c = by-one _ _ _ _ _ _ _ _ (c .before .before .before .before .before .if1 .left)
+    (c .before .before .before .before .if2 .taken) (c .before .before .merged-at2 .ensures)
 
 delayed-at-requires : tie.Need-delayed-at-requires
 delayed-at-requires c κs = may-alone _ _ _ _ (c .before .before .before .before .before .pre)
@@ -30,7 +31,8 @@ same-length-3 : tie.Need-same-length-3
 same-length-3 c = search needs
 
 returns-3 : tie.Need-returns-3
-returns-3 c = by-delay _ _ _ _ _ _ _ _ (c .before .before .before .before .before .if1 .left) (c .before .before .before .before .if2 .left) (c .before .before .delayed-at .ensures)
+returns-3 c = by-delay _ _ _ _ _ _ _ _ (c .before .before .before .before .before .if1 .left)
+    (c .before .before .before .before .if2 .left) (c .before .before .delayed-at .ensures)
 
 pub operate-spec : {M : Type 1} → statement M
 operate-spec =

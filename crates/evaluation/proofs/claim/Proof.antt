@@ -17,7 +17,8 @@ enum-known-parts c = search needs
 array-share-prefix-f-codes : tie.Need-array-share-prefix-f-codes
 array-share-prefix-f-codes c =
     let read = c .before .before .before in
-    judged-few _ _ (λ i. read .before .before .before .before .before .shared-slice-known .given i .fits) _ _ _ (read .judge-and-prepare .ensures) _ (c .before .parts .given .1)
+    judged-few _ _ (λ i. read .before .before .before .before .before .shared-slice-known .given i .fits) _ _ _
+    (read .judge-and-prepare .ensures) _ (c .before .parts .given .1)
 
 slice-aggregate-claim-on : tie.Need-slice-aggregate-claim-on
 slice-aggregate-claim-on c = sym (length-take-le _ _ (array-share-prefix-f-codes (c .before)))
@@ -26,7 +27,8 @@ claim-on-requires : tie.Need-claim-on-requires
 claim-on-requires c κs =
     let told = c .before .before .before in
     let read = told .before .before in
-    sheet-fine _ _ (λ i. read .before .before .before .before .before .shared-slice-known .given i .fits) _ _ _ (read .judge-and-prepare .ensures) _ (told .parts .given .1)
+    sheet-fine _ _ (λ i. read .before .before .before .before .before .shared-slice-known .given i .fits) _ _ _
+    (read .judge-and-prepare .ensures) _ (told .parts .given .1)
 
 enum-known-parts-2 : tie.Need-enum-known-parts-2
 enum-known-parts-2 c = search needs
@@ -48,7 +50,8 @@ returns-2 : tie.Need-returns-2
 returns-2 c =
     let read = c .before .before .before in
     let start = read .before .before .before .before .before .before in
-    let q = judged-refused _ _ (λ i. read .before .before .before .before .before .shared-slice-known .given i .fits) _ _ _ (read .judge-and-prepare .ensures) _
+    let q = judged-refused _ _ (λ i. read .before .before .before .before .before .shared-slice-known .given i .fits) _ _ _
+    (read .judge-and-prepare .ensures) _
     (c .before .parts2 .given .1) in
     claim-refused (start .args .sheet .now) (start .args .f .now) (start .args .g .now) (start .args .work .now) _ (q .0) (q .1)
 

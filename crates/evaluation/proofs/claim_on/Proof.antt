@@ -18,7 +18,8 @@ array-share-prefix-g-codes : tie.Need-array-share-prefix-g-codes
 array-share-prefix-g-codes c =
     let read = c .before .before .before in
     let start = read .before .before .before .before .before .before in
-    few-codes _ _ (λ i. read .before .before .before .before .before .shared-slice-known .given i .fits) (start .pre) _ _ _ (read .prepare .ensures) _ (c .before .parts .given .1)
+    few-codes _ _ (λ i. read .before .before .before .before .before .shared-slice-known .given i .fits) (start .pre) _ _ _
+    (read .prepare .ensures) _ (c .before .parts .given .1)
 
 slice-aggregate-judge : tie.Need-slice-aggregate-judge
 slice-aggregate-judge c = sym (length-take-le _ _ (array-share-prefix-g-codes (c .before)))
@@ -45,7 +46,8 @@ returns-2 : tie.Need-returns-2
 returns-2 c =
     let read = c .before .before .before in
     let start = read .before .before .before .before .before .before in
-    let q = read-refused _ _ (λ i. read .before .before .before .before .before .shared-slice-known .given i .fits) (start .pre) _ _ _ (read .prepare .ensures) _
+    let q = read-refused _ _ (λ i. read .before .before .before .before .before .shared-slice-known .given i .fits) (start .pre) _ _ _
+    (read .prepare .ensures) _
     (c .before .parts2 .given .1) in
     λ f cf. on-reading _ _ _ _ _ (q .0) (q .1)
 

@@ -51,7 +51,9 @@ loop-again : tie.Need-loop-again Inv-loop μ-loop
 loop-again c =
     let at = c .before .before .before .before .loop .inv in
     let small = c .before .before .before .loop-test .taken in
-    let words = list-words _ _ (c .before .before .before .before .before .before .before .before .args .list) (λ i. c .before .before .before .before .before .before .before .shared-slice-known .given i .fits) (λ i. c .before .before .before .before .before .before .shared-slice-known2 .given i .fits) in (
+    let words = list-words _ _ (c .before .before .before .before .before .before .before .before .args .list)
+    (λ i. c .before .before .before .before .before .before .before .shared-slice-known .given i .fits)
+    (λ i. c .before .before .before .before .before .before .shared-slice-known2 .given i .fits) in (
       at .0,
       omega arith,
       at .2,
@@ -68,7 +70,8 @@ returns c =
     let a = c .before .before .before .before .before .args in
     let e : c .before .loop .i ≡ a .count = omega (arith, at .1, c .loop-test .left) in
     let q = rw e at (at .4) in
-    q ∙ rw (at .0) (ap (λ l. l ++ drop (length (listOf (a .sheet .now) (a .work .now) (a .list))) (a .out .now)) (take-length (listOf (a .sheet .now) (a .work .now) (a .list))))
+    q ∙ rw (at .0) (ap (λ l. l ++ drop (length (listOf (a .sheet .now) (a .work .now) (a .list))) (a .out .now)) (take-length (listOf
+    (a .sheet .now) (a .work .now) (a .list))))
 
 pub copy-words-spec : {M : Type 1} → statement M
 copy-words-spec =

@@ -17,7 +17,8 @@ enum-known-parts c = search needs
 array-share-prefix-codes : tie.Need-array-share-prefix-codes
 array-share-prefix-codes c =
     let read = c .before .before .before in
-    judged-few _ _ (λ i. read .before .before .before .before .before .shared-slice-known .given i .fits) _ _ _ (read .judge-and-prepare .ensures) _ (c .before .parts .given .1)
+    judged-few _ _ (λ i. read .before .before .before .before .before .shared-slice-known .given i .fits) _ _ _
+    (read .judge-and-prepare .ensures) _ (c .before .parts .given .1)
 
 slice-aggregate-run-formula : tie.Need-slice-aggregate-run-formula
 slice-aggregate-run-formula c = sym (length-take-le _ _ (array-share-prefix-codes (c .before)))
@@ -26,7 +27,8 @@ run-formula-requires : tie.Need-run-formula-requires
 run-formula-requires c κs =
     let told = c .before .before .before .before in
     let read = told .before .before in
-    sheet-fine _ _ (λ i. read .before .before .before .before .before .shared-slice-known .given i .fits) _ _ _ (read .judge-and-prepare .ensures) _ (told .parts .given .1)
+    sheet-fine _ _ (λ i. read .before .before .before .before .before .shared-slice-known .given i .fits) _ _ _
+    (read .judge-and-prepare .ensures) _ (told .parts .given .1)
 
 enum-known-parts-2 : tie.Need-enum-known-parts-2
 enum-known-parts-2 c = search needs
@@ -51,7 +53,8 @@ returns-2 : tie.Need-returns-2
 returns-2 c =
     let read = c .before .before .before in
     let start = read .before .before .before .before .before .before in
-    let q = judged-refused _ _ (λ i. read .before .before .before .before .before .shared-slice-known .given i .fits) _ _ _ (read .judge-and-prepare .ensures) _
+    let q = judged-refused _ _ (λ i. read .before .before .before .before .before .shared-slice-known .given i .fits) _ _ _
+    (read .judge-and-prepare .ensures) _
     (c .before .parts2 .given .1) in
     call-refused (start .args .sheet .now) (start .args .formula .now) (start .args .work .now) (start .args .out .now) _ (q .0) (q .1)
 

@@ -24,7 +24,8 @@ same-length : tie.Need-same-length
 same-length c = search needs
 
 returns-2 : tie.Need-returns-2
-returns-2 c = handed _ _ _ _ (c .before .before .before .before .before .length-of .ensures) (c .before .before .before .before .if1 .left) (c .before .before .copy-words .ensures)
+returns-2 c = handed _ _ _ _ (c .before .before .before .before .before .length-of .ensures)
+    (c .before .before .before .before .if1 .left) (c .before .before .copy-words .ensures)
 
 pub hand-over-spec : {M : Type 1} → statement M
 hand-over-spec =

@@ -15,7 +15,9 @@ returns : tie.Need-returns
 returns c =
     let start = c .before .before .before .before .before .before .before .before .before in
     let ran = c .before .before .before in
-    λ f g cf cg. claim-refused _ f g _ _ _ _ _ (start .pre) (λ i. c .before .before .before .before .before .before .before .before .shared-slice-known .given i .fits) cf cg (ran .work-out .ensures)
+    λ f g cf cg. claim-refused _ f g _ _ _ _ _ (start .pre)
+    (λ i. c .before .before .before .before .before .before .before .before .shared-slice-known .given i .fits) cf cg
+    (ran .work-out .ensures)
     (c .if1 .taken)
 
 slice-aggregate-implies-at : tie.Need-slice-aggregate-implies-at
@@ -34,7 +36,9 @@ returns-2 : tie.Need-returns-2
 returns-2 c =
     let start = c .before .before .before .before .before .before .before .before .before .before .before .before .before in
     let ran = c .before .before .before .before .before .before .before in
-    λ f g cf cg. claim-judged _ f g _ _ _ _ _ (start .pre) (λ i. c .before .before .before .before .before .before .before .before .before .before .before .before .shared-slice-known .given i .fits) cf cg (ran .work-out .ensures)
+    λ f g cf cg. claim-judged _ f g _ _ _ _ _ (start .pre)
+    (λ i. c .before .before .before .before .before .before .before .before .before .before .before .before .shared-slice-known .given i .fits) cf cg
+    (ran .work-out .ensures)
     (c .before .before .before .before .if1 .left) _ _ _ (c .implies-at .ensures) refl refl
 
 pub judge-spec : {M : Type 1} → statement M

@@ -16,7 +16,8 @@ same-length c = search needs
 
 returns : tie.Need-returns
 returns c =
-    λ text coded. formula-refused _ text _ _ _ _ (c .before .before .before .before .before .before .before .before .before .before .pre) (λ i. c .before .before .before .before .before .before .before .before .before .shared-slice-known .given i .fits) coded
+    λ text coded. formula-refused _ text _ _ _ _ (c .before .before .before .before .before .before .before .before .before .before .pre)
+    (λ i. c .before .before .before .before .before .before .before .before .before .shared-slice-known .given i .fits) coded
     (c .before .before .before .work-out .ensures) (c .if1 .taken) _
 
 hand-over-requires : tie.Need-hand-over-requires
@@ -31,7 +32,9 @@ same-length-3 c = search needs
 returns-2 : tie.Need-returns-2
 returns-2 c =
     let ran = c .before .before .before .before .before .before .before .before in
-    λ text coded. formula-handed _ text _ _ _ _ (c .before .before .before .before .before .before .before .before .before .before .before .before .before .before .before .pre) (λ i. c .before .before .before .before .before .before .before .before .before .before .before .before .before .before .shared-slice-known .given i .fits) coded (ran .work-out .ensures)
+    λ text coded. formula-handed _ text _ _ _ _
+    (c .before .before .before .before .before .before .before .before .before .before .before .before .before .before .before .pre)
+    (λ i. ran .before .before .before .before .before .before .shared-slice-known .given i .fits) coded (ran .work-out .ensures)
     (c .before .before .before .before .before .if1 .left) _ _ _ (c .before .before .hand-over .ensures)
 
 pub run-formula-spec : {M : Type 1} → statement M

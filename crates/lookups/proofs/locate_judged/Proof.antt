@@ -40,4 +40,5 @@ returns-3 c =
     (sym (c .if1 .left) ∙ c .before .well-named .ensures)
 
 pub locate-judged-spec : {M : Type 1} → statement M
-locate-judged-spec = tie.close (tie.spec read16-requires find-requires enum-told enum-told-2 well-named-requires returns returns-2 returns-3)
+locate-judged-spec = tie.close
+    (tie.spec read16-requires find-requires enum-told enum-told-2 well-named-requires returns returns-2 returns-3)

@@ -17,7 +17,8 @@ shared-slice-read-result : tie.Need-shared-slice-read-result
 shared-slice-read-result c = search needs
 
 returns : tie.Need-returns
-returns c = sym (List·getD-append (c .before .before .args .first .now) (c .before .before .args .second .now) 0 (c .before .before .args .i) (c .before .if1 .taken))
+returns c = sym (List·getD-append (c .before .before .args .first .now) (c .before .before .args .second .now) 0
+    (c .before .before .args .i) (c .before .if1 .taken))
 
 mul-result-2 : tie.Need-mul-result-2
 mul-result-2 c = search needs

@@ -20,10 +20,18 @@ enum-known-answer-2 : tie.Need-enum-known-answer-2
 enum-known-answer-2 c = search needs
 
 returns : tie.Need-returns
-returns c = (sym (ap faultIn (c .before .answer .given .1)), sym (ap (slotSource (c .before .before .before .args .at)) (c .before .answer .given .1)))
+returns c = (
+  sym (ap faultIn (c .before .answer .given .1)),
+  sym (ap (slotSource (c .before .before .before .args .at))
+      (c .before .answer .given .1)),
+)
 
 returns-2 : tie.Need-returns-2
-returns-2 c = (sym (ap faultIn (c .before .answer2 .given .1)), sym (ap (slotSource (c .before .before .before .args .at)) (c .before .answer2 .given .1)))
+returns-2 c = (
+  sym (ap faultIn (c .before .answer2 .given .1)),
+  sym (ap (slotSource (c .before .before .before .args .at))
+      (c .before .answer2 .given .1)),
+)
 
 pub in-slot-spec : {M : Type 1} → statement M
 in-slot-spec = tie.close (tie.spec enum-known-answer cast-t7 enum-known-answer-2 returns returns-2)

@@ -30,7 +30,8 @@ returns-2 c =
     let start = c .before .before .before .before .before .before .before .before in
     let n = c .before .before .before .before .before .if1 .left in (
       λ z. absurd (n z),
-      λ l. list-made _ _ _ _ _ _ _ _ (start .pre .1 l) (c .before .before .before .apply .ensures) (c .before .before .before .apply .kept .1 .1 .0) _
+      λ l. list-made _ _ _ _ _ _ _ _ (start .pre .1 l) (c .before .before .before .apply .ensures)
+          (c .before .before .before .apply .kept .1 .1 .0) _
           (c .in-slot .ensures .0) (c .in-slot .ensures .1),
     )
 

@@ -106,7 +106,9 @@ returns-4 c =
     let e = c .before .before .before .before .before .before .before .before .before .before in
     let inv = e .before .before .before .loop .inv in
     halted _ _ _ (inv .0) _ _ _ _ _ (inv .3) (omega (arith, inv .1, e .before .before .loop-test .taken)) _ (e .before .code-at .ensures)
-    _ (e .operands .ensures) (c .before .before .before .before .before .before .before .before .before .if2 .left) (c .before .before .before .before .before .before .before .before .if3 .left) _ _ (c .before .before .before .before .step .ensures) (c .before .if4 .taken) _ (c .refused4 .ensures)
+    _ (e .operands .ensures) (c .before .before .before .before .before .before .before .before .before .if2 .left)
+    (c .before .before .before .before .before .before .before .before .if3 .left) _ _ (c .before .before .before .before .step .ensures)
+    (c .before .if4 .taken) _ (c .refused4 .ensures)
 
 mul-stack : tie.Need-mul-stack Inv-loop μ-loop
 mul-stack c = search needs
@@ -149,7 +151,9 @@ loop-again c =
       inv .1,
       omega (arith, e .before .before .loop-test .taken),
       turned _ _ _ (inv .0) _ _ _ _ _ (inv .3) (omega (arith, inv .1, e .before .before .loop-test .taken)) _ (e .before .code-at .ensures)
-          _ (e .operands .ensures) (c .before .before .before .before .before .before .before .before .before .if2 .left) (c .before .before .before .before .before .before .before .before .if3 .left) _ _ (c .before .before .before .before .step .ensures) (c .before .if4 .left),
+          _ (e .operands .ensures) (c .before .before .before .before .before .before .before .before .before .if2 .left)
+          (c .before .before .before .before .before .before .before .before .if3 .left) _ _
+          (c .before .before .before .before .step .ensures) (c .before .if4 .left),
     )
 
 from-above-requires : tie.Need-from-above-requires Inv-loop μ-loop
@@ -164,7 +168,8 @@ same-length-4 c = c .before .before .before .loop .inv .3 .same
 returns-5 : tie.Need-returns-5 Inv-loop μ-loop
 returns-5 c =
     let inv = c .before .before .before .loop .inv in
-    finished _ _ _ (inv .0) _ _ _ _ _ (inv .3) (omega (arith, inv .1, c .before .before .loop-test .left)) _ refl (c .before .from-above .ensures)
+    finished _ _ _ (inv .0) _ _ _ _ _ (inv .3) (omega (arith, inv .1, c .before .before .loop-test .left)) _ refl
+    (c .before .from-above .ensures)
     (c .from-above2 .ensures)
 
 pub work-out-spec : {M : Type 1} → statement M
