@@ -56,11 +56,13 @@ module _ (l : List ℕ) (x : ℕ) (p : Bool) (i : ℕ) (g : Going l x p i) where
 
 -- The same of a reader by value.
 pub record On (l : List ℕ) (c : Cursor) (i : ℕ) : Type 0 where
-  pub is : c ≡ cursorAt l i (heldValue l i)
+  pub is : c ≡ cursorAt l i (c .last)
+  pub held : valueAfter (c .last) ≡ heldValue l i
   pub few : i < 4294967296
 
 pub on-start : (l : List ℕ) (c : Cursor) → c ≡ startOf l → On l c 1
-on-start l c e = record { is = e ∙ ap (cursorAt l 1) (first-held l); few = omega arith }
+unfolding cursorAt
+on-start l c e = rw e (record { is = refl; held = first-held l; few = omega arith })
 
 -- the low bits of a word have its values
 low-at : (x : ℕ) → valueAt (x % 4294967296) ≡ valueAt x
@@ -75,27 +77,37 @@ low-after x = let e : x % 4294967296 % 2 ≡ x % 2 = omega arith in rw e
 pub past-taken : (l : List ℕ) (c : Cursor) (d : ℕ) → c .date ≡ d
     → pastOn l c d
     ≡ (record {
-      step = record { before = c .held; at = valueAt (c .word); after = valueAfter (c .word); passed = c .passed % 4294967296 + 1 };
-      next = cursorAt l (c .passed % 4294967296 + 1) (valueAfter (c .word));
+      step = record {
+        before = valueAfter (c .last);
+        at = valueAt (c .word);
+        after = valueAfter (c .word);
+        passed = c .passed % 4294967296 + 1;
+      };
+      next = cursorAt l (c .passed % 4294967296 + 1) (c .word);
     })
 unfolding pastOn
 past-taken l c d e = rw (eq-eqb (c .date) d e)
 
+pub past-kept : (l : List ℕ) (c : Cursor) (d : ℕ) → (c .date ≡ d → ⊥)
+    → pastOn l c d ≡ (record { step = heldOn (valueAfter (c .last)) (c .passed); next = c })
+unfolding pastOn
+past-kept l c d x = rw (ne-eqb (c .date) d x)
+
 -- as the code makes it
-pub started : (l : List ℕ) (w : ℕ) (c : Cursor) → w ≡ nextWord l 0 → c ≡ cursorAt l 1 (valueAfter w) → c ≡ startOf l
+pub started : (l : List ℕ) (w : ℕ) (c : Cursor) → w ≡ nextWord l 0 → c ≡ cursorAt l 1 w → c ≡ startOf l
 started l w c e f = rw e at f
 
-pub taken-is : (l : List ℕ) (c next : Cursor) (d : ℕ) → c .date ≡ d → next ≡ cursorAt l (c .passed % 4294967296 + 1) (valueAfter (c .word))
+pub taken-is : (l : List ℕ) (c next : Cursor) (d : ℕ) → c .date ≡ d → next ≡ cursorAt l (c .passed % 4294967296 + 1) (c .word)
     → _≡_ {A = Passed} (record {
-      step = record { before = c .held; at = valueAt (c .word); after = valueAfter (c .word); passed = c .passed % 4294967296 + 1 };
+      step = record {
+        before = valueAfter (c .last);
+        at = valueAt (c .word);
+        after = valueAfter (c .word);
+        passed = c .passed % 4294967296 + 1;
+      };
       next = next;
     }) (pastOn l c d)
 taken-is l c next d e f = rw f (sym (past-taken l c d e))
-
-pub past-kept : (l : List ℕ) (c : Cursor) (d : ℕ) → (c .date ≡ d → ⊥)
-    → pastOn l c d ≡ (record { step = heldOn (c .held) (c .passed); next = c })
-unfolding pastOn
-past-kept l c d x = rw (ne-eqb (c .date) d x)
 
 module _ (l : List ℕ) (small : Words l) (short : length l < 4294967296) (c : Cursor) (i : ℕ) (o : On l c i) where
   date-low : nextWord l i / 4 % 4294967296 ≡ nextWord l i / 4
@@ -108,51 +120,51 @@ module _ (l : List ℕ) (small : Words l) (short : length l < 4294967296) (c : C
   -- its date is the next word's, and the value held is the list's
   pub on-date : c .date ≡ nextDate l i
   unfolding cursorAt
-  on-date = rw (o .is) (date-low ∙ next-word-date l i)
+  on-date = ap (λ x. x .date) (o .is) ∙ date-low ∙ next-word-date l i
 
-  pub on-held : c .held ≡ heldValue l i
-  unfolding cursorAt
-  on-held = rw (o .is)
+  pub on-held : valueAfter (c .last) ≡ heldValue l i
+  on-held = o .held
 
   -- past a date
   module _ (d : ℕ) (early : d < NEVER) (u : Passed) (e : u ≡ pastOn l c d) where
-    held-is : c .held ≡ heldValue l i
-    held-is = on-held
-
     passed-is : c .passed ≡ i
     unfolding cursorAt
-    passed-is = rw (o .is)
+    passed-is = ap (λ x. x .passed) (o .is)
 
     at-is : valueAt (c .word) ≡ valueAt (nextWord l i)
     unfolding cursorAt
-    at-is = rw (o .is) (low-at (nextWord l i))
+    at-is = ap (λ x. valueAt (x .word)) (o .is) ∙ low-at (nextWord l i)
 
     after-is : valueAfter (c .word) ≡ valueAfter (nextWord l i)
     unfolding cursorAt
-    after-is = rw (o .is) (low-after (nextWord l i))
+    after-is = ap (λ x. valueAfter (x .word)) (o .is) ∙ low-after (nextWord l i)
 
     -- the step, and the reader past it
-    Both : Type 0
-    Both = (u .step ≡ passOn (nextWord l i) (heldValue l i) i d) × (u .next ≡ cursorAt l (u .step .passed) (u .step .after))
+    record Both : Type 0 where
+      step-is : u .step ≡ passOn (nextWord l i) (heldValue l i) i d
+      next-is : u .next ≡ cursorAt l (u .step .passed) (u .next .last)
+      held-is : valueAfter (u .next .last) ≡ u .step .after
 
     on-taken : nextDate l i ≡ d → Both
-    unfolding Both
+    unfolding cursorAt
     on-taken q =
-        let r = e ∙ past-taken l c d (on-date ∙ q) in (
-          ap (λ x. x .step) r ∙ rw (held-is, at-is, after-is, passed-is) (pass-word (nextWord l i) (heldValue l i) i d (next-word-date l i
-              ∙ q)),
-          ap (λ x. x .next) r ∙ ap (λ (x : Passed). cursorAt l (x .step .passed) (x .step .after)) (sym r),
-        )
+        let r = e ∙ past-taken l c d (on-date ∙ q) in
+        record {
+          step-is = ap (λ x. x .step) r
+              ∙ rw (on-held, at-is, after-is, passed-is) (pass-word (nextWord l i) (heldValue l i) i d (next-word-date l i ∙ q));
+          next-is = rw r refl;
+          held-is = rw r refl;
+        }
 
     on-kept : (nextDate l i ≡ d → ⊥) → Both
-    unfolding Both
     on-kept n =
         let r = e ∙ past-kept l c d (λ z. n (sym on-date ∙ z)) in
-        let k : heldOn (c .held) (c .passed) ≡ heldOn (heldValue l i) i = rw (held-is, passed-is) in
-        let s = ap (λ x. x .step) r ∙ k in (
-          s ∙ pass-none (nextWord l i) (heldValue l i) i d (λ z. n (sym (next-word-date l i) ∙ z)),
-          ap (λ x. x .next) r ∙ o .is ∙ ap (λ (x : Step). cursorAt l (x .passed) (x .after)) (sym s),
-        )
+        let k : heldOn (valueAfter (c .last)) (c .passed) ≡ heldOn (heldValue l i) i = rw (on-held, passed-is) in
+        record {
+          step-is = ap (λ x. x .step) r ∙ k ∙ pass-none (nextWord l i) (heldValue l i) i d (λ z. n (sym (next-word-date l i) ∙ z));
+          next-is = rw r (o .is ∙ ap (λ n. cursorAt l n (c .last)) (sym passed-is));
+          held-is = rw r refl;
+        }
 
     both : Both
     both = go (ℕ-discrete (nextDate l i) d)
@@ -162,13 +174,12 @@ module _ (l : List ℕ) (small : Words l) (short : length l < 4294967296) (c : C
         go (no n) = on-kept n
 
     pub on-step : u .step ≡ stepPast l i d
-    unfolding Both
-    on-step = both .0 ∙ pass-is-step l i d early (o .few)
+    on-step = both .step-is ∙ pass-is-step l i d early (o .few)
 
     pub on-next : On l (u .next) (u .step .passed)
-    unfolding Both
     on-next =
         record {
-          is = both .1 ∙ ap (cursorAt l (u .step .passed)) (rw on-step (sym (held-after l i d)));
+          is = both .next-is;
+          held = both .held-is ∙ rw on-step (sym (held-after l i d));
           few = rw on-step (passed-few l i d short (o .few));
         }

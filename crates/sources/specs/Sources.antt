@@ -47,13 +47,13 @@ passOn word held passed date =
     (record { before = held; at = valueAt word; after = valueAfter word; passed = passed % 4294967296 + 1 })
     (heldOn held passed)
 
--- the reader of a list of which so many words are passed, and the value held after them; past the first word
-unfoldable pub cursorAt : List ℕ → ℕ → Bool → Cursor
-cursorAt l passed held =
-    record { word = nextWord l passed % 4294967296; date = nextWord l passed / 4 % 4294967296; held = held; passed = passed }
+-- the reader of a list of which so many words are passed, the last of them given; past the first word
+unfoldable pub cursorAt : List ℕ → ℕ → ℕ → Cursor
+cursorAt l passed last =
+    record { word = nextWord l passed % 4294967296; date = nextWord l passed / 4 % 4294967296; last = last; passed = passed }
 
 abbrev pub startOf : List ℕ → Cursor
-startOf l = cursorAt l 1 (valueAfter (nextWord l 0))
+startOf l = cursorAt l 1 (nextWord l 0)
 
 -- past a date by the reader: a word of that date is passed
 unfoldable pub pastOn : List ℕ → Cursor → ℕ → Passed
@@ -61,14 +61,14 @@ pastOn l c date =
     cond (eqb (c .date) date)
     (record {
       step = record {
-        before = c .held;
+        before = valueAfter (c .last);
         at = valueAt (c .word);
         after = valueAfter (c .word);
         passed = c .passed % 4294967296 + 1;
       };
-      next = cursorAt l (c .passed % 4294967296 + 1) (valueAfter (c .word));
+      next = cursorAt l (c .passed % 4294967296 + 1) (c .word);
     })
-    (record { step = heldOn (c .held) (c .passed); next = c })
+    (record { step = heldOn (valueAfter (c .last)) (c .passed); next = c })
 
 -- no word of the list stands among `room` words of the work area from `at` on
 abbrev pub apartIn : Memory → ℕ → ℕ → ℕ → ℕ → Bool

@@ -110,12 +110,12 @@ pub fn apart(list: Source, at: u32, room: u32) -> bool
     }
 }
 
-// A reader of a list where it stands: the low 32 bits of the next word, its date, which is NEVER where none is left, the value held before
-// it, and how many words are passed.
+// A reader of a list where it stands: the low 32 bits of the next word, its date, which is NEVER where none is left, the last word passed,
+// whose low bit is the value held, and how many words are passed. Its fields leave no gap between them, which would be copied too.
 pub struct Cursor {
     pub word: u32,
     pub date: u32,
-    pub held: bool,
+    pub last: u64,
     pub passed: usize,
 }
 
@@ -125,7 +125,7 @@ pub struct Passed {
     pub next: Cursor,
 }
 
-// The reader of a list of which so many words are passed, and the value held after them.
+// The reader of a list of which so many words are passed, the last of them given.
 pub fn cursor_at(
     sheet: &[u8],
     left: &[u32],
@@ -133,16 +133,16 @@ pub fn cursor_at(
     work: &[u32],
     list: Source,
     passed: usize,
-    held: bool,
+    last: u64,
 ) -> Cursor
     ensures { λ r. ⌜ r ≡ cursorAt (listAt (now (sheet .entry)) (now (left .entry)) (now (right .entry)) (now (work .entry)) list) passed
-        held ⌝ }
+        last ⌝ }
 {
     let word = next_word(sheet, left, right, work, list, passed);
     Cursor {
         word: (word % 4294967296) as u32,
         date: (word / 4 % 4294967296) as u32,
-        held,
+        last,
         passed,
     }
 }
@@ -152,7 +152,7 @@ pub fn start(sheet: &[u8], left: &[u32], right: &[u32], work: &[u32], list: Sour
     ensures { λ r. ⌜ r ≡ startOf (listAt (now (sheet .entry)) (now (left .entry)) (now (right .entry)) (now (work .entry)) list) ⌝ }
 {
     let first = next_word(sheet, left, right, work, list, 0);
-    cursor_at(sheet, left, right, work, list, 1, first % 2 == 1)
+    cursor_at(sheet, left, right, work, list, 1, first)
 }
 
 // Past a date: a word of that date is passed, and only then the next one is read.
@@ -168,24 +168,24 @@ pub fn past(
     ensures { λ r.
         ⌜ r ≡ pastOn (listAt (now (sheet .entry)) (now (left .entry)) (now (right .entry)) (now (work .entry)) list) at (date .0) ⌝ }
 {
+    let held = at.last % 2 == 1;
     if at.date == date.0 {
-        let after = at.word % 2 == 1;
         let passed = at.passed % 4294967296 + 1;
         return Passed {
             step: Step {
-                before: at.held,
+                before: held,
                 at: at.word / 2 % 2 == 1,
-                after,
+                after: at.word % 2 == 1,
                 passed,
             },
-            next: cursor_at(sheet, left, right, work, list, passed, after),
+            next: cursor_at(sheet, left, right, work, list, passed, at.word as u64),
         };
     }
     Passed {
         step: Step {
-            before: at.held,
-            at: at.held,
-            after: at.held,
+            before: held,
+            at: held,
+            after: held,
             passed: at.passed,
         },
         next: at,
