@@ -65,13 +65,16 @@ pub data Merges (o : Operation) (table : Table) (a b slot : List ℕ) (made : Ma
   turn : {s : State} → dateAhead a b s < NEVER → Merges o table a b slot made (pastDate o table a b s (dateAhead a b s)) →
       Merges o table a b slot made s
 
--- The merge of two sources in the slot of 256 words from `at` on: what is built, and the work area after it.
+-- The merge of two lists in the slot of 256 words from `at` on: what is built, and the work area after it.
+abbrev pub BuiltFrom : Operation → Table → List ℕ → List ℕ → List ℕ → ℕ → Made → List ℕ → Type 0
+BuiltFrom o table l m work at made after =
+    (slot : List ℕ) × Merges o table l m slot made (begunIn o table l m (slotIn work at mostWords))
+    × (after ≡ withSlot work at mostWords slot)
+
+-- of two sources
 abbrev pub BuiltAt : Operation → Table → List ℕ → List ℕ → List ℕ → List ℕ → Source → Source → ℕ → Made → List ℕ → Type 0
 BuiltAt o table sheet left right work a b at made after =
-    (slot : List ℕ)
-    × Merges o table (listAt sheet left right work a) (listAt sheet left right work b) slot made
-    (begunIn o table (listAt sheet left right work a) (listAt sheet left right work b) (slotIn work at mostWords))
-    × (after ≡ withSlot work at mostWords slot)
+    BuiltFrom o table (listAt sheet left right work a) (listAt sheet left right work b) work at made after
 
 -- both lists are apart from the slot, and it fits
 abbrev pub MayMerge : Source → Source → ℕ → ℕ → Type 0

@@ -5,6 +5,7 @@ ghost use lib.ListN.{length};
 ghost use Rattle.signals.specs.Signal.{NOT, connective, rising, falling, SR, RS};
 ghost use Rattle.operations.specs.Calls.{CallOfOne, CallOfTwo};
 ghost use Rattle.showing.specs.Showing.{merged};
+ghost use Rattle.showing.specs.declared.Operation.the-variants.{Connective};
 ghost use Rattle.merging.specs.Merging.{MayMerge, BuiltAt, MergedAt};
 use building::Made;
 use building::SlotAnswer;
@@ -62,6 +63,65 @@ fn merge(
     made
 }
 
+// The same for a connective: nothing is carried from date to date.
+fn join(
+    table: [[bool; 2]; 2],
+    sheet: &[u8],
+    left: &[u32],
+    right: &[u32],
+    work: &mut [u32],
+    a: Source,
+    b: Source,
+    at: usize,
+) -> Made
+    requires { ⌜ MayMerge a b at (length (now work)) ⌝ }
+    ensures { λ r.
+        ⌜ BuiltAt Connective table (now (sheet .entry)) (now (left .entry)) (now (right .entry)) (now (work .entry)) a b at r
+        (now (work .exit)) ⌝ }
+{
+    let end = at + WORDS;
+    let mut x = sources::start(sheet, left, right, work, a);
+    let mut y = sources::start(sheet, left, right, work, b);
+    let first = showing::cell_of(table, x.held, y.held);
+    let mut made = building::begin(&mut work[at..end], first);
+    let mut date = earlier(x.date, y.date);
+    while date < NEVER {
+        let on = Date(date);
+        let u = sources::past(sheet, left, right, work, a, x, on);
+        let v = sources::past(sheet, left, right, work, b, y, on);
+        let value = showing::cell_of(table, u.step.at, v.step.at);
+        let after = showing::cell_of(table, u.step.after, v.step.after);
+        made = building::emit(&mut work[at..end], made, on, value, after);
+        x = u.next;
+        y = v.next;
+        date = earlier(x.date, y.date);
+    }
+    made
+}
+
+// The merge by the loop of its operation.
+fn made_at(
+    operation: Operation,
+    table: [[bool; 2]; 2],
+    sheet: &[u8],
+    left: &[u32],
+    right: &[u32],
+    work: &mut [u32],
+    a: Source,
+    b: Source,
+    at: usize,
+) -> Made
+    requires { ⌜ MayMerge a b at (length (now work)) ⌝ }
+    ensures { λ r.
+        ⌜ BuiltAt operation table (now (sheet .entry)) (now (left .entry)) (now (right .entry)) (now (work .entry)) a b at r
+        (now (work .exit)) ⌝ }
+{
+    match operation {
+        Operation::Connective => join(table, sheet, left, right, work, a, b, at),
+        _ => merge(operation, table, sheet, left, right, work, a, b, at),
+    }
+}
+
 // The merge of two lists where they stand, its answer in the slot of 256 words of the work area from a place on. Refused, and nothing
 // written, where a list is not apart from the slot or the slot does not fit.
 pub fn merge_at(
@@ -83,7 +143,7 @@ pub fn merge_at(
     if sources::apart(a, at, WORDS as u32) {
         if sources::apart(b, at, WORDS as u32) {
             if from + WORDS <= work.len() {
-                let made = merge(operation, table, sheet, left, right, work, a, b, from);
+                let made = made_at(operation, table, sheet, left, right, work, a, b, from);
                 return building::finish(made);
             }
         }
@@ -117,7 +177,7 @@ fn operate(
         at: 0,
         count: b.len() as u32,
     };
-    let made = merge(
+    let made = made_at(
         operation,
         table,
         &bytes[..0],
