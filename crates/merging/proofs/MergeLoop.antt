@@ -76,7 +76,7 @@ on-passed : (l : List ℕ) (c : Cursor) (i : ℕ) → On l c i → c .passed ≡
 unfolding cursorAt
 on-passed l c i o = rw (o .is)
 
-start-passed : (l : List ℕ) (c : Cursor) → c ≡ startOf l → c .passed ≡ 1
+pub start-passed : (l : List ℕ) (c : Cursor) → c ≡ startOf l → c .passed ≡ 1
 start-passed l c e = on-passed l c 1 (on-start l c e)
 
 -- a reader of a list of words below 2^32, past its first word and past a date
@@ -206,14 +206,14 @@ module _ (o : Operation) (table : Table) (entry : List ℕ) (at : ℕ) (room : a
   put = part-back entry at mostWords room part k ek
 
   -- a list apart from the slot is as it was at the call
-  same : (sheet left right : List ℕ) (a : Source) → apartFrom a at mostWords ≡ true
+  pub same : (sheet left right : List ℕ) (a : Source) → apartFrom a at mostWords ≡ true
       → listAt sheet left right (take at entry ++ (part ++ drop k (drop at entry))) a ≡ listAt sheet left right entry a
   same sheet left right a apart = rw put (apart-kept entry at mostWords room part full sheet left right a apart)
 
   module _ (l m l′ m′ : List ℕ) (el : l′ ≡ l) (em : m′ ≡ m) (x y : Cursor) (gx : Reading l x) (gy : Reading m y)
       (one : x .passed ≡ 1) (other : y .passed ≡ 1) (first : Shown) (ef : first ≡ firstShown o table (x .held) (y .held))
       (made : Made) (eb : Begins (first .after) (take k (drop at entry)) made part) (date : ℕ) (ed : date ≡ min (x .date) (y .date)) where
-    begun-there : Started o table l m l′ m′ entry at (take at entry ++ (part ++ drop k (drop at entry))) x y made (first .carried) date
+    pub begun-there : Started o table l m l′ m′ entry at (take at entry ++ (part ++ drop k (drop at entry))) x y made (first .carried) date
     begun-there =
         rw put
         (record {
@@ -253,7 +253,7 @@ module _ (o : Operation) (table : Table) (entry : List ℕ) (at : ℕ) (room : a
             (slotIn work at mostWords) (rw ek at eb) (slot-back entry at mostWords room part full)
 
 -- the reader of a source that starts
-reads-source : (sheet left right work : List ℕ) → Bytes sheet → Words left → Words right → Words work → (a : Source)
+pub reads-source : (sheet left right work : List ℕ) → Bytes sheet → Words left → Words right → Words work → (a : Source)
     → a .count < 4294967296 → (x : Cursor) → x ≡ startOf (listAt sheet left right work a) → Reading (listAt sheet left right work a) x
 reads-source sheet left right work hs hl hr hw a ca x e =
     reads-start (listAt sheet left right work a) (words-at sheet left right work a hs hl hr hw)
