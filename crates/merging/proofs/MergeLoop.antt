@@ -9,7 +9,7 @@ use lib.Dec.{ltb}
 use lib.ListN.{length, take, drop}
 use borrow.Author.Tests.{ltb-true, ltb-false}
 use Rattle.slices.specs.Bytes.{Bytes, Words}
-use Rattle.signals.specs.Signal.{Table}
+use Rattle.signals.specs.Signal.{Table, cell}
 use Rattle.signals.specs.Words.{mostWords}
 use Rattle.signals.specs.Passing.{heldValue, passedDate}
 use Rattle.reading.specs.Reading.{NEVER, nextDate, stepPast}
@@ -18,14 +18,16 @@ use Rattle.building.specs.Building.{Begins, Emits, emitted, emittedIn}
 use Rattle.building.specs.declared.Made.{Made}
 use Rattle.showing.specs.Showing.{firstShown, dateShown}
 use Rattle.showing.specs.declared.Operation.{Operation}
+use Rattle.showing.specs.declared.Operation.the-variants.{Connective}
 use Rattle.showing.specs.declared.Shown.{Shown}
 use Rattle.sources.specs.Sources.{cursorAt, startOf, pastOn, listAt, apartFrom, slotIn, withSlot}
 use Rattle.sources.specs.declared.Cursor.{Cursor}
 use Rattle.sources.specs.declared.Passed.{Passed}
 use Rattle.sources.specs.declared.Source.{Source}
-use Rattle.sources.proofs.Sourcing.{slot-kept, slot-long, slot-back, slot-again, part-back, with-slot-long, list-short, words-at, apart-kept}
+use Rattle.sources.proofs.Sourcing.{slot-kept, slot-long, slot-back, slot-again, part-back, with-slot-long}
+use Rattle.sources.proofs.Sourcing.{list-short, words-at, apart-kept}
 use Rattle.sources.proofs.Going.{On, on-start, on-date, on-held, on-step, on-next}
-use Rattle.merging.specs.Merging.{State, dateAhead, begunIn, pastDate, Merges, turn, done, BuiltAt, MayMerge}
+use Rattle.merging.specs.Merging.{State, dateAhead, begunIn, pastDate, Merges, turn, done, BuiltFrom, MayMerge}
 use Rattle.merging.proofs.MergeTurn.{passed-keeps, passed-next, left-or-none, next-none}
 
 -- one of two dates is the earlier
@@ -74,7 +76,7 @@ on-passed : (l : List ℕ) (c : Cursor) (i : ℕ) → On l c i → c .passed ≡
 unfolding cursorAt
 on-passed l c i o = rw (o .is)
 
-start-passed : (l : List ℕ) (c : Cursor) → c ≡ startOf l → c .passed ≡ 1
+pub start-passed : (l : List ℕ) (c : Cursor) → c ≡ startOf l → c .passed ≡ 1
 start-passed l c e = on-passed l c 1 (on-start l c e)
 
 -- a reader of a list of words below 2^32, past its first word and past a date
@@ -84,7 +86,8 @@ pub record Reading (l : List ℕ) (x : Cursor) : Type 0 where
   pub on : On l x (x .passed)
 
 pub reads-start : (l : List ℕ) → Words l → length l < 4294967296 → (x : Cursor) → x ≡ startOf l → Reading l x
-reads-start l small short x e = record { small = small; short = short; on = subst (λ (i : ℕ). On l x i) (sym (start-passed l x e)) (on-start l x e) }
+reads-start l small short x e =
+    record { small = small; short = short; on = subst (λ (i : ℕ). On l x i) (sym (start-passed l x e)) (on-start l x e) }
 
 module _ (l : List ℕ) (x : Cursor) (g : Reading l x) where
   pub reads-date : x .date ≡ nextDate l (x .passed)
@@ -184,89 +187,104 @@ module _ (o : Operation) (table : Table) (l m : List ℕ) (work : List ℕ) (at 
               (em .1 ∙ ap (λ (w : List ℕ). emittedIn w made date (s .at) (s .after)) whole)
               ∙ ap (λ (d : ℕ). pastDate o table l m (reached (g .slot) made bit (x .passed) (y .passed)) d) ahead
 
--- where the loop begins: the work area is as long as at the call, the state is that after gap 0, and what the loop builds from there is
--- built from the call's work area
-pub record Started (o : Operation) (table : Table) (sheet left right entry : List ℕ) (a b : Source) (at : ℕ) (work : List ℕ)
-    (x y : Cursor) (made : Made) (bit : Bool) (date : ℕ) : Type 0 where
+-- Where the loop begins, the work area being `work`, and at the call `entry`: it is as long, the state is that after gap 0, and what the
+-- loop builds from there is built from the call's. The lists are there `l′` and `m′`, at the call `l` and `m`.
+pub record Started (o : Operation) (table : Table) (l m l′ m′ entry : List ℕ) (at : ℕ) (work : List ℕ) (x y : Cursor) (made : Made)
+    (bit : Bool) (date : ℕ) : Type 0 where
   pub long : length work ≡ length entry
-  pub start : Looping o table (listAt sheet left right work a) (listAt sheet left right work b) work at
-      (reached (slotIn work at mostWords) made bit (x .passed) (y .passed)) work x y made bit date
+  pub start : Looping o table l′ m′ work at (reached (slotIn work at mostWords) made bit (x .passed) (y .passed)) work x y made bit date
   pub builds : (after : List ℕ) (last : Made) (slot : List ℕ) → after ≡ withSlot work at mostWords slot
-      → Merges o table (listAt sheet left right work a) (listAt sheet left right work b) slot last
-      (reached (slotIn work at mostWords) made bit (x .passed) (y .passed))
-      → BuiltAt o table sheet left right entry a b at last after
+      → Merges o table l′ m′ slot last (reached (slotIn work at mostWords) made bit (x .passed) (y .passed))
+      → BuiltFrom o table l m entry at last after
 
+module _ (o : Operation) (table : Table) (entry : List ℕ) (at : ℕ) (room : at + mostWords ≤ length entry) (k : ℕ) (ek : k ≡ mostWords)
+    (part : List ℕ) (kept : length part ≡ length (take k (drop at entry))) where
+  full : length part ≡ mostWords
+  full = kept ∙ rw ek (slot-long entry at mostWords room)
+
+  put : take at entry ++ (part ++ drop k (drop at entry)) ≡ withSlot entry at mostWords part
+  put = part-back entry at mostWords room part k ek
+
+  -- a list apart from the slot is as it was at the call
+  pub same : (sheet left right : List ℕ) (a : Source) → apartFrom a at mostWords ≡ true
+      → listAt sheet left right (take at entry ++ (part ++ drop k (drop at entry))) a ≡ listAt sheet left right entry a
+  same sheet left right a apart = rw put (apart-kept entry at mostWords room part full sheet left right a apart)
+
+  module _ (l m l′ m′ : List ℕ) (el : l′ ≡ l) (em : m′ ≡ m) (x y : Cursor) (gx : Reading l x) (gy : Reading m y)
+      (one : x .passed ≡ 1) (other : y .passed ≡ 1) (first : Shown) (ef : first ≡ firstShown o table (x .held) (y .held))
+      (made : Made) (eb : Begins (first .after) (take k (drop at entry)) made part) (date : ℕ) (ed : date ≡ min (x .date) (y .date)) where
+    pub begun-there : Started o table l m l′ m′ entry at (take at entry ++ (part ++ drop k (drop at entry))) x y made (first .carried) date
+    begun-there =
+        rw put
+        (record {
+          long = long;
+          start = record {
+            slot = slotIn work at mostWords;
+            full = slot-long work at mostWords fits;
+            now-is = sym (slot-kept work at mostWords fits);
+            first = rw el gx;
+            second = rw em gy;
+            date-is = ed;
+            on = λ end last z. z;
+          };
+          builds = λ after last slot e w. (
+            slot,
+            subst (λ (z : State). Merges o table l m slot last z) begun-state (rw (el, em) at w),
+            e ∙ slot-again entry at mostWords room part full slot,
+          );
+        })
+      where
+        work : List ℕ
+        work = withSlot entry at mostWords part
+
+        long : length work ≡ length entry
+        long = with-slot-long entry at mostWords room part full
+
+        fits : at + mostWords ≤ length work
+        fits = rw long room
+
+        begun-state : reached (slotIn work at mostWords) made (first .carried) (x .passed) (y .passed)
+            ≡ begunIn o table l m (slotIn entry at mostWords)
+        begun-state =
+            ap (λ (i : ℕ). reached (slotIn work at mostWords) made (first .carried) i (y .passed)) one
+            ∙ ap (λ (j : ℕ). reached (slotIn work at mostWords) made (first .carried) 1 j) other
+            ∙ begun-is o table l m (slotIn entry at mostWords) (x .held) (y .held)
+            (reads-held l x gx ∙ ap (heldValue l) one) (reads-held m y gy ∙ ap (heldValue m) other) first ef made part
+            (slotIn work at mostWords) (rw ek at eb) (slot-back entry at mostWords room part full)
+
+-- the reader of a source that starts
+pub reads-source : (sheet left right work : List ℕ) → Bytes sheet → Words left → Words right → Words work → (a : Source)
+    → a .count < 4294967296 → (x : Cursor) → x ≡ startOf (listAt sheet left right work a) → Reading (listAt sheet left right work a) x
+reads-source sheet left right work hs hl hr hw a ca x e =
+    reads-start (listAt sheet left right work a) (words-at sheet left right work a hs hl hr hw)
+    (omega (arith, list-short sheet left right work a)) x e
+
+-- two sources
 pub started : (o : Operation) (table : Table) (sheet left right entry : List ℕ) (a b : Source) (at : ℕ) → MayMerge a b at (length entry)
     → Bytes sheet → Words left → Words right → Words entry → a .count < 4294967296 → b .count < 4294967296
     → (x y : Cursor) → x ≡ startOf (listAt sheet left right entry a) → y ≡ startOf (listAt sheet left right entry b)
     → (first : Shown) → first ≡ firstShown o table (x .held) (y .held)
     → (k : ℕ) → k ≡ mostWords → (made : Made) (part : List ℕ) → Begins (first .after) (take k (drop at entry)) made part
     → length part ≡ length (take k (drop at entry)) → (date : ℕ) → date ≡ min (x .date) (y .date)
-    → Started o table sheet left right entry a b at (take at entry ++ (part ++ drop k (drop at entry))) x y made (first .carried) date
+    → let work = take at entry ++ (part ++ drop k (drop at entry)) in
+    Started o table (listAt sheet left right entry a) (listAt sheet left right entry b) (listAt sheet left right work a)
+    (listAt sheet left right work b) entry at work x y made (first .carried) date
 started o table sheet left right entry a b at may hs hl hr hw ca cb x y ex ey first ef k ek made part eb kept date ed =
-    rw put
-    (record {
-      long = long;
-      start = record {
-        slot = slotIn work at mostWords;
-        full = slot-long work at mostWords fits;
-        now-is = sym (slot-kept work at mostWords fits);
-        first = rw same-first gx;
-        second = rw same-second gy;
-        date-is = ed;
-        on = λ end last z. z;
-      };
-      builds = λ after last slot e w. (
-        slot,
-        subst (λ (z : State). Merges o table l m slot last z) begun-state (rw (same-first, same-second) at w),
-        e ∙ slot-again entry at mostWords (may .2) part full slot,
-      );
-    })
+    begun-there o table entry at (may .2) k ek part kept (listAt sheet left right entry a) (listAt sheet left right entry b)
+    (listAt sheet left right work a) (listAt sheet left right work b)
+    (same o table entry at (may .2) k ek part kept sheet left right a (may .0))
+    (same o table entry at (may .2) k ek part kept sheet left right b (may .1)) x y
+    (reads-source sheet left right entry hs hl hr hw a ca x ex) (reads-source sheet left right entry hs hl hr hw b cb y ey)
+    (start-passed (listAt sheet left right entry a) x ex) (start-passed (listAt sheet left right entry b) y ey) first ef made eb date ed
   where
-    l : List ℕ
-    l = listAt sheet left right entry a
-
-    m : List ℕ
-    m = listAt sheet left right entry b
-
-    gx : Reading l x
-    gx = reads-start l (words-at sheet left right entry a hs hl hr hw) (omega (arith, list-short sheet left right entry a)) x ex
-
-    gy : Reading m y
-    gy = reads-start m (words-at sheet left right entry b hs hl hr hw) (omega (arith, list-short sheet left right entry b)) y ey
-
-    one : x .passed ≡ 1
-    one = start-passed l x ex
-
-    other : y .passed ≡ 1
-    other = start-passed m y ey
-
     work : List ℕ
-    work = withSlot entry at mostWords part
+    work = take at entry ++ (part ++ drop k (drop at entry))
 
-    full : length part ≡ mostWords
-    full = kept ∙ rw ek (slot-long entry at mostWords (may .2))
+-- a connective shows the table's cells, and carries nothing
+pub first-cell : (table : Table) (p q v : Bool) → v ≡ cell table p q
+    → _≡_ {A = Shown} (record { at = false; after = v; carried = false }) (firstShown Connective table p q)
+first-cell table p q v e = rw e
 
-    put : take at entry ++ (part ++ drop k (drop at entry)) ≡ work
-    put = part-back entry at mostWords (may .2) part k ek
-
-    long : length work ≡ length entry
-    long = with-slot-long entry at mostWords (may .2) part full
-
-    fits : at + mostWords ≤ length work
-    fits = rw long (may .2)
-
-    same-first : listAt sheet left right work a ≡ l
-    same-first = apart-kept entry at mostWords (may .2) part full sheet left right a (may .0)
-
-    same-second : listAt sheet left right work b ≡ m
-    same-second = apart-kept entry at mostWords (may .2) part full sheet left right b (may .1)
-
-    begun-state : reached (slotIn work at mostWords) made (first .carried) (x .passed) (y .passed)
-        ≡ begunIn o table l m (slotIn entry at mostWords)
-    begun-state =
-        ap (λ (i : ℕ). reached (slotIn work at mostWords) made (first .carried) i (y .passed)) one
-        ∙ ap (λ (j : ℕ). reached (slotIn work at mostWords) made (first .carried) 1 j) other
-        ∙ begun-is o table l m (slotIn entry at mostWords) (x .held) (y .held)
-        (reads-held l x gx ∙ ap (heldValue l) one) (reads-held m y gy ∙ ap (heldValue m) other) first ef made part
-        (slotIn work at mostWords) (rw ek at eb) (slot-back entry at mostWords (may .2) part full)
+pub date-cells : (table : Table) (c p0 p1 p2 q1 q2 v w : Bool) → v ≡ cell table p1 q1 → w ≡ cell table p2 q2
+    → _≡_ {A = Shown} (record { at = v; after = w; carried = false }) (dateShown Connective table c p0 p1 p2 q1 q2)
+date-cells table c p0 p1 p2 q1 q2 v w e f = rw (e, f)

@@ -13,6 +13,7 @@ use Rattle.building.specs.declared.Made.{Made}
 use Rattle.building.specs.declared.SlotAnswer.{SlotAnswer}
 use Rattle.building.specs.declared.SlotAnswer.the-variants.{NotBegun}
 use Rattle.showing.specs.declared.Operation.{Operation}
+use Rattle.showing.specs.declared.Operation.the-variants.{Connective}
 use Rattle.sources.specs.Sources.{apartFrom}
 use Rattle.sources.specs.declared.Source.{Source}
 use Rattle.merging.specs.Merging.{MayMerge, mayMerge, BuiltAt, MergedAt}
@@ -42,3 +43,9 @@ module _ (o : Operation) (table : Table) (sheet left right work : List ℕ) (a b
       → (answer : SlotAnswer) → answer ≡ madeAnswer made → MergedAt o table sheet left right work a b at answer after
   begins may made after w answer e =
       record { refused = λ h. true-false (sym (may-merge a b at (length work) may) ∙ h); built = λ h. (made, w, e) }
+
+-- the loop of connectives
+pub joined : (o : Operation) → o ≡ Connective → (table : Table) (sheet left right work : List ℕ) (a b : Source) (at : ℕ) (made : Made)
+    (after : List ℕ) → BuiltAt Connective table sheet left right work a b at made after
+    → BuiltAt o table sheet left right work a b at made after
+joined o e table sheet left right work a b at made after w = rw e w

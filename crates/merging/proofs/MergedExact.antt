@@ -1,5 +1,5 @@
 -- The merge of two accepted lists builds the exact answer of its operation.
-use Prim.Native.Nat.{ℕ, _+_, _≤_, _<_, min, max}
+use Prim.Native.Nat.{ℕ, zero, suc, _+_, _≤_, _<_, min, max}
 use native.Mathlib.Omega.{arith}
 use mathlib.Core.Path.{_≡_, refl, _∙_, ap}
 use mathlib.Core.Bool.{true}
@@ -10,7 +10,7 @@ use lib.Seq.{take-all, take-length}
 use Rattle.slices.specs.Bytes.{Bytes, Words}
 use Rattle.signals.specs.Moment.{M}
 use Rattle.signals.specs.Signal.{Table}
-use Rattle.signals.specs.Words.{mostWords, listFault, lastDate, signalOf, listOf}
+use Rattle.signals.specs.Words.{mostWords, listFault, wordsFault, lastDate, signalOf, listOf}
 use Rattle.reading.specs.Reading.{NEVER, nextDate}
 use Rattle.operations.specs.Calls.{exactOfTwo}
 use Rattle.operations.proofs.NeverMet.{last-32}
@@ -25,6 +25,7 @@ use Rattle.sources.specs.Sources.{listAt, slotIn, withSlot}
 use Rattle.sources.specs.declared.Memory.the-variants.{Left, Right}
 use Rattle.sources.specs.declared.Source.{Source}
 use Rattle.sources.proofs.Sourcing.{words-at}
+use Rattle.merging.specs.Merging.{always0, BuiltAlone, mayBegin, AloneAt}
 use Rattle.merging.specs.Merging.{State, dateAhead, begunIn, pastDate, Merges, done, turn, mayMerge, BuiltAt, MergedAt}
 use Rattle.merging.proofs.MergeTurn.{Merging, Dates, accepted-dates, dates-more, next-within, next-none, left-or-none}
 use Rattle.merging.proofs.MergeTurn.{merge-begin, merge-turn, merge-done}
@@ -80,6 +81,15 @@ module _ (o : Operation) (table : Table) (a b : List ℕ) (ha : listFault a ≡ 
   unfolding exactOfTwo begunIn n
   merged-exact slot made w = from-here slot made (begunIn o table a b old) 0 (merge-begin o table a b n old ha hb) w
 
+-- the list that is always down
+down-accepted : listFault always0 ≡ 0
+unfolding listFault wordsFault
+down-accepted = refl
+
+down-small : Words always0
+down-small zero = omega arith
+down-small (suc i) = omega arith
+
 -- so the call on two accepted lists gives the exact answer
 module _ (o : Operation) (table : Table) (sheet left right work : List ℕ) (a b : Source) (at : ℕ) where
   abbrev exact : List ℕ
@@ -109,6 +119,38 @@ pub merged-slices : (o : Operation) (table : Table) (sheet a b slot : List ℕ) 
 merged-slices o table sheet a b slot made after (end, w, e) long ha hb wa wb =
     rw (e ∙ only, ← whole)
     (merged-exact o table a b ha hb wa wb (slotIn slot 0 mostWords) end made (rw (take-length a, take-length b) at w))
+  where
+    whole : slotIn slot 0 mostWords ≡ slot
+    whole = take-all mostWords slot (omega arith)
+
+    only : withSlot slot 0 mostWords end ≡ end
+    only = ap (λ (l : List ℕ). end ++ l) (drop-of-length-le slot {i = mostWords} (omega arith)) ∙ append-nil end
+
+-- one list with the list that is always down
+module _ (o : Operation) (table : Table) (sheet left right work : List ℕ) (a : Source) (at : ℕ) where
+  abbrev exactAlone : List ℕ
+  exactAlone = exactOfTwo (merged o table) (listAt sheet left right work a) always0
+
+  pub alone-exact : (answer : SlotAnswer) (after : List ℕ) → AloneAt o table sheet left right work a at answer after
+      → mayBegin a at (length work) ≡ true → Bytes sheet → Words left → Words right → Words work
+      → listFault (listAt sheet left right work a) ≡ 0
+      → (answer ≡ builtAnswer exactAlone) × (after ≡ withSlot work at mostWords (slotWith exactAlone (slotIn work at mostWords)))
+  alone-exact answer after c may s l r w ha =
+      let z = c .built may in
+      let made = z .0 in
+      let built =
+      merged-exact o table (listAt sheet left right work a) always0 ha down-accepted (words-at sheet left right work a s l r w) down-small
+      (slotIn work at mostWords) (z .1 .0) made (z .1 .1) in (
+        z .2 ∙ built-answer exactAlone (slotIn work at mostWords) (z .1 .0) made built,
+        z .1 .2 ∙ ap (λ (slot : List ℕ). withSlot work at mostWords slot) (built .slot-is),
+      )
+
+pub alone-slice : (o : Operation) (table : Table) (sheet right a slot : List ℕ) (made : Made) (after : List ℕ)
+    → BuiltAlone o table sheet a right slot (record { memory = Left; at = 0; count = length a }) 0 made after
+    → length slot ≡ mostWords → listFault a ≡ 0 → Words a → Built (exactOfTwo (merged o table) a always0) slot after made
+alone-slice o table sheet right a slot made after (end, w, e) long ha wa =
+    rw (e ∙ only, ← whole)
+    (merged-exact o table a always0 ha down-accepted wa down-small (slotIn slot 0 mostWords) end made (rw (take-length a) at w))
   where
     whole : slotIn slot 0 mostWords ≡ slot
     whole = take-all mostWords slot (omega arith)

@@ -5,11 +5,13 @@ ghost use lib.ListN.{length};
 ghost use Rattle.signals.specs.Signal.{NOT, connective, rising, falling, SR, RS};
 ghost use Rattle.operations.specs.Calls.{CallOfOne, CallOfTwo};
 ghost use Rattle.showing.specs.Showing.{merged};
-ghost use Rattle.merging.specs.Merging.{MayMerge, BuiltAt, MergedAt};
+ghost use Rattle.showing.specs.declared.Operation.the-variants.{Connective};
+ghost use Rattle.merging.specs.Merging.{MayMerge, BuiltAt, MergedAt, MayBegin, BuiltAlone, AloneAt, always0};
 use building::Made;
 use building::SlotAnswer;
 use building::WORDS;
 use reading::NEVER;
+use reading::Step;
 use showing::Operation;
 use signals::Date;
 use signals::Written;
@@ -62,6 +64,65 @@ fn merge(
     made
 }
 
+// The same for a connective: nothing is carried from date to date.
+fn join(
+    table: [[bool; 2]; 2],
+    sheet: &[u8],
+    left: &[u32],
+    right: &[u32],
+    work: &mut [u32],
+    a: Source,
+    b: Source,
+    at: usize,
+) -> Made
+    requires { ⌜ MayMerge a b at (length (now work)) ⌝ }
+    ensures { λ r.
+        ⌜ BuiltAt Connective table (now (sheet .entry)) (now (left .entry)) (now (right .entry)) (now (work .entry)) a b at r
+        (now (work .exit)) ⌝ }
+{
+    let end = at + WORDS;
+    let mut x = sources::start(sheet, left, right, work, a);
+    let mut y = sources::start(sheet, left, right, work, b);
+    let first = showing::cell_of(table, x.held, y.held);
+    let mut made = building::begin(&mut work[at..end], first);
+    let mut date = earlier(x.date, y.date);
+    while date < NEVER {
+        let on = Date(date);
+        let u = sources::past(sheet, left, right, work, a, x, on);
+        let v = sources::past(sheet, left, right, work, b, y, on);
+        let value = showing::cell_of(table, u.step.at, v.step.at);
+        let after = showing::cell_of(table, u.step.after, v.step.after);
+        made = building::emit(&mut work[at..end], made, on, value, after);
+        x = u.next;
+        y = v.next;
+        date = earlier(x.date, y.date);
+    }
+    made
+}
+
+// The merge by the loop of its operation.
+fn made_at(
+    operation: Operation,
+    table: [[bool; 2]; 2],
+    sheet: &[u8],
+    left: &[u32],
+    right: &[u32],
+    work: &mut [u32],
+    a: Source,
+    b: Source,
+    at: usize,
+) -> Made
+    requires { ⌜ MayMerge a b at (length (now work)) ⌝ }
+    ensures { λ r.
+        ⌜ BuiltAt operation table (now (sheet .entry)) (now (left .entry)) (now (right .entry)) (now (work .entry)) a b at r
+        (now (work .exit)) ⌝ }
+{
+    match operation {
+        Operation::Connective => join(table, sheet, left, right, work, a, b, at),
+        _ => merge(operation, table, sheet, left, right, work, a, b, at),
+    }
+}
+
 // The merge of two lists where they stand, its answer in the slot of 256 words of the work area from a place on. Refused, and nothing
 // written, where a list is not apart from the slot or the slot does not fit.
 pub fn merge_at(
@@ -83,12 +144,94 @@ pub fn merge_at(
     if sources::apart(a, at, WORDS as u32) {
         if sources::apart(b, at, WORDS as u32) {
             if from + WORDS <= work.len() {
-                let made = merge(operation, table, sheet, left, right, work, a, b, from);
+                let made = made_at(operation, table, sheet, left, right, work, a, b, from);
                 return building::finish(made);
             }
         }
     }
     SlotAnswer::NotBegun
+}
+
+// The merge of one list with the list that is always down, which has no date and is not read.
+fn merge_one(
+    operation: Operation,
+    table: [[bool; 2]; 2],
+    sheet: &[u8],
+    left: &[u32],
+    right: &[u32],
+    work: &mut [u32],
+    a: Source,
+    at: usize,
+) -> Made
+    requires { ⌜ MayBegin a at (length (now work)) ⌝ }
+    ensures { λ r.
+        ⌜ BuiltAlone operation table (now (sheet .entry)) (now (left .entry)) (now (right .entry)) (now (work .entry)) a at r
+        (now (work .exit)) ⌝ }
+{
+    let end = at + WORDS;
+    let mut x = sources::start(sheet, left, right, work, a);
+    let first = showing::first_shown(operation, table, x.held, false);
+    let mut made = building::begin(&mut work[at..end], first.after);
+    let mut carried = first.carried;
+    while x.date < NEVER {
+        let on = Date(x.date);
+        let u = sources::past(sheet, left, right, work, a, x, on);
+        let down = Step {
+            before: false,
+            at: false,
+            after: false,
+            passed: 1,
+        };
+        let shown = showing::date_shown(operation, table, carried, u.step, down);
+        made = building::emit(&mut work[at..end], made, on, shown.at, shown.after);
+        carried = shown.carried;
+        x = u.next;
+    }
+    made
+}
+
+// NOT or an edge of a list where it stands, as `merge_at` with the list that is always down, of which no word is read.
+pub fn alone_at(
+    operation: Operation,
+    table: [[bool; 2]; 2],
+    sheet: &[u8],
+    left: &[u32],
+    right: &[u32],
+    work: &mut [u32],
+    a: Source,
+    at: u32,
+) -> SlotAnswer
+    ensures { λ r.
+        ⌜ AloneAt operation table (now (sheet .entry)) (now (left .entry)) (now (right .entry)) (now (work .entry)) a at r
+        (now (work .exit)) ⌝ }
+{
+    let from = at as usize;
+    if sources::apart(a, at, WORDS as u32) {
+        if from + WORDS <= work.len() {
+            let made = merge_one(operation, table, sheet, left, right, work, a, from);
+            return building::finish(made);
+        }
+    }
+    SlotAnswer::NotBegun
+}
+
+// The same of a list that is judged first, its answer delivered to an output.
+fn operate_one(operation: Operation, table: [[bool; 2]; 2], a: &[u32], out: &mut [u32]) -> Written
+    ensures { λ r. ⌜ CallOfTwo (merged operation table) (now (a .entry)) always0 (now (out .entry)) r (now (out .exit)) ⌝ }
+{
+    let fault = lists::list_fault(a);
+    if fault != 0 {
+        return Written::Refused(fault);
+    }
+    let bytes = [0u8; 1];
+    let mut slot = [0u32; WORDS];
+    let list = Source {
+        memory: Memory::Left,
+        at: 0,
+        count: a.len() as u32,
+    };
+    let made = merge_one(operation, table, &bytes[..0], a, a, &mut slot, list, 0);
+    building::deliver(&slot, made, out)
 }
 
 // A merge of two lists that are judged first, its answer delivered to an output.
@@ -117,7 +260,7 @@ fn operate(
         at: 0,
         count: b.len() as u32,
     };
-    let made = merge(
+    let made = made_at(
         operation,
         table,
         &bytes[..0],
@@ -138,8 +281,7 @@ const INVERT: [[bool; 2]; 2] = [[true, true], [false, false]];
 pub fn not(a: &[u32], out: &mut [u32]) -> Written
     ensures { λ r. ⌜ CallOfOne NOT (now (a .entry)) (now (out .entry)) r (now (out .exit)) ⌝ }
 {
-    let none = [0u32; 1];
-    operate(Operation::Connective, INVERT, a, &none, out)
+    operate_one(Operation::Connective, INVERT, a, out)
 }
 
 // A connective by its table, row by the first operand, column by the second: faults list, list, 5, 7.
@@ -153,16 +295,14 @@ pub fn connective(table: [[bool; 2]; 2], a: &[u32], b: &[u32], out: &mut [u32]) 
 pub fn rising(a: &[u32], out: &mut [u32]) -> Written
     ensures { λ r. ⌜ CallOfOne rising (now (a .entry)) (now (out .entry)) r (now (out .exit)) ⌝ }
 {
-    let none = [0u32; 1];
-    operate(Operation::Rising, INVERT, a, &none, out)
+    operate_one(Operation::Rising, INVERT, a, out)
 }
 
 // Falling edges: faults list, 7.
 pub fn falling(a: &[u32], out: &mut [u32]) -> Written
     ensures { λ r. ⌜ CallOfOne falling (now (a .entry)) (now (out .entry)) r (now (out .exit)) ⌝ }
 {
-    let none = [0u32; 1];
-    operate(Operation::Falling, INVERT, a, &none, out)
+    operate_one(Operation::Falling, INVERT, a, out)
 }
 
 // The latch in which set wins: faults list, list, 5, 7.

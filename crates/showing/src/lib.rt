@@ -23,7 +23,7 @@ pub struct Shown {
 }
 
 // Row by the first operand, column by the second.
-fn cell_of(table: [[bool; 2]; 2], p: bool, q: bool) -> bool
+pub fn cell_of(table: [[bool; 2]; 2], p: bool, q: bool) -> bool
     ensures { λ r. ⌜ r ≡ cell table p q ⌝ }
 {
     let row = words::index(p);

@@ -63,8 +63,11 @@ begins : (c : tie.After-earlier Inv-loop μ-loop)
     let second = shown .before in
     let first = second .before .before in
     let x = first .before .before .before .before .before .before .args in
-    Started (x .operation) (x .table) (x .sheet .now) (x .left .now) (x .right .now) (x .work .now) (x .a) (x .b) (x .at)
-    (take (x .at) (x .work .now) ++ (begun .begin .last .0 ++ drop (x .at + 256 - x .at) (drop (x .at) (x .work .now))))
+    let work = take (x .at) (x .work .now) ++ (begun .begin .last .0 ++ drop (x .at + 256 - x .at) (drop (x .at) (x .work .now))) in
+    Started (x .operation) (x .table) (listAt (x .sheet .now) (x .left .now) (x .right .now) (x .work .now) (x .a))
+    (listAt (x .sheet .now) (x .left .now) (x .right .now) (x .work .now) (x .b))
+    (listAt (x .sheet .now) (x .left .now) (x .right .now) work (x .a)) (listAt (x .sheet .now) (x .left .now) (x .right .now) work (x .b))
+    (x .work .now) (x .at) work
     (first .start .result) (second .start2 .result) (begun .begin .result) (shown .first-shown .result .carried) (c .earlier .result)
 begins c =
     let begun = c .before .before .before in
@@ -126,11 +129,13 @@ loop-less c =
     let other = shown .before in
     let passed = other .before .before in
     let taken = passed .before .before in
-    let here = taken .before .loop .inv in
-    let x = taken .before .before .before .before .before .before .before .before .before .before .before .before .before .before .before .before .args in
+    let at = taken .before .loop in
+    let here = at .inv in
+    let told = taken .before .before .before in
+    let x = told .before .before .before .before .before .before .before .before .before .before .before .before .before .args in
     let still = looping-still _ _ _ _ _ _ _ (here .1 .2) _ _ _ _ _ _ (here .2) (x .sheet .now) (x .left .now) (x .right .now) in
-    let first = passed .past .ensures ∙ ap (λ (l : List ℕ). pastOn l (taken .before .loop .x) (taken .before .loop .date)) (still (x .a) (here .1 .0)) in
-    let second = other .past2 .ensures ∙ ap (λ (l : List ℕ). pastOn l (taken .before .loop .y) (taken .before .loop .date)) (still (x .b) (here .1 .1)) in
+    let first = passed .past .ensures ∙ ap (λ (l : List ℕ). pastOn l (at .x) (at .date)) (still (x .a) (here .1 .0)) in
+    let second = other .past2 .ensures ∙ ap (λ (l : List ℕ). pastOn l (at .y) (at .date)) (still (x .b) (here .1 .1)) in
     looping-falls _ _ _ _ _ _ _ (here .1 .2) _ _ _ _ _ _ (here .2) (taken .loop-test .taken) _ _ first second
 
 loop-again : tie.Need-loop-again Inv-loop μ-loop
@@ -140,11 +145,13 @@ loop-again c =
     let other = shown .before in
     let passed = other .before .before in
     let taken = passed .before .before in
-    let here = taken .before .loop .inv in
-    let x = taken .before .before .before .before .before .before .before .before .before .before .before .before .before .before .before .before .args in
+    let at = taken .before .loop in
+    let here = at .inv in
+    let told = taken .before .before .before in
+    let x = told .before .before .before .before .before .before .before .before .before .before .before .before .before .args in
     let still = looping-still _ _ _ _ _ _ _ (here .1 .2) _ _ _ _ _ _ (here .2) (x .sheet .now) (x .left .now) (x .right .now) in
-    let first = passed .past .ensures ∙ ap (λ (l : List ℕ). pastOn l (taken .before .loop .x) (taken .before .loop .date)) (still (x .a) (here .1 .0)) in
-    let second = other .past2 .ensures ∙ ap (λ (l : List ℕ). pastOn l (taken .before .loop .y) (taken .before .loop .date)) (still (x .b) (here .1 .1)) in (
+    let first = passed .past .ensures ∙ ap (λ (l : List ℕ). pastOn l (at .x) (at .date)) (still (x .a) (here .1 .0)) in
+    let second = other .past2 .ensures ∙ ap (λ (l : List ℕ). pastOn l (at .y) (at .date)) (still (x .b) (here .1 .1)) in (
       here .0,
       here .1,
       looping-turn _ _ _ _ _ _ _ (here .1 .2) _ _ _ _ _ _ (here .2) (taken .loop-test .taken) _ _ first second _

@@ -20,8 +20,8 @@ apart-requires-2 c κs = search needs
 add-if3 : tie.Need-add-if3
 add-if3 c = search needs
 
-merge-requires : tie.Need-merge-requires
-merge-requires c κs = (
+made-at-requires : tie.Need-made-at-requires
+made-at-requires c κs = (
   sym (c .before .before .before .before .before .apart .ensures) ∙ c .before .before .before .before .if1 .taken,
   sym (c .before .before .before .apart2 .ensures) ∙ c .before .before .if2 .taken,
   c .before .if3 .taken,
@@ -43,7 +43,7 @@ returns c =
     let x = apart .before .before .before .before .before .args in
     begins (x .operation) (x .table) (x .sheet .now) (x .left .now) (x .right .now) (x .work .now) (x .a) (x .b) (x .at)
     (sym (apart .apart .ensures) ∙ first .if1 .taken, sym (second .before .apart2 .ensures) ∙ second .if2 .taken, fits .if3 .taken) _ _
-    (merged .merge .ensures) _ (c .finish .ensures)
+    (merged .made-at .ensures) _ (c .finish .ensures)
 
 returns-2 : tie.Need-returns-2
 returns-2 c =
@@ -71,7 +71,7 @@ merge-at-spec =
     cast-apart-2
     apart-requires-2
     add-if3
-    merge-requires
+    made-at-requires
     finish-requires
     same-length
     returns

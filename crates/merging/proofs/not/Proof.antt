@@ -4,19 +4,16 @@ use borrow.Author.Needs.{needs}
 use Rattle.merging.proofs.not.Statement.{statement}
 use Rattle.merging.proofs.not.Tie as tie
 
-slice-aggregate-operate : tie.Need-slice-aggregate-operate
-slice-aggregate-operate c = search needs
-
-operate-requires : tie.Need-operate-requires
-operate-requires c κs = search needs
+operate-one-requires : tie.Need-operate-one-requires
+operate-one-requires c κs = search needs
 
 same-length : tie.Need-same-length
 same-length c = search needs
 
 returns : tie.Need-returns
 returns c =
-    call-of-one _ _ inverted _ (c .before .before .before .before .before .before .before .args .out .now) _ _
-    (c .before .before .operate .ensures)
+    call-of-one _ _ inverted _ (c .before .before .before .before .before .before .args .out .now) _ _
+    (c .before .before .operate-one .ensures)
 
 pub not-spec : {M : Type 1} → statement M
-not-spec = tie.close (tie.spec slice-aggregate-operate operate-requires same-length returns)
+not-spec = tie.close (tie.spec operate-one-requires same-length returns)

@@ -28,14 +28,14 @@ cast-t15-2 c = let z = pair-none _ _ (sym (c .before .pair-fault .ensures) ∙ c
 array-share-prefix-bytes : tie.Need-array-share-prefix-bytes
 array-share-prefix-bytes c = search needs
 
-slice-aggregate-merge : tie.Need-slice-aggregate-merge
-slice-aggregate-merge c = search needs
+slice-aggregate-made-at : tie.Need-slice-aggregate-made-at
+slice-aggregate-made-at c = search needs
 
-slice-aggregate-merge-2 : tie.Need-slice-aggregate-merge-2
-slice-aggregate-merge-2 c = search needs
+slice-aggregate-made-at-2 : tie.Need-slice-aggregate-made-at-2
+slice-aggregate-made-at-2 c = search needs
 
-merge-requires : tie.Need-merge-requires
-merge-requires c κs = search needs
+made-at-requires : tie.Need-made-at-requires
+made-at-requires c κs = search needs
 
 slice-aggregate-deliver : tie.Need-slice-aggregate-deliver
 slice-aggregate-deliver c = search needs
@@ -55,7 +55,7 @@ returns-2 c =
     let none = sym (z .before .pair-fault .ensures) ∙ z .if1 .left in
     let ok = pair-none _ _ none in
     let built =
-    merged-slices (x .operation) (x .table) [] (x .a .now) (x .b .now) (replicate 256 0) _ _ (merged .merge .ensures) refl (ok .0) (ok .1)
+    merged-slices (x .operation) (x .table) [] (x .a .now) (x .b .now) (replicate 256 0) _ _ (merged .made-at .ensures) refl (ok .0) (ok .1)
     (λ i. z .before .before .before .before .shared-slice-known .given i .fits)
     (λ i. z .before .before .before .shared-slice-known2 .given i .fits) in
     passes-on _ _ _ _ _ _ none
@@ -70,9 +70,9 @@ operate-spec =
     cast-t15
     cast-t15-2
     array-share-prefix-bytes
-    slice-aggregate-merge
-    slice-aggregate-merge-2
-    merge-requires
+    slice-aggregate-made-at
+    slice-aggregate-made-at-2
+    made-at-requires
     slice-aggregate-deliver
     deliver-requires
     same-length
