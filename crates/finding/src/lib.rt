@@ -32,12 +32,14 @@ pub fn find(sheet: &[u8], count: usize, name: &[u8]) -> Place
     let mut at = FIRST_AT;
     let mut i: usize = 0;
     while i < count {
+        if sheet.len() - at < WORDS_AT {
+            return Place::Refused(13);
+        }
         let size = signal_size(&sheet[at..]);
         if sheet.len() - at < size {
             return Place::Refused(13);
         }
-        let held = name_fields::name_in(&sheet[at..at + WORD_COUNT_AT]);
-        if name_fields::alike(held, name) {
+        if name_fields::holds(&sheet[at..at + WORD_COUNT_AT], name) {
             return Place::At {
                 start: at + WORDS_AT,
                 count: size - WORDS_AT,

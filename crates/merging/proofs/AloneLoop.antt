@@ -29,7 +29,7 @@ use Rattle.merging.proofs.MergeLoop.{Reading, reads-start, reads-source
 
 -- the reader of the list that is always down, and what it finds at each date
 abbrev pub standing : Cursor
-standing = record { word = 4294967292; date = 4294967295; held = false; passed = 1 }
+standing = record { word = 4294967292; date = 4294967295; last = 0; passed = 1 }
 
 abbrev pub downAt : Passed
 downAt = record { step = record { before = false; at = false; after = false; passed = 1 }; next = standing }
@@ -58,7 +58,7 @@ own-date l x g = let h = date-below l x (x .passed) (g .on) in omega arith
 
 pub started-alone : (o : Operation) (table : Table) (sheet left right entry : List ℕ) (a : Source) (at : ℕ) → MayBegin a at (length entry)
     → Bytes sheet → Words left → Words right → Words entry → a .count < 4294967296
-    → (x : Cursor) → x ≡ startOf (listAt sheet left right entry a) → (first : Shown) → first ≡ firstShown o table (x .held) false
+    → (x : Cursor) → x ≡ startOf (listAt sheet left right entry a) → (first : Shown) → first ≡ firstShown o table (valueAfter (x .last)) false
     → (k : ℕ) → k ≡ mostWords → (made : Made) (part : List ℕ) → Begins (first .after) (take k (drop at entry)) made part
     → length part ≡ length (take k (drop at entry))
     → let work = take at entry ++ (part ++ drop k (drop at entry)) in

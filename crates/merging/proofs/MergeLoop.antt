@@ -93,7 +93,7 @@ module _ (l : List ℕ) (x : Cursor) (g : Reading l x) where
   pub reads-date : x .date ≡ nextDate l (x .passed)
   reads-date = on-date l (g .small) (g .short) x (x .passed) (g .on)
 
-  pub reads-held : x .held ≡ heldValue l (x .passed)
+  pub reads-held : valueAfter (x .last) ≡ heldValue l (x .passed)
   reads-held = on-held l (g .small) (g .short) x (x .passed) (g .on)
 
   module _ (d : ℕ) (early : d < NEVER) (u : Passed) (e : u ≡ pastOn l x d) where
@@ -211,7 +211,7 @@ module _ (o : Operation) (table : Table) (entry : List ℕ) (at : ℕ) (room : a
   same sheet left right a apart = rw put (apart-kept entry at mostWords room part full sheet left right a apart)
 
   module _ (l m l′ m′ : List ℕ) (el : l′ ≡ l) (em : m′ ≡ m) (x y : Cursor) (gx : Reading l x) (gy : Reading m y)
-      (one : x .passed ≡ 1) (other : y .passed ≡ 1) (first : Shown) (ef : first ≡ firstShown o table (x .held) (y .held))
+      (one : x .passed ≡ 1) (other : y .passed ≡ 1) (first : Shown) (ef : first ≡ firstShown o table (valueAfter (x .last)) (valueAfter (y .last)))
       (made : Made) (eb : Begins (first .after) (take k (drop at entry)) made part) (date : ℕ) (ed : date ≡ min (x .date) (y .date)) where
     pub begun-there : Started o table l m l′ m′ entry at (take at entry ++ (part ++ drop k (drop at entry))) x y made (first .carried) date
     begun-there =
@@ -248,7 +248,7 @@ module _ (o : Operation) (table : Table) (entry : List ℕ) (at : ℕ) (room : a
         begun-state =
             ap (λ (i : ℕ). reached (slotIn work at mostWords) made (first .carried) i (y .passed)) one
             ∙ ap (λ (j : ℕ). reached (slotIn work at mostWords) made (first .carried) 1 j) other
-            ∙ begun-is o table l m (slotIn entry at mostWords) (x .held) (y .held)
+            ∙ begun-is o table l m (slotIn entry at mostWords) (valueAfter (x .last)) (valueAfter (y .last))
             (reads-held l x gx ∙ ap (heldValue l) one) (reads-held m y gy ∙ ap (heldValue m) other) first ef made part
             (slotIn work at mostWords) (rw ek at eb) (slot-back entry at mostWords room part full)
 
@@ -263,7 +263,7 @@ reads-source sheet left right work hs hl hr hw a ca x e =
 pub started : (o : Operation) (table : Table) (sheet left right entry : List ℕ) (a b : Source) (at : ℕ) → MayMerge a b at (length entry)
     → Bytes sheet → Words left → Words right → Words entry → a .count < 4294967296 → b .count < 4294967296
     → (x y : Cursor) → x ≡ startOf (listAt sheet left right entry a) → y ≡ startOf (listAt sheet left right entry b)
-    → (first : Shown) → first ≡ firstShown o table (x .held) (y .held)
+    → (first : Shown) → first ≡ firstShown o table (valueAfter (x .last)) (valueAfter (y .last))
     → (k : ℕ) → k ≡ mostWords → (made : Made) (part : List ℕ) → Begins (first .after) (take k (drop at entry)) made part
     → length part ≡ length (take k (drop at entry)) → (date : ℕ) → date ≡ min (x .date) (y .date)
     → let work = take at entry ++ (part ++ drop k (drop at entry)) in

@@ -46,7 +46,7 @@ fn merge(
     let end = at + WORDS;
     let mut x = sources::start(sheet, left, right, work, a);
     let mut y = sources::start(sheet, left, right, work, b);
-    let first = showing::first_shown(operation, table, x.held, y.held);
+    let first = showing::first_shown(operation, table, x.last % 2 == 1, y.last % 2 == 1);
     let mut made = building::begin(&mut work[at..end], first.after);
     let mut carried = first.carried;
     let mut date = earlier(x.date, y.date);
@@ -83,7 +83,7 @@ fn join(
     let end = at + WORDS;
     let mut x = sources::start(sheet, left, right, work, a);
     let mut y = sources::start(sheet, left, right, work, b);
-    let first = showing::cell_of(table, x.held, y.held);
+    let first = showing::cell_of(table, x.last % 2 == 1, y.last % 2 == 1);
     let mut made = building::begin(&mut work[at..end], first);
     let mut date = earlier(x.date, y.date);
     while date < NEVER {
@@ -170,7 +170,7 @@ fn merge_one(
 {
     let end = at + WORDS;
     let mut x = sources::start(sheet, left, right, work, a);
-    let first = showing::first_shown(operation, table, x.held, false);
+    let first = showing::first_shown(operation, table, x.last % 2 == 1, false);
     let mut made = building::begin(&mut work[at..end], first.after);
     let mut carried = first.carried;
     while x.date < NEVER {

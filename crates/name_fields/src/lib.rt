@@ -40,6 +40,29 @@ pub fn name_in(field: &[u8]) -> &[u8]
     slices::part_before(field, 0)
 }
 
+// A name field holds this name: the part before its first zero byte is the name, which is not cut out to be compared.
+pub fn holds(field: &[u8], name: &[u8]) -> bool
+    ensures { λ r. ⌜ r ≡ same (unpadded (now (field .entry))) (now (name .entry)) ⌝ }
+{
+    let mut i = 0;
+    while i < name.len() {
+        if field.len() <= i {
+            return false;
+        }
+        if field[i] != name[i] {
+            return false;
+        }
+        if name[i] == 0 {
+            return false;
+        }
+        i += 1;
+    }
+    if field.len() <= i {
+        return true;
+    }
+    field[i] == 0
+}
+
 // A name field: a name, then zero bytes.
 pub fn field_fits(field: &[u8]) -> bool
     ensures { λ r. ⌜ r ≡ fieldFits (now (field .entry)) ⌝ }

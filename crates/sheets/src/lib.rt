@@ -44,7 +44,8 @@ fn lesser(a: usize, b: usize) -> usize
 }
 
 // The fault of the n words of a signal that start at a place: each is judged before the next is read. Those that are whole are judged
-// without a test of the length for each.
+// without a test of the length for each. A word changes nothing where it is that of its date and twice the value before. (Written so, and
+// not by the remainder, the word is one load.)
 fn words_fault(s: &[u8], from: usize, n: usize) -> u32
     requires { ⌜ from ≤ length (now s) ⌝ }
     ensures { λ r. ⌜ r ≡ sheetWordsFault n (drop from (now (s .entry))) ⌝ }
@@ -64,7 +65,7 @@ fn words_fault(s: &[u8], from: usize, n: usize) -> u32
         if word / 4 <= before / 4 {
             return 17;
         }
-        if words::changes_nothing(before % 2 == 1, word) {
+        if word == 4 * (word / 4) + 3 * (before % 2) {
             return 17;
         }
         before = word;

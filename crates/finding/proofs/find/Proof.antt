@@ -29,6 +29,17 @@ returns c =
 loop-holds : tie.Need-loop-holds Inv-loop μ-loop
 loop-holds c = (c .if1 .left, rw sub-zero refl)
 
+sub-if2 : tie.Need-sub-if2 Inv-loop μ-loop
+sub-if2 c = search needs
+
+returns-2 : tie.Need-returns-2 Inv-loop μ-loop
+returns-2 c =
+    let args = c .before .before .before .before .before .before .args in
+    let loop = c .before .before .loop in
+    let rest = drop (loop .at) (now (args .sheet)) in
+    sym (place-cut (now (args .name)) (loop .at) (args .count - loop .i) rest
+    (omega (arith, c .if2 .taken, length-drop (loop .at) (now (args .sheet)), size-least rest))) ∙ loop .inv .1
+
 sub-signal-size : tie.Need-sub-signal-size Inv-loop μ-loop
 sub-signal-size c = search needs
 
@@ -43,10 +54,10 @@ signal-size-requires c κs = tt
 
 -- the sheet and the place, and the size of the signal there: ten or more
 abbrev S : tie.After-signal-size Inv-loop μ-loop → List ℕ
-S c = c .before .before .before .before .before .before .before .args .sheet .now
+S c = c .before .before .before .before .before .before .before .before .args .sheet .now
 
 abbrev P : tie.After-signal-size Inv-loop μ-loop → ℕ
-P c = c .before .before .before .loop .at
+P c = c .before .before .before .before .loop .at
 
 size-is : (c : tie.After-signal-size Inv-loop μ-loop) → c .signal-size .result ≡ signalSize (drop (P c) (S c))
 size-is c = c .signal-size .ensures ∙ ap signalSize (part-rest (S c) (P c))
@@ -54,52 +65,47 @@ size-is c = c .signal-size .ensures ∙ ap signalSize (part-rest (S c) (P c))
 ten : (c : tie.After-signal-size Inv-loop μ-loop) → 10 ≤ c .signal-size .result
 ten c = rw (c .signal-size .ensures) (size-least _)
 
-sub-if2 : tie.Need-sub-if2 Inv-loop μ-loop
-sub-if2 c = search needs
-
-returns-2 : tie.Need-returns-2 Inv-loop μ-loop
-returns-2 c =
-    let args = c .before .before .before .before .before .before .before .before .args in
-    let loop = c .before .before .before .before .loop in
-    let s = c .before in
-    sym (place-cut (now (args .name)) (P s) (args .count - loop .i) (drop (P s) (S s))
-    (omega (arith, length-drop (P s) (S s), size-is s))) ∙ loop .inv .1
-
-add-name-in : tie.Need-add-name-in Inv-loop μ-loop
-add-name-in c = omega (arith, ten (c .before))
-
-sub-name-in : tie.Need-sub-name-in Inv-loop μ-loop
-sub-name-in c = search needs
-
-part-name-in-start : tie.Need-part-name-in-start Inv-loop μ-loop
-part-name-in-start c = search needs
-
-part-name-in-end : tie.Need-part-name-in-end Inv-loop μ-loop
-part-name-in-end c = omega (arith, ten (c .before))
-
-name-in-requires : tie.Need-name-in-requires Inv-loop μ-loop
-name-in-requires c κs = tt
-
-alike-requires : tie.Need-alike-requires Inv-loop μ-loop
-alike-requires c κs = tt
-
-add-t20 : tie.Need-add-t20 Inv-loop μ-loop
-add-t20 c = omega (arith, ten (c .before .before .before .before .before))
-
-sub-t21 : tie.Need-sub-t21 Inv-loop μ-loop
-sub-t21 c = omega (arith, ten (c .before .before .before .before .before))
+sub-if3 : tie.Need-sub-if3 Inv-loop μ-loop
+sub-if3 c = search needs
 
 returns-3 : tie.Need-returns-3 Inv-loop μ-loop
 returns-3 c =
-    let args = c .before .before .before .before .before .before .before .before .before .before .before .before .args in
-    let loop = c .before .before .before .before .before .before .before .before .loop in
-    let h = c .before .before .before .before .before .before .before .loop-test .taken in
-    let s = c .before .before .before .before .before in
-    let if2 = c .before .before .before .before .if2 in
-    let name-in = c .before .before .name-in in
-    let alike = c .before .alike in
-    found (now (args .name)) (S s) (P s) (args .count) (loop .i) _ h (s .signal-size .result) (size-is s) (if2 .left)
-    (now (name-in .result)) (alike .result) (name-in .ensures) (alike .ensures) (loop .inv .1) (c .if3 .taken)
+    let s = c .before in
+    let args = s .before .before .before .before .before .before .before .before .args in
+    let loop = s .before .before .before .before .loop in
+    sym (place-cut (now (args .name)) (P s) (args .count - loop .i) (drop (P s) (S s))
+    (omega (arith, length-drop (P s) (S s), size-is s))) ∙ loop .inv .1
+
+add-holds : tie.Need-add-holds Inv-loop μ-loop
+add-holds c = omega (arith, ten (c .before))
+
+sub-holds : tie.Need-sub-holds Inv-loop μ-loop
+sub-holds c = search needs
+
+part-holds-start : tie.Need-part-holds-start Inv-loop μ-loop
+part-holds-start c = search needs
+
+part-holds-end : tie.Need-part-holds-end Inv-loop μ-loop
+part-holds-end c = omega (arith, ten (c .before))
+
+holds-requires : tie.Need-holds-requires Inv-loop μ-loop
+holds-requires c κs = tt
+
+add-t19 : tie.Need-add-t19 Inv-loop μ-loop
+add-t19 c = omega (arith, ten (c .before .before .before .before))
+
+sub-t20 : tie.Need-sub-t20 Inv-loop μ-loop
+sub-t20 c = omega (arith, ten (c .before .before .before .before))
+
+returns-4 : tie.Need-returns-4 Inv-loop μ-loop
+returns-4 c =
+    let s = c .before .before .before .before in
+    let args = s .before .before .before .before .before .before .before .before .args in
+    let loop = s .before .before .before .before .loop in
+    let holds = c .before .holds in
+    found (now (args .name)) (S s) (P s) (args .count) (loop .i) _ (s .before .before .before .loop-test .taken)
+    (s .signal-size .result) (size-is s) (c .before .before .before .if3 .left) _ (holds .result) refl (holds .ensures) (loop .inv .1)
+    (c .if4 .taken)
 
 add-at : tie.Need-add-at Inv-loop μ-loop
 add-at c = omega arith
@@ -112,20 +118,18 @@ loop-less c = omega arith
 
 loop-again : tie.Need-loop-again Inv-loop μ-loop
 loop-again c =
-    let args = c .before .before .before .before .before .before .before .before .before .before .before .before .args in
-    let loop = c .before .before .before .before .before .before .before .before .loop in
-    let h = c .before .before .before .before .before .before .before .loop-test .taken in
-    let s = c .before .before .before .before .before in
-    let if2 = c .before .before .before .before .if2 in
-    let name-in = c .before .before .name-in in
-    let alike = c .before .alike in (
+    let s = c .before .before .before .before in
+    let args = s .before .before .before .before .before .before .before .before .args in
+    let loop = s .before .before .before .before .loop in
+    let holds = c .before .holds in (
       omega arith,
-      not-here (now (args .name)) (S s) (P s) (args .count) (loop .i) _ h (s .signal-size .result) (size-is s) (if2 .left)
-          (now (name-in .result)) (alike .result) (name-in .ensures) (alike .ensures) (loop .inv .1) (c .if3 .left),
+      not-here (now (args .name)) (S s) (P s) (args .count) (loop .i) _ (s .before .before .before .loop-test .taken)
+          (s .signal-size .result) (size-is s) (c .before .before .before .if3 .left) _ (holds .result) refl (holds .ensures) (loop .inv .1)
+          (c .if4 .left),
     )
 
-returns-4 : tie.Need-returns-4 Inv-loop μ-loop
-returns-4 c =
+returns-5 : tie.Need-returns-5 Inv-loop μ-loop
+returns-5 c =
     let args = c .before .before .before .before .before .args in
     let loop = c .before .loop in
     sym (place-end (now (args .name)) (loop .at) (args .count) (loop .i) (drop (loop .at) (now (args .sheet))) (c .loop-test .left))
@@ -139,23 +143,24 @@ find-spec =
     μ-loop
     returns
     loop-holds
+    sub-if2
+    returns-2
     sub-signal-size
     part-signal-size-start
     part-signal-size-end
     signal-size-requires
-    sub-if2
-    returns-2
-    add-name-in
-    sub-name-in
-    part-name-in-start
-    part-name-in-end
-    name-in-requires
-    alike-requires
-    add-t20
-    sub-t21
+    sub-if3
     returns-3
+    add-holds
+    sub-holds
+    part-holds-start
+    part-holds-end
+    holds-requires
+    add-t19
+    sub-t20
+    returns-4
     add-at
     add-i
     loop-less
     loop-again
-    returns-4)
+    returns-5)

@@ -9,7 +9,7 @@ use lib.Dec.{eqb}
 use lib.ListN.{length, drop}
 use denote.Ref.{now}
 use Rattle.format.specs.Reading.{sheetWordsFault, laterWordsFault}
-use Rattle.sheets.proofs.WholeWords.{after-first}
+use Rattle.sheets.proofs.WholeWords.{after-first, unchanged, changed}
 use Rattle.sheets.proofs.words_fault.Statement.{statement}
 use Rattle.sheets.proofs.words_fault.Tie as tie
 
@@ -91,17 +91,22 @@ returns-3 c =
     sym (later-date (loop .before / 4) (eqb (loop .before % 2) 1) (N l) (loop .i) (S l) (F l + 4 * loop .i) (more l) (word .result)
     (word .ensures) (omega (arith, room l)) (c .if3 .taken)) ∙ loop .inv .2
 
-changes-nothing-requires : tie.Need-changes-nothing-requires Inv-loop μ-loop
-changes-nothing-requires c κs = tt
+mul-if4 : tie.Need-mul-if4 Inv-loop μ-loop
+mul-if4 c = search needs
+
+mul-if4-2 : tie.Need-mul-if4-2 Inv-loop μ-loop
+mul-if4-2 c = search needs
+
+add-if4 : tie.Need-add-if4 Inv-loop μ-loop
+add-if4 c = search needs
 
 returns-4 : tie.Need-returns-4 Inv-loop μ-loop
 returns-4 c =
-    let l = c .before .before .before .before in
+    let l = c .before .before .before in
     let loop = l .before .loop in
-    let word = c .before .before .before .word-at2 in
+    let word = c .before .before .word-at2 in
     sym (later-same (loop .before / 4) (eqb (loop .before % 2) 1) (N l) (loop .i) (S l) (F l + 4 * loop .i) (more l) (word .result)
-    (word .ensures) (omega (arith, room l)) (c .before .before .if3 .left) (sym (c .before .changes-nothing .ensures) ∙ c .if4 .taken))
-    ∙ loop .inv .2
+    (word .ensures) (omega (arith, room l)) (c .before .if3 .left) (unchanged (loop .before) (word .result) (c .if4 .taken))) ∙ loop .inv .2
 
 add-i : tie.Need-add-i Inv-loop μ-loop
 add-i c = search needs
@@ -111,14 +116,14 @@ loop-less c = omega arith
 
 loop-again : tie.Need-loop-again Inv-loop μ-loop
 loop-again c =
-    let l = c .before .before .before .before in
+    let l = c .before .before .before in
     let loop = l .before .loop in
-    let word = c .before .before .before .word-at2 in (
+    let word = c .before .before .word-at2 in (
       omega arith,
       omega (arith, room l),
       rw (← next (F l) (loop .i)) (later-next (loop .before / 4) (eqb (loop .before % 2) 1) (N l) (loop .i) (S l) (F l + 4 * loop .i)
-          (more l) (word .result) (word .ensures) (omega (arith, room l)) (c .before .before .if3 .left)
-          (sym (c .before .changes-nothing .ensures) ∙ c .if4 .left)) ∙ loop .inv .2,
+          (more l) (word .result) (word .ensures) (omega (arith, room l)) (c .before .if3 .left)
+          (changed (loop .before) (word .result) (c .if4 .left))) ∙ loop .inv .2,
     )
 
 returns-5 : tie.Need-returns-5 Inv-loop μ-loop
@@ -153,7 +158,9 @@ words-fault-spec =
     add-word-at
     word-at-requires-2
     returns-3
-    changes-nothing-requires
+    mul-if4
+    mul-if4-2
+    add-if4
     returns-4
     add-i
     loop-less

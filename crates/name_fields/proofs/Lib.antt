@@ -1,0 +1,2 @@
+-- Laws of names in name fields.
+pub mod Holding
