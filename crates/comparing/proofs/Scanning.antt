@@ -1,22 +1,24 @@
 -- The scan's loop: its readers go along the lists, and a verdict from here on is one from the start.
-use Prim.Native.Nat.{ℕ, _+_, _-_, _≤_, _<_, min}
+use Prim.Native.Nat.{ℕ, _+_, _-_, _/_, _%_, _≤_, _<_, min}
 use native.Mathlib.Omega.{arith}
+use native.Mathlib.Nat.{mod-eq-of-lt}
 use mathlib.Core.Path.{_≡_, sym, subst, _∙_}
 use mathlib.Core.Logic.{⊎-elim}
 use mathlib.Core.Bool.{Bool, true, false, cond}
-use mathlib.Core.List.{List, []}
-use lib.ListN.{length}
+use mathlib.Core.List.{List}
+use lib.Dec.{eqb}
+use lib.ListN.{length, getD}
 use Rattle.slices.specs.Bytes.{Words}
+use Rattle.signals.specs.Words.{valueAfter}
 use Rattle.signals.specs.Passing.{heldValue, isNext, atDate, passedDate}
 use Rattle.signals.specs.declared.Verdict.{Verdict}
 use Rattle.signals.specs.declared.Verdict.the-variants.{Holds, FailsAt, FailsAfter}
 use Rattle.reading.specs.Reading.{NEVER, nextDate, stepPast}
 use Rattle.reading.proofs.Counting.{next-left, passed-next}
-use Rattle.sources.specs.Sources.{listFrom, cursorAt, startOf, pastOn}
-use Rattle.sources.specs.declared.Memory.the-variants.{Left, Right}
+use Rattle.sources.specs.Sources.{nextWord, cursorAt, startOf, pastOn}
 use Rattle.sources.specs.declared.Cursor.{Cursor}
 use Rattle.sources.specs.declared.Passed.{Passed}
-use Rattle.sources.proofs.Sourcing.{whole-left, whole-right}
+use Rattle.sources.proofs.SourceWords.{word-left, no-word-left}
 use Rattle.sources.proofs.Going.{On, on-start, on-date, on-held, on-step, on-next}
 use Rattle.comparing.specs.Finding.{failsBy, nextOf, Quiet, Finds, Found, inGap, ended, atInstant, turn}
 use Rattle.comparing.proofs.Watching.{one-of}
@@ -139,7 +141,23 @@ module _ {both : Bool} {a b : List ℕ} {last : ℕ} {x y : Cursor} {v : Bool} (
           (λ n. omega (arith, passed-one b (y .passed) d small n, passed-le a (x .passed) d))
           (one-of a b (x .passed) (y .passed) d next-is))
 
--- whole slices as sources
-pub found-whole : (both : Bool) (a b : List ℕ) (r : Verdict)
-    → Found both (listFrom Left [] a b [] 0 (length a)) (listFrom Right [] a b [] 0 (length b)) r → Found both a b r
-found-whole both a b r h = rw (whole-left [] a b [], whole-right [] a b []) at h
+-- the readers of a slice, by the tests that the code makes
+module _ (l : List ℕ) where
+  pub reader-left : (passed : ℕ) (held : Bool) → passed < length l → getD l passed 0 < 4294967296
+      → _≡_ {A = Cursor} (record { word = getD l passed 0; date = getD l passed 0 / 4; held = held; passed = passed })
+      (cursorAt l passed held)
+  unfolding cursorAt
+  reader-left passed held h w =
+      let d : getD l passed 0 / 4 < 4294967296 = omega arith in
+      rw (word-left l passed h, mod-eq-of-lt w, mod-eq-of-lt d)
+
+  pub reader-none : (passed : ℕ) (held : Bool) → length l ≤ passed
+      → _≡_ {A = Cursor} (record { word = 4294967292; date = NEVER; held = held; passed = passed }) (cursorAt l passed held)
+  unfolding cursorAt
+  reader-none passed held h = rw (no-word-left l passed h)
+
+  pub reader-first : (c r : Cursor) → c ≡ cursorAt l 0 false → r ≡ cursorAt l 1 (eqb (c .word % 2) 1) → r ≡ startOf l
+  unfolding cursorAt valueAfter
+  reader-first c r e f =
+      let low : nextWord l 0 % 4294967296 % 2 ≡ nextWord l 0 % 2 = omega arith in
+      f ∙ rw (e, low)

@@ -3,14 +3,17 @@ ghost use mathlib.Core.Path.{_≡_};
 ghost use mathlib.Core.Bool.{false};
 ghost use Prim.Native.Nat.{min};
 ghost use Rattle.signals.specs.Words.{pairFault};
+ghost use Rattle.sources.specs.Sources.{cursorAt, startOf, pastOn};
 ghost use Rattle.questions.specs.Questions.{equalOf, impliesOf};
 ghost use Rattle.comparing.specs.Finding.{failsBy, Found, FoundAt};
 use lists::pair_fault;
 use reading::NEVER;
+use reading::Step;
 use signals::Date;
 use signals::Told;
 use signals::Verdict;
-use sources::Memory;
+use sources::Cursor;
+use sources::Passed;
 use sources::Source;
 use sources::past;
 use sources::start;
@@ -77,25 +80,93 @@ pub fn implies_at(
     scan(false, sheet, left, right, work, f, g)
 }
 
-// The scan along two accepted lists.
-fn scan_pair(both: bool, a: &[u32], b: &[u32]) -> Verdict
-    requires { ⌜ pairFault (now a) (now b) ≡ 0 ⌝ }
-    ensures { λ r. ⌜ Found both (now (a .entry)) (now (b .entry)) r ⌝ }
+// The reader of a list of words of which so many are passed, and the value held after them.
+fn reader_in(words: &[u32], passed: usize, held: bool) -> Cursor
+    ensures { λ r. ⌜ r ≡ cursorAt (now (words .entry)) passed held ⌝ }
 {
-    let none = [0u8; 1];
-    let first = a.len() as u32;
-    let second = b.len() as u32;
-    let f = Source {
-        memory: Memory::Left,
-        at: 0,
-        count: first,
-    };
-    let g = Source {
-        memory: Memory::Right,
-        at: 0,
-        count: second,
-    };
-    scan(both, &none[..0], a, b, &a[..0], f, g)
+    if passed < words.len() {
+        let word = words[passed];
+        return Cursor {
+            word,
+            date: word / 4,
+            held,
+            passed,
+        };
+    }
+    Cursor {
+        word: 4294967292,
+        date: NEVER,
+        held,
+        passed,
+    }
+}
+
+// The reader past the first word.
+fn start_in(words: &[u32]) -> Cursor
+    ensures { λ r. ⌜ r ≡ startOf (now (words .entry)) ⌝ }
+{
+    let first = reader_in(words, 0, false);
+    reader_in(words, 1, first.word % 2 == 1)
+}
+
+// Past a date: a word of that date is passed, and only then the next one is read.
+fn past_in(words: &[u32], at: Cursor, date: u32) -> Passed
+    ensures { λ r. ⌜ r ≡ pastOn (now (words .entry)) at date ⌝ }
+{
+    if at.date == date {
+        let after = at.word % 2 == 1;
+        let passed = at.passed % 4294967296 + 1;
+        return Passed {
+            step: Step {
+                before: at.held,
+                at: at.word / 2 % 2 == 1,
+                after,
+                passed,
+            },
+            next: reader_in(words, passed, after),
+        };
+    }
+    Passed {
+        step: Step {
+            before: at.held,
+            at: at.held,
+            after: at.held,
+            passed: at.passed,
+        },
+        next: Cursor {
+            word: at.word,
+            date: at.date,
+            held: at.held,
+            passed: at.passed,
+        },
+    }
+}
+
+// The same scan along two accepted lists, which are the whole of the slices lent: nothing is to be chosen where a word is read.
+fn scan_pair(both: bool, f: &[u32], g: &[u32]) -> Verdict
+    requires { ⌜ pairFault (now f) (now g) ≡ 0 ⌝ }
+    ensures { λ r. ⌜ Found both (now (f .entry)) (now (g .entry)) r ⌝ }
+{
+    let mut last: u32 = 0;
+    let mut x = start_in(f);
+    let mut y = start_in(g);
+    loop {
+        if fails_by(both, x.held, y.held) {
+            return Verdict::FailsAfter(last);
+        }
+        let date = earlier_date(x.date, y.date);
+        if NEVER <= date {
+            return Verdict::Holds;
+        }
+        let s = past_in(f, x, date);
+        let t = past_in(g, y, date);
+        if fails_by(both, s.step.at, t.step.at) {
+            return Verdict::FailsAt(date);
+        }
+        last = date;
+        x = s.next;
+        y = t.next;
+    }
 }
 
 // Implication f to g: fails where f is up and g is down.

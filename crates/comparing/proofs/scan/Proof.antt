@@ -31,7 +31,8 @@ loop-holds c =
     let known = c .before .before in
     let start = known .before .before .before .before in
     let x = start .args in
-    let words : (s : Source) → Words (listAt (x .sheet .now) (x .left .now) (x .right .now) (x .work .now) s) = λ s. words-at (x .sheet .now) (x .left .now) (x .right .now) (x .work .now) s
+    let words : (s : Source) → Words (listAt (x .sheet .now) (x .left .now) (x .right .now) (x .work .now) s) = λ s.
+    words-at (x .sheet .now) (x .left .now) (x .right .now) (x .work .now) s
     (λ i. known .before .before .before .shared-slice-known .given i .fits)
     (λ i. known .before .before .shared-slice-known2 .given i .fits) (λ i. known .before .shared-slice-known3 .given i .fits)
     (λ i. known .shared-slice-known4 .given i .fits) in
