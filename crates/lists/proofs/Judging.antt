@@ -1,5 +1,5 @@
 -- The tests that the list check makes are those of the definitions, and one turn of its loop is one clause of `wordsFault`.
-use Prim.Native.Nat.{ℕ, _+_, _≤_, _<_}
+use Prim.Native.Nat.{ℕ, zero, suc, _+_, _*_, _/_, _≤_, _<_}
 use native.Mathlib.Omega.{arith}
 use native.Mathlib.Numerals.{add-one}
 use mathlib.Core.Path.{_≡_, refl, sym, _∙_}
@@ -8,9 +8,14 @@ use mathlib.Core.List.{List, [], _∷_}
 use lib.Dec.{ltb}
 use lib.ListN.{length, getD, drop, drop-of-length-le}
 use lib.Seq.{drop-cons}
-use borrow.Author.Tests.{le-leb, lt-leb, lt-ltb, le-ltb}
+use borrow.Author.Tests.{le-leb, lt-leb, lt-ltb, le-ltb, ltb-false}
 use Rattle.lists.specs.Head.{headFault}
 use Rattle.signals.specs.Words.{dateOf, valueAfter, headValue, changesNothing, wordsFault, listFault, mostWords}
+
+-- a word above the last one of a date is of a later date
+pub of-later : (w before : ℕ) → before / 4 * 4 + 3 < w → before / 4 < dateOf w
+unfolding dateOf
+of-later w before h = omega arith
 
 module _ (l : List ℕ) (passed last : ℕ) (before : Bool) (h : passed < length l) where
   pub fault-3 : dateOf (getD l passed 0) ≤ last → wordsFault last before (drop passed l) ≡ 3
@@ -56,6 +61,30 @@ pub head-some : (l : List ℕ) → headFault l ≡ 0 → 0 < length l
 unfolding headFault
 head-some [] z = absurd (omega arith)
 head-some (w ∷ ws) z = omega arith
+
+-- an accepted first word has date 0 and its value is that held after it
+bit-value : (h : ℕ) → h ≤ 1 → headValue h ≡ valueAfter h
+unfolding headValue valueAfter
+bit-value zero e = refl
+bit-value (suc zero) e = refl
+bit-value (suc (suc h)) e = absurd (omega arith)
+
+pub head-small : (l : List ℕ) → headFault l ≡ 0 → getD l 0 0 ≤ 1
+unfolding headFault
+head-small [] z = omega arith
+head-small (h ∷ ws) z = go (ltb mostWords (length (h ∷ ws))) (ltb 1 h) refl z
+  where
+    go : (a b : Bool) → ltb 1 h ≡ b → _≡_ {A = ℕ} (cond a 1 (cond b 2 0)) 0 → h ≤ 1
+    go true b q e = absurd (omega arith)
+    go false true q e = absurd (omega arith)
+    go false false q e = ltb-false 1 h q
+
+pub from-head : (l : List ℕ) → headFault l ≡ 0
+    → wordsFault 0 (headValue (getD l 0 0)) (drop 1 l) ≡ wordsFault (getD l 0 0 / 4) (valueAfter (getD l 0 0)) (drop 1 l)
+from-head l z =
+    let s = head-small l z in
+    let d : getD l 0 0 / 4 ≡ 0 = omega arith in
+    rw (d, bit-value (getD l 0 0) s)
 
 -- the tests of the head before those of the words after it
 pub head-first : (a b : Bool) (r : ℕ) → (_≡_ {A = ℕ} (cond a 1 (cond b 2 0)) 0 → ⊥)

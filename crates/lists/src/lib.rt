@@ -1,7 +1,6 @@
 // Lists: the check of a list.
 ghost use mathlib.Core.Path.{_≡_};
-ghost use Prim.Native.Nat.{_<_};
-ghost use lib.ListN.{length, getD, drop};
+ghost use lib.ListN.{getD, drop};
 ghost use Rattle.signals.specs.Words.{headValue, wordsFault, listFault, pairFault};
 ghost use Rattle.lists.specs.Head.{headFault};
 use signals::WORDS;
@@ -23,25 +22,23 @@ pub fn head_fault(list: &[u32]) -> u32
     0
 }
 
-// The fault of the words after the first.
+// The fault of the words after the first, each judged by the word before it, which has the last date and the value held since.
 fn words_fault(list: &[u32]) -> u32
-    requires { ⌜ 0 < length (now list) ⌝ }
+    requires { ⌜ headFault (now list) ≡ 0 ⌝ }
     ensures { λ r. ⌜ r ≡ wordsFault 0 (headValue (getD (now (list .entry)) 0 0)) (drop 1 (now (list .entry))) ⌝ }
 {
     let mut passed: usize = 1;
-    let mut last: u32 = 0;
-    let mut before = list[0] == 1;
+    let mut before = list[0];
     while passed < list.len() {
         let w = list[passed];
-        let date = w / 4;
-        if date <= last {
+        // not of a later date: not above the last word of the date before
+        if w <= before / 4 * 4 + 3 {
             return 3;
         }
-        if changes_nothing(before, w) {
+        if changes_nothing(before % 2 == 1, w) {
             return 4;
         }
-        last = date;
-        before = w % 2 == 1;
+        before = w;
         passed += 1;
     }
     0
