@@ -2,7 +2,7 @@
 use Prim.Native.Nat.{ℕ, _+_, _-_, _/_, _%_, _≤_, _<_, min}
 use native.Mathlib.Omega.{arith}
 use native.Mathlib.Nat.{mod-eq-of-lt}
-use mathlib.Core.Path.{_≡_, sym, subst, _∙_}
+use mathlib.Core.Path.{_≡_, sym, subst, _∙_, ap}
 use mathlib.Core.Logic.{⊎-elim}
 use mathlib.Core.Bool.{Bool, true, false, cond}
 use mathlib.Core.List.{List}
@@ -70,7 +70,7 @@ scan-start both a b x y short-a short-b words-a words-b ex ey =
     }
 
 module _ {both : Bool} {a b : List ℕ} {last : ℕ} {x y : Cursor} {v : Bool} (w : Scanning both a b last x y)
-    (e : failsBy both (x .held) (y .held) ≡ v) where
+    (e : failsBy both (valueAfter (x .last)) (valueAfter (y .last)) ≡ v) where
   held-fails : failsBy both (heldValue a (x .passed)) (heldValue b (y .passed)) ≡ v
   held-fails =
       rw
@@ -143,21 +143,21 @@ module _ {both : Bool} {a b : List ℕ} {last : ℕ} {x y : Cursor} {v : Bool} (
 
 -- the readers of a slice, by the tests that the code makes
 module _ (l : List ℕ) where
-  pub reader-left : (passed : ℕ) (held : Bool) → passed < length l → getD l passed 0 < 4294967296
-      → _≡_ {A = Cursor} (record { word = getD l passed 0; date = getD l passed 0 / 4; held = held; passed = passed })
-      (cursorAt l passed held)
+  pub reader-left : (passed last : ℕ) → passed < length l → getD l passed 0 < 4294967296
+      → _≡_ {A = Cursor} (record { word = getD l passed 0; date = getD l passed 0 / 4; last = last; passed = passed })
+      (cursorAt l passed last)
   unfolding cursorAt
-  reader-left passed held h w =
+  reader-left passed last h w =
       let d : getD l passed 0 / 4 < 4294967296 = omega arith in
       rw (word-left l passed h, mod-eq-of-lt w, mod-eq-of-lt d)
 
-  pub reader-none : (passed : ℕ) (held : Bool) → length l ≤ passed
-      → _≡_ {A = Cursor} (record { word = 4294967292; date = NEVER; held = held; passed = passed }) (cursorAt l passed held)
+  pub reader-none : (passed last : ℕ) → length l ≤ passed
+      → _≡_ {A = Cursor} (record { word = 4294967292; date = NEVER; last = last; passed = passed }) (cursorAt l passed last)
   unfolding cursorAt
-  reader-none passed held h = rw (no-word-left l passed h)
+  reader-none passed last h = rw (no-word-left l passed h)
 
-  pub reader-first : (c r : Cursor) → c ≡ cursorAt l 0 false → r ≡ cursorAt l 1 (eqb (c .word % 2) 1) → r ≡ startOf l
-  unfolding cursorAt valueAfter
-  reader-first c r e f =
-      let low : nextWord l 0 % 4294967296 % 2 ≡ nextWord l 0 % 2 = omega arith in
-      f ∙ rw (e, low)
+  pub first-left : (r : Cursor) → 0 < length l → r ≡ cursorAt l 1 (getD l 0 0) → r ≡ startOf l
+  first-left r h e = e ∙ ap (cursorAt l 1) (sym (word-left l 0 h))
+
+  pub first-none : (r : Cursor) → length l ≤ 0 → r ≡ cursorAt l 1 17179869180 → r ≡ startOf l
+  first-none r h e = e ∙ ap (cursorAt l 1) (sym (no-word-left l 0 h))

@@ -48,7 +48,7 @@ fn scan(
     let mut a = start(sheet, left, right, work, f);
     let mut b = start(sheet, left, right, work, g);
     loop {
-        if fails_by(both, a.held, b.held) {
+        if fails_by(both, a.last % 2 == 1, b.last % 2 == 1) {
             return Verdict::FailsAfter(last);
         }
         let date = earlier_date(a.date, b.date);
@@ -80,23 +80,23 @@ pub fn implies_at(
     scan(false, sheet, left, right, work, f, g)
 }
 
-// The reader of a list of words of which so many are passed, and the value held after them.
-fn reader_in(words: &[u32], passed: usize, held: bool) -> Cursor
-    ensures { λ r. ⌜ r ≡ cursorAt (now (words .entry)) passed held ⌝ }
+// The reader of a list of words of which so many are passed, the last of them given.
+fn reader_in(words: &[u32], passed: usize, last: u64) -> Cursor
+    ensures { λ r. ⌜ r ≡ cursorAt (now (words .entry)) passed last ⌝ }
 {
     if passed < words.len() {
         let word = words[passed];
         return Cursor {
             word,
             date: word / 4,
-            held,
+            last,
             passed,
         };
     }
     Cursor {
         word: 4294967292,
         date: NEVER,
-        held,
+        last,
         passed,
     }
 }
@@ -105,38 +105,40 @@ fn reader_in(words: &[u32], passed: usize, held: bool) -> Cursor
 fn start_in(words: &[u32]) -> Cursor
     ensures { λ r. ⌜ r ≡ startOf (now (words .entry)) ⌝ }
 {
-    let first = reader_in(words, 0, false);
-    reader_in(words, 1, first.word % 2 == 1)
+    if 0 < words.len() {
+        return reader_in(words, 1, words[0] as u64);
+    }
+    reader_in(words, 1, 17179869180)
 }
 
 // Past a date: a word of that date is passed, and only then the next one is read.
 fn past_in(words: &[u32], at: Cursor, date: u32) -> Passed
     ensures { λ r. ⌜ r ≡ pastOn (now (words .entry)) at date ⌝ }
 {
+    let held = at.last % 2 == 1;
     if at.date == date {
-        let after = at.word % 2 == 1;
         let passed = at.passed % 4294967296 + 1;
         return Passed {
             step: Step {
-                before: at.held,
+                before: held,
                 at: at.word / 2 % 2 == 1,
-                after,
+                after: at.word % 2 == 1,
                 passed,
             },
-            next: reader_in(words, passed, after),
+            next: reader_in(words, passed, at.word as u64),
         };
     }
     Passed {
         step: Step {
-            before: at.held,
-            at: at.held,
-            after: at.held,
+            before: held,
+            at: held,
+            after: held,
             passed: at.passed,
         },
         next: Cursor {
             word: at.word,
             date: at.date,
-            held: at.held,
+            last: at.last,
             passed: at.passed,
         },
     }
@@ -151,7 +153,7 @@ fn scan_pair(both: bool, f: &[u32], g: &[u32]) -> Verdict
     let mut x = start_in(f);
     let mut y = start_in(g);
     loop {
-        if fails_by(both, x.held, y.held) {
+        if fails_by(both, x.last % 2 == 1, y.last % 2 == 1) {
             return Verdict::FailsAfter(last);
         }
         let date = earlier_date(x.date, y.date);

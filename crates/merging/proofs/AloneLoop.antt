@@ -35,10 +35,11 @@ abbrev pub downAt : Passed
 downAt = record { step = record { before = false; at = false; after = false; passed = 1 }; next = standing }
 
 stands : standing ≡ startOf always0
-unfolding cursorAt nextWord valueAfter
+unfolding cursorAt nextWord
 stands = refl
 
 pub down-is : (d : ℕ) → d < NEVER → downAt ≡ pastOn always0 standing d
+unfolding valueAfter
 down-is d h = sym (past-kept always0 standing d (λ z. omega arith))
 
 reads-none : Reading always0 standing
@@ -64,6 +65,7 @@ pub started-alone : (o : Operation) (table : Table) (sheet left right entry : Li
     → let work = take at entry ++ (part ++ drop k (drop at entry)) in
     Started o table (listAt sheet left right entry a) always0 (listAt sheet left right work a) always0 entry at work x standing made
     (first .carried) (x .date)
+unfolding valueAfter
 started-alone o table sheet left right entry a at may hs hl hr hw ca x ex first ef k ek made part eb kept =
     begun-there o table entry at (may .1) k ek part kept (listAt sheet left right entry a) always0 (listAt sheet left right work a) always0
     (same o table entry at (may .1) k ek part kept sheet left right a (may .0)) refl x standing reading reads-none

@@ -10,7 +10,7 @@ use lib.ListN.{length, take, drop}
 use borrow.Author.Tests.{ltb-true, ltb-false}
 use Rattle.slices.specs.Bytes.{Bytes, Words}
 use Rattle.signals.specs.Signal.{Table, cell}
-use Rattle.signals.specs.Words.{mostWords}
+use Rattle.signals.specs.Words.{mostWords, valueAfter}
 use Rattle.signals.specs.Passing.{heldValue, passedDate}
 use Rattle.reading.specs.Reading.{NEVER, nextDate, stepPast}
 use Rattle.reading.specs.declared.Step.{Step}

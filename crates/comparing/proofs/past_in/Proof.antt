@@ -9,15 +9,19 @@ use Rattle.comparing.proofs.past_in.Tie as tie
 add-passed : tie.Need-add-passed
 add-passed c = search needs
 
+cast-reader-in : tie.Need-cast-reader-in
+cast-reader-in c = search needs
+
 reader-in-requires : tie.Need-reader-in-requires
 reader-in-requires c κs = search needs
 
 returns : tie.Need-returns
 unfolding valueAt valueAfter
-returns c = taken-is _ _ _ _ (c .before .before .before .before .if1 .taken) (c .reader-in .ensures)
+returns c = taken-is _ _ _ _ (c .before .before .before .before .before .if1 .taken) (c .reader-in .ensures)
 
 returns-2 : tie.Need-returns-2
+unfolding valueAt valueAfter
 returns-2 c = sym (past-kept _ _ _ (c .if1 .left))
 
 pub past-in-spec : {M : Type 1} → statement M
-past-in-spec = tie.close (tie.spec add-passed reader-in-requires returns returns-2)
+past-in-spec = tie.close (tie.spec add-passed cast-reader-in reader-in-requires returns returns-2)

@@ -8,6 +8,7 @@ use Rattle.slices.specs.Bytes.{Words}
 use Rattle.sources.specs.Sources.{listAt}
 use Rattle.sources.specs.declared.Source.{Source}
 use Rattle.sources.proofs.Sourcing.{list-short, words-at}
+use Rattle.signals.specs.Words.{valueAfter}
 use Rattle.comparing.proofs.Scanning.{Scanning, scan-start, gap-found, none-found, instant-found, scan-on, falls}
 use Rattle.comparing.proofs.scan.Statement.{statement}
 use Rattle.comparing.proofs.scan.Tie as tie
@@ -45,15 +46,17 @@ fails-by-requires : tie.Need-fails-by-requires Inv-loop μ-loop
 fails-by-requires c κs = search needs
 
 returns : tie.Need-returns Inv-loop μ-loop
-returns c = gap-found (c .before .before .loop .inv) (sym (c .before .fails-by .ensures)) (c .if1 .taken)
+unfolding valueAfter
+returns c = gap-found (c .before .before .before .before .loop .inv) (sym (c .before .fails-by .ensures)) (c .if1 .taken)
 
 earlier-date-requires : tie.Need-earlier-date-requires Inv-loop μ-loop
 earlier-date-requires c κs = search needs
 
 returns-2 : tie.Need-returns-2 Inv-loop μ-loop
+unfolding valueAfter
 returns-2 c =
     let d = c .before in
-    none-found (d .before .before .before .loop .inv) (sym (d .before .before .fails-by .ensures))
+    none-found (d .before .before .before .before .before .loop .inv) (sym (d .before .before .fails-by .ensures))
     (d .before .if1 .left) _ (d .earlier-date .ensures) (c .if2 .taken)
 
 past-requires : tie.Need-past-requires Inv-loop μ-loop
@@ -66,27 +69,30 @@ fails-by-requires-2 : tie.Need-fails-by-requires-2 Inv-loop μ-loop
 fails-by-requires-2 c κs = search needs
 
 returns-3 : tie.Need-returns-3 Inv-loop μ-loop
+unfolding valueAfter
 returns-3 c =
     let t = c .before .before in
     let d = t .before .before .before in
-    instant-found (d .before .before .before .loop .inv) (sym (d .before .before .fails-by .ensures))
+    instant-found (d .before .before .before .before .before .loop .inv) (sym (d .before .before .fails-by .ensures))
     (d .before .if1 .left) _ (d .earlier-date .ensures)
     _ _ (t .before .before .if2 .left) (t .before .past .ensures) (t .past2 .ensures)
     (sym (c .before .fails-by2 .ensures) ∙ c .if3 .taken)
 
 loop-less : tie.Need-loop-less Inv-loop μ-loop
+unfolding valueAfter
 loop-less c =
     let t = c .before .before .before .before in
     let d = t .before .before .before in
-    falls (d .before .before .before .loop .inv) (sym (d .before .before .fails-by .ensures))
+    falls (d .before .before .before .before .before .loop .inv) (sym (d .before .before .fails-by .ensures))
     (d .before .if1 .left) _ (d .earlier-date .ensures)
     _ _ (t .before .before .if2 .left) (t .before .past .ensures) (t .past2 .ensures)
 
 loop-again : tie.Need-loop-again Inv-loop μ-loop
+unfolding valueAfter
 loop-again c =
     let t = c .before .before .before .before in
     let d = t .before .before .before in
-    scan-on (d .before .before .before .loop .inv) (sym (d .before .before .fails-by .ensures))
+    scan-on (d .before .before .before .before .before .loop .inv) (sym (d .before .before .fails-by .ensures))
     (d .before .if1 .left) _ (d .earlier-date .ensures)
     _ _ (t .before .before .if2 .left) (t .before .past .ensures) (t .past2 .ensures)
     (sym (c .before .before .before .fails-by2 .ensures) ∙ c .before .before .if3 .left)

@@ -5,7 +5,7 @@ use native.Mathlib.Omega.{arith}
 use mathlib.Core.Path.{_≡_, refl, _∙_, ap}
 use mathlib.Core.List.{List, _++_}
 use lib.ListN.{length, take, drop}
-use Rattle.signals.specs.Words.{mostWords}
+use Rattle.signals.specs.Words.{mostWords, valueAfter}
 use Rattle.sources.specs.Sources.{listAt, pastOn, slotIn}
 use Rattle.merging.specs.Merging.{MayMerge}
 use Rattle.merging.proofs.MergeLoop.{Looping, reached, Started, started}
@@ -37,7 +37,7 @@ first-shown-requires c κs = search needs
 
 mul-begin : tie.Need-mul-begin Inv-loop μ-loop
 mul-begin c =
-    let s = c .before .before .before .before .before .before .before .before .before in
+    let s = c .before .before .before .before .before .before .before .before .before .before .before in
     omega (arith, s .pre .2, s .good .1 .1 .1 .1 .1 .0 .1)
 
 sub-begin : tie.Need-sub-begin Inv-loop μ-loop
@@ -48,7 +48,7 @@ part-begin-start c = search needs
 
 part-begin-end : tie.Need-part-begin-end Inv-loop μ-loop
 part-begin-end c =
-    let s = c .before .before .before .before .before .before .before .before .before in
+    let s = c .before .before .before .before .before .before .before .before .before .before .before in
     omega (arith, s .pre .2)
 
 begin-requires : tie.Need-begin-requires Inv-loop μ-loop
@@ -60,7 +60,7 @@ earlier-requires c κs = search needs
 begins : (c : tie.After-earlier Inv-loop μ-loop)
     → let begun = c .before .before .before in
     let shown = begun .before .before in
-    let second = shown .before in
+    let second = shown .before .before .before in
     let first = second .before .before in
     let x = first .before .before .before .before .before .before .args in
     let work = take (x .at) (x .work .now) ++ (begun .begin .last .0 ++ drop (x .at + 256 - x .at) (drop (x .at) (x .work .now))) in
@@ -69,10 +69,11 @@ begins : (c : tie.After-earlier Inv-loop μ-loop)
     (listAt (x .sheet .now) (x .left .now) (x .right .now) work (x .a)) (listAt (x .sheet .now) (x .left .now) (x .right .now) work (x .b))
     (x .work .now) (x .at) work
     (first .start .result) (second .start2 .result) (begun .begin .result) (shown .first-shown .result .carried) (c .earlier .result)
+unfolding valueAfter
 begins c =
     let begun = c .before .before .before in
     let shown = begun .before .before in
-    let second = shown .before in
+    let second = shown .before .before .before in
     let first = second .before .before in
     let known = first .before .before in
     let s = first .before .before .before .before .before .before in
@@ -87,7 +88,7 @@ begins c =
 loop-holds : tie.Need-loop-holds Inv-loop μ-loop
 loop-holds c =
     let shown = c .before .before .before .before .before in
-    let s = shown .before .before .before .before .before .before .before .before .before in
+    let s = shown .before .before .before .before .before .before .before .before .before .before .before in
     let z = begins c in (refl, (s .pre .0, s .pre .1, rw (z .long) (s .pre .2)), z .start)
 
 past-requires : tie.Need-past-requires Inv-loop μ-loop
@@ -102,7 +103,7 @@ date-shown-requires c κs = search needs
 mul-emit : tie.Need-mul-emit Inv-loop μ-loop
 mul-emit c =
     let told = c .before .before .before .before .before .before .before in
-    let s = told .before .before .before .before .before .before .before .before .before .before .before .before .before .before in
+    let s = told .before .before .before .before .before .before .before .before .before .before .before .before .before .before .before .before in
     omega (arith, s .pre .2, s .good .1 .1 .1 .1 .1 .0 .1)
 
 sub-emit : tie.Need-sub-emit Inv-loop μ-loop
@@ -132,7 +133,7 @@ loop-less c =
     let at = taken .before .loop in
     let here = at .inv in
     let told = taken .before .before .before in
-    let x = told .before .before .before .before .before .before .before .before .before .before .before .before .before .args in
+    let x = told .before .before .before .before .before .before .before .before .before .before .before .before .before .before .before .args in
     let still = looping-still _ _ _ _ _ _ _ (here .1 .2) _ _ _ _ _ _ (here .2) (x .sheet .now) (x .left .now) (x .right .now) in
     let first = passed .past .ensures ∙ ap (λ (l : List ℕ). pastOn l (at .x) (at .date)) (still (x .a) (here .1 .0)) in
     let second = other .past2 .ensures ∙ ap (λ (l : List ℕ). pastOn l (at .y) (at .date)) (still (x .b) (here .1 .1)) in
@@ -148,7 +149,7 @@ loop-again c =
     let at = taken .before .loop in
     let here = at .inv in
     let told = taken .before .before .before in
-    let x = told .before .before .before .before .before .before .before .before .before .before .before .before .before .args in
+    let x = told .before .before .before .before .before .before .before .before .before .before .before .before .before .before .before .args in
     let still = looping-still _ _ _ _ _ _ _ (here .1 .2) _ _ _ _ _ _ (here .2) (x .sheet .now) (x .left .now) (x .right .now) in
     let first = passed .past .ensures ∙ ap (λ (l : List ℕ). pastOn l (at .x) (at .date)) (still (x .a) (here .1 .0)) in
     let second = other .past2 .ensures ∙ ap (λ (l : List ℕ). pastOn l (at .y) (at .date)) (still (x .b) (here .1 .1)) in (

@@ -5,7 +5,7 @@ use native.Mathlib.Omega.{arith}
 use mathlib.Core.Path.{_≡_, refl, _∙_, ap}
 use mathlib.Core.List.{List, _++_}
 use lib.ListN.{length, take, drop}
-use Rattle.signals.specs.Words.{mostWords}
+use Rattle.signals.specs.Words.{mostWords, valueAfter}
 use Rattle.sources.specs.Sources.{listAt, pastOn, slotIn}
 use Rattle.merging.specs.Merging.{MayBegin, always0}
 use Rattle.merging.proofs.MergeLoop.{Looping, reached, Started, reads-on}
@@ -34,7 +34,7 @@ first-shown-requires : tie.Need-first-shown-requires Inv-loop μ-loop
 first-shown-requires c κs = search needs
 
 mul-begin : tie.Need-mul-begin Inv-loop μ-loop
-mul-begin c = let s = c .before .before .before .before .before .before .before in omega (arith, s .pre .1, s .good .1 .1 .1 .1 .1 .0 .1)
+mul-begin c = let s = c .before .before .before .before .before .before .before .before in omega (arith, s .pre .1, s .good .1 .1 .1 .1 .1 .0 .1)
 
 sub-begin : tie.Need-sub-begin Inv-loop μ-loop
 sub-begin c = search needs
@@ -43,7 +43,7 @@ part-begin-start : tie.Need-part-begin-start Inv-loop μ-loop
 part-begin-start c = search needs
 
 part-begin-end : tie.Need-part-begin-end Inv-loop μ-loop
-part-begin-end c = let s = c .before .before .before .before .before .before .before in omega (arith, s .pre .1)
+part-begin-end c = let s = c .before .before .before .before .before .before .before .before in omega (arith, s .pre .1)
 
 begin-requires : tie.Need-begin-requires Inv-loop μ-loop
 begin-requires c κs = search needs
@@ -51,16 +51,17 @@ begin-requires c κs = search needs
 begins : (c : tie.After-slice-known2 Inv-loop μ-loop)
     → let begun = c .before .before in
     let shown = begun .before .before in
-    let first = shown .before in
+    let first = shown .before .before in
     let x = first .before .before .before .before .before .before .args in
     let work = take (x .at) (x .work .now) ++ (begun .begin .last .0 ++ drop (x .at + 256 - x .at) (drop (x .at) (x .work .now))) in
     Started (x .operation) (x .table) (listAt (x .sheet .now) (x .left .now) (x .right .now) (x .work .now) (x .a)) always0
     (listAt (x .sheet .now) (x .left .now) (x .right .now) work (x .a)) always0 (x .work .now) (x .at) work
     (first .start .result) standing (begun .begin .result) (shown .first-shown .result .carried) (first .start .result .date)
+unfolding valueAfter
 begins c =
     let begun = c .before .before in
     let shown = begun .before .before in
-    let first = shown .before in
+    let first = shown .before .before in
     let known = first .before .before in
     let s = first .before .before .before .before .before .before in
     let x = s .args in
@@ -72,7 +73,7 @@ begins c =
 
 loop-holds : tie.Need-loop-holds Inv-loop μ-loop
 loop-holds c =
-    let s = c .before .before .before .before .before .before .before .before .before .before .before in
+    let s = c .before .before .before .before .before .before .before .before .before .before .before .before in
     let z = begins c in (refl, (s .pre .0, rw (z .long) (s .pre .1)), z .start)
 
 past-requires : tie.Need-past-requires Inv-loop μ-loop
@@ -84,7 +85,7 @@ date-shown-requires c κs = search needs
 mul-emit : tie.Need-mul-emit Inv-loop μ-loop
 mul-emit c =
     let told = c .before .before .before .before .before .before in
-    let s = told .before .before .before .before .before .before .before .before .before .before .before in
+    let s = told .before .before .before .before .before .before .before .before .before .before .before .before in
     omega (arith, s .pre .1, s .good .1 .1 .1 .1 .1 .0 .1)
 
 sub-emit : tie.Need-sub-emit Inv-loop μ-loop
@@ -110,7 +111,7 @@ loop-less c =
     let at = taken .before .before .loop in
     let here = at .inv in
     let told = taken .before .before .before in
-    let x = told .before .before .before .before .before .before .before .before .before .before .before .args in
+    let x = told .before .before .before .before .before .before .before .before .before .before .before .before .args in
     let still = looping-still _ _ _ _ _ _ _ (here .1 .1) _ _ _ _ _ _ (here .2) (x .sheet .now) (x .left .now) (x .right .now) in
     let first = passed .past .ensures ∙ ap (λ (l : List ℕ). pastOn l (at .x) (at .x .date)) (still (x .a) (here .1 .0)) in
     looping-falls _ _ _ _ _ _ _ (here .1 .1) _ _ _ _ _ _ (here .2) (taken .if1 .taken) _ downAt first
@@ -125,7 +126,7 @@ loop-again c =
     let at = taken .before .before .loop in
     let here = at .inv in
     let told = taken .before .before .before in
-    let x = told .before .before .before .before .before .before .before .before .before .before .before .args in
+    let x = told .before .before .before .before .before .before .before .before .before .before .before .before .args in
     let still = looping-still _ _ _ _ _ _ _ (here .1 .1) _ _ _ _ _ _ (here .2) (x .sheet .now) (x .left .now) (x .right .now) in
     let first = passed .past .ensures ∙ ap (λ (l : List ℕ). pastOn l (at .x) (at .x .date)) (still (x .a) (here .1 .0)) in (
       here .0,
