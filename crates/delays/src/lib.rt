@@ -1,7 +1,7 @@
 // On-delay and off-delay: one engine that follows one level of its input.
 ghost use mathlib.Core.Path.{_≡_};
 ghost use mathlib.Core.Bool.{true};
-ghost use Prim.Native.Nat.{_+_, _/_, _%_, _≤_};
+ghost use Prim.Native.Nat.{_+_, _≤_};
 ghost use lib.ListN.{length, set};
 ghost use Rattle.signals.specs.Signal.{TON, TOF, num};
 ghost use Rattle.signals.specs.Words.{mostWords};
@@ -24,10 +24,9 @@ use sources::Source;
 use timing::Timer;
 
 // The next date to look at: that of the next word or of the pending change.
-fn upcoming(word: u64, timer: Timer) -> Date
-    ensures { λ r. ⌜ r .0 ≡ upcomingDate (word / 4 % 4294967296) timer ⌝ }
+fn upcoming(next: u32, timer: Timer) -> Date
+    ensures { λ r. ⌜ r .0 ≡ upcomingDate next timer ⌝ }
 {
-    let next = (word / 4 % 4294967296) as u32;
     if timer.waiting {
         let due = timer.due;
         if due.0 < next {
@@ -100,22 +99,17 @@ fn run(
     ensures { λ r. ⌜ DelayedIn level (d .0) (listAt (now (sheet .entry)) (now (left .entry)) (now (right .entry)) (now (work .entry)) f)
         (now (work .entry)) at r (now (work .exit)) ⌝ }
 {
-    let first = sources::next_word(sheet, left, right, work, f, 0);
-    let mut held = first % 2 == 1;
-    let mut passed: usize = 1;
-    let mut word = sources::next_word(sheet, left, right, work, f, 1);
-    let mut timer = timing::first(d, level, timing::on_level(level, held));
+    let mut x = sources::start(sheet, left, right, work, f);
+    let mut timer = timing::first(d, level, timing::on_level(level, x.last % 2 == 1));
     let mut made = begin_at(work, at, timing::on_level(level, timer.level));
-    let mut date = later(Date(0), upcoming(word, timer));
+    let mut date = later(Date(0), upcoming(x.date, timer));
     while date.0 < reading::NEVER {
-        let step = sources::pass(word, held, passed, date);
-        let shown = shown_at(level, d, timer, date, step.at, step.after);
-        held = step.after;
-        passed = step.passed;
-        word = sources::next_word(sheet, left, right, work, f, passed);
+        let u = sources::past(sheet, left, right, work, f, x, date);
+        let shown = shown_at(level, d, timer, date, u.step.at, u.step.after);
         made = emit_at(work, at, made, date, shown.at, shown.after);
+        x = u.next;
         timer = shown.timer;
-        date = later(date, upcoming(word, timer));
+        date = later(date, upcoming(x.date, timer));
     }
     made
 }

@@ -24,8 +24,9 @@ use Rattle.sources.specs.declared.Cursor.{Cursor}
 use Rattle.sources.specs.declared.Passed.{Passed}
 use Rattle.sources.specs.declared.Source.{Source}
 use Rattle.sources.proofs.Going.{On, past-kept}
+use Rattle.sources.proofs.Readers.{Reading, reads-start, start-passed}
 use Rattle.merging.specs.Merging.{always0, BuiltAlone, MayBegin, mayBegin, AloneAt}
-use Rattle.merging.proofs.MergeLoop.{Reading, reads-start, reads-source, start-passed, Started, begun-there, same}
+use Rattle.merging.proofs.MergeLoop.{reads-source, Started, begun-there, same}
 
 -- the reader of the list that is always down, and what it finds at each date
 abbrev pub standing : Cursor

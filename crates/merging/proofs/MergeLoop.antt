@@ -26,7 +26,7 @@ use Rattle.sources.specs.declared.Passed.{Passed}
 use Rattle.sources.specs.declared.Source.{Source}
 use Rattle.sources.proofs.Sourcing.{slot-kept, slot-long, slot-back, slot-again, part-back, with-slot-long}
 use Rattle.sources.proofs.Sourcing.{list-short, words-at, apart-kept}
-use Rattle.sources.proofs.Going.{On, on-start, on-date, on-held, on-step, on-next}
+use Rattle.sources.proofs.Readers.{Reading, reads-start, reads-date, reads-held, reads-step, reads-passed, reads-on, start-passed}
 use Rattle.merging.specs.Merging.{State, dateAhead, begunIn, pastDate, Merges, turn, done, BuiltFrom, MayMerge}
 use Rattle.merging.proofs.MergeTurn.{passed-keeps, passed-next, left-or-none, next-none}
 
@@ -71,43 +71,6 @@ begun-is : (o : Operation) (table : Table) (l m slot : List ℕ) (p q : Bool) �
     → now ≡ part → reached now made (first .carried) 1 1 ≡ begunIn o table l m slot
 unfolding begunIn
 begun-is o table l m slot p q ep eq first ef made part now eb en = rw (en, eb .0, eb .1, ef, ep, eq)
-
-on-passed : (l : List ℕ) (c : Cursor) (i : ℕ) → On l c i → c .passed ≡ i
-unfolding cursorAt
-on-passed l c i o = rw (o .is)
-
-pub start-passed : (l : List ℕ) (c : Cursor) → c ≡ startOf l → c .passed ≡ 1
-start-passed l c e = on-passed l c 1 (on-start l c e)
-
--- a reader of a list of words below 2^32, past its first word and past a date
-pub record Reading (l : List ℕ) (x : Cursor) : Type 0 where
-  pub small : Words l
-  pub short : length l < 4294967296
-  pub on : On l x (x .passed)
-
-pub reads-start : (l : List ℕ) → Words l → length l < 4294967296 → (x : Cursor) → x ≡ startOf l → Reading l x
-reads-start l small short x e =
-    record { small = small; short = short; on = subst (λ (i : ℕ). On l x i) (sym (start-passed l x e)) (on-start l x e) }
-
-module _ (l : List ℕ) (x : Cursor) (g : Reading l x) where
-  pub reads-date : x .date ≡ nextDate l (x .passed)
-  reads-date = on-date l (g .small) (g .short) x (x .passed) (g .on)
-
-  pub reads-held : valueAfter (x .last) ≡ heldValue l (x .passed)
-  reads-held = on-held l (g .small) (g .short) x (x .passed) (g .on)
-
-  module _ (d : ℕ) (early : d < NEVER) (u : Passed) (e : u ≡ pastOn l x d) where
-    pub reads-step : u .step ≡ stepPast l (x .passed) d
-    reads-step = on-step l (g .small) (g .short) x (x .passed) (g .on) d early u e
-
-    goes : On l (u .next) (u .step .passed)
-    goes = on-next l (g .small) (g .short) x (x .passed) (g .on) d early u e
-
-    pub reads-passed : u .next .passed ≡ u .step .passed
-    reads-passed = on-passed l (u .next) (u .step .passed) goes
-
-    pub reads-on : Reading l (u .next)
-    reads-on = record { small = g .small; short = g .short; on = subst (λ (i : ℕ). On l (u .next) i) (sym reads-passed) goes }
 
 module _ (o : Operation) (table : Table) (l m : List ℕ) (work : List ℕ) (at : ℕ) (start : State) where
   pub record Looping (now : List ℕ) (x y : Cursor) (made : Made) (bit : Bool) (date : ℕ) : Type 0 where

@@ -2,4 +2,5 @@
 pub mod SourceWords
 pub mod Sourcing
 pub mod Going
+pub mod Readers
 mod Lengths

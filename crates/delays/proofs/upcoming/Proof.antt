@@ -5,9 +5,6 @@ use borrow.Author.Needs.{needs}
 use Rattle.delays.proofs.upcoming.Statement.{statement}
 use Rattle.delays.proofs.upcoming.Tie as tie
 
-cast-next : tie.Need-cast-next
-cast-next c = search needs
-
 returns : tie.Need-returns
 returns c = sym (upcoming-due _ _ (c .before .before .before .if1 .taken) (c .if2 .taken))
 
@@ -18,4 +15,4 @@ returns-3 : tie.Need-returns-3
 returns-3 c = sym (upcoming-none _ _ (c .if1 .left))
 
 pub upcoming-spec : {M : Type 1} → statement M
-upcoming-spec = tie.close (tie.spec cast-next returns returns-2 returns-3)
+upcoming-spec = tie.close (tie.spec returns returns-2 returns-3)

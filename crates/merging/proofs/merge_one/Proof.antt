@@ -7,8 +7,9 @@ use mathlib.Core.List.{List, _++_}
 use lib.ListN.{length, take, drop}
 use Rattle.signals.specs.Words.{mostWords, valueAfter}
 use Rattle.sources.specs.Sources.{listAt, pastOn, slotIn}
+use Rattle.sources.proofs.Readers.{reads-on}
 use Rattle.merging.specs.Merging.{MayBegin, always0}
-use Rattle.merging.proofs.MergeLoop.{Looping, reached, Started, reads-on}
+use Rattle.merging.proofs.MergeLoop.{Looping, reached, Started}
 use Rattle.merging.proofs.MergeLoop.{looping-turn, looping-falls, looping-end, looping-long, looping-still}
 use Rattle.merging.proofs.AloneLoop.{standing, downAt, down-is, own-date, started-alone}
 use Rattle.merging.proofs.merge_one.Statement.{statement}
