@@ -17,6 +17,7 @@ use reading::Step;
 use showing::Operation;
 use signals::Date;
 use signals::Written;
+use sources::Cursor;
 use sources::Memory;
 use sources::Source;
 
@@ -28,7 +29,7 @@ fn earlier(x: u32, y: u32) -> u32
 }
 
 // The merge of two lists, built in the slot from a place of the work area on: date by date, what the operation makes of both. The next
-// words are read before the answer's is stored.
+// words are read before the answer's is stored. A reader goes on field by field, so that its padding is not copied each turn.
 fn merge(
     operation: Operation,
     table: [[bool; 2]; 2],
@@ -59,8 +60,18 @@ fn merge(
         let shown = showing::date_shown(operation, table, carried, u.step, v.step);
         made = building::emit(&mut work[at..end], made, on, shown.at, shown.after);
         carried = shown.carried;
-        x = u.next;
-        y = v.next;
+        x = Cursor {
+            word: u.next.word,
+            date: u.next.date,
+            held: u.next.held,
+            passed: u.next.passed,
+        };
+        y = Cursor {
+            word: v.next.word,
+            date: v.next.date,
+            held: v.next.held,
+            passed: v.next.passed,
+        };
         date = earlier(x.date, y.date);
     }
     made
@@ -95,8 +106,18 @@ fn join(
         let value = showing::cell_of(table, u.step.at, v.step.at);
         let after = showing::cell_of(table, u.step.after, v.step.after);
         made = building::emit(&mut work[at..end], made, on, value, after);
-        x = u.next;
-        y = v.next;
+        x = Cursor {
+            word: u.next.word,
+            date: u.next.date,
+            held: u.next.held,
+            passed: u.next.passed,
+        };
+        y = Cursor {
+            word: v.next.word,
+            date: v.next.date,
+            held: v.next.held,
+            passed: v.next.passed,
+        };
         date = earlier(x.date, y.date);
     }
     made
@@ -187,7 +208,12 @@ fn merge_one(
         let shown = showing::date_shown(operation, table, carried, u.step, down);
         made = building::emit(&mut work[at..end], made, on, shown.at, shown.after);
         carried = shown.carried;
-        x = u.next;
+        x = Cursor {
+            word: u.next.word,
+            date: u.next.date,
+            held: u.next.held,
+            passed: u.next.passed,
+        };
     }
     made
 }
