@@ -5,3 +5,4 @@ pub mod AloneLoop
 pub mod MergedExact
 pub mod MergedCalls
 pub mod OneOperand
+pub mod Turned

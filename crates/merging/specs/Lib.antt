@@ -1,2 +1,3 @@
 -- The merge of two lists for every input: definitions that mirror the code.
 pub mod Merging
+pub mod Turning

@@ -1,12 +1,14 @@
 // The merge of two lists, and what it makes: NOT, connectives, edges and latches.
 ghost use mathlib.Core.Path.{_≡_};
-ghost use Prim.Native.Nat.{min};
-ghost use lib.ListN.{length};
+ghost use Prim.Native.Nat.{min, _≤_};
+ghost use mathlib.Core.List.{_++_};
+ghost use lib.ListN.{length, drop, getD};
 ghost use Rattle.signals.specs.Signal.{NOT, connective, rising, falling, SR, RS};
 ghost use Rattle.operations.specs.Calls.{CallOfOne, CallOfTwo};
 ghost use Rattle.showing.specs.Showing.{merged};
 ghost use Rattle.showing.specs.declared.Operation.the-variants.{Connective};
 ghost use Rattle.merging.specs.Merging.{MayMerge, BuiltAt, MergedAt, MayBegin, BuiltAlone, AloneAt, always0};
+ghost use Rattle.merging.specs.Turning.{turnedList};
 use building::Made;
 use building::SlotAnswer;
 use building::WORDS;
@@ -15,6 +17,7 @@ use reading::Step;
 use showing::Operation;
 use signals::Date;
 use signals::Written;
+use sources::Cursor;
 use sources::Memory;
 use sources::Source;
 
@@ -26,7 +29,7 @@ fn earlier(x: u32, y: u32) -> u32
 }
 
 // The merge of two lists, built in the slot from a place of the work area on: date by date, what the operation makes of both. The next
-// words are read before the answer's is stored.
+// words are read before the answer's is stored. A reader goes on field by field, so that its padding is not copied each turn.
 fn merge(
     operation: Operation,
     table: [[bool; 2]; 2],
@@ -57,8 +60,18 @@ fn merge(
         let shown = showing::date_shown(operation, table, carried, u.step, v.step);
         made = building::emit(&mut work[at..end], made, on, shown.at, shown.after);
         carried = shown.carried;
-        x = u.next;
-        y = v.next;
+        x = Cursor {
+            word: u.next.word,
+            date: u.next.date,
+            held: u.next.held,
+            passed: u.next.passed,
+        };
+        y = Cursor {
+            word: v.next.word,
+            date: v.next.date,
+            held: v.next.held,
+            passed: v.next.passed,
+        };
         date = earlier(x.date, y.date);
     }
     made
@@ -93,8 +106,18 @@ fn join(
         let value = showing::cell_of(table, u.step.at, v.step.at);
         let after = showing::cell_of(table, u.step.after, v.step.after);
         made = building::emit(&mut work[at..end], made, on, value, after);
-        x = u.next;
-        y = v.next;
+        x = Cursor {
+            word: u.next.word,
+            date: u.next.date,
+            held: u.next.held,
+            passed: u.next.passed,
+        };
+        y = Cursor {
+            word: v.next.word,
+            date: v.next.date,
+            held: v.next.held,
+            passed: v.next.passed,
+        };
         date = earlier(x.date, y.date);
     }
     made
@@ -185,7 +208,12 @@ fn merge_one(
         let shown = showing::date_shown(operation, table, carried, u.step, down);
         made = building::emit(&mut work[at..end], made, on, shown.at, shown.after);
         carried = shown.carried;
-        x = u.next;
+        x = Cursor {
+            word: u.next.word,
+            date: u.next.date,
+            held: u.next.held,
+            passed: u.next.passed,
+        };
     }
     made
 }
@@ -274,14 +302,37 @@ fn operate(
     building::deliver(&slot, made, out)
 }
 
-// The first operand inverted, whatever the second.
-const INVERT: [[bool; 2]; 2] = [[true, true], [false, false]];
+// The table given where the operation reads none.
+const UNREAD: [[bool; 2]; 2] = [[true, true], [false, false]];
+
+// A list with each value turned, at the front of the output.
+fn turn_words(words: &[u32], out: &mut [u32])
+    requires { ⌜ (1 ≤ length (now words)) × (getD (now words) 0 0 ≤ 1) × (length (now words) ≤ length (now out)) ⌝ }
+    ensures { λ r.
+        ⌜ now (out .exit) ≡ turnedList (now (words .entry)) ++ drop (length (now (words .entry))) (now (out .entry)) ⌝ }
+{
+    out[0] = 1 - words[0];
+    let mut i: usize = 1;
+    while i < words.len() {
+        let word = words[i];
+        out[i] = 4 * (word / 4) + (3 - word % 4);
+        i += 1;
+    }
+}
 
 // NOT: faults list, 7.
 pub fn not(a: &[u32], out: &mut [u32]) -> Written
     ensures { λ r. ⌜ CallOfOne NOT (now (a .entry)) (now (out .entry)) r (now (out .exit)) ⌝ }
 {
-    operate_one(Operation::Connective, INVERT, a, out)
+    let fault = lists::list_fault(a);
+    if fault != 0 {
+        return Written::Refused(fault);
+    }
+    if out.len() < a.len() {
+        return Written::Refused(7);
+    }
+    turn_words(a, out);
+    Written::Count(a.len())
 }
 
 // A connective by its table, row by the first operand, column by the second: faults list, list, 5, 7.
@@ -295,26 +346,26 @@ pub fn connective(table: [[bool; 2]; 2], a: &[u32], b: &[u32], out: &mut [u32]) 
 pub fn rising(a: &[u32], out: &mut [u32]) -> Written
     ensures { λ r. ⌜ CallOfOne rising (now (a .entry)) (now (out .entry)) r (now (out .exit)) ⌝ }
 {
-    operate_one(Operation::Rising, INVERT, a, out)
+    operate_one(Operation::Rising, UNREAD, a, out)
 }
 
 // Falling edges: faults list, 7.
 pub fn falling(a: &[u32], out: &mut [u32]) -> Written
     ensures { λ r. ⌜ CallOfOne falling (now (a .entry)) (now (out .entry)) r (now (out .exit)) ⌝ }
 {
-    operate_one(Operation::Falling, INVERT, a, out)
+    operate_one(Operation::Falling, UNREAD, a, out)
 }
 
 // The latch in which set wins: faults list, list, 5, 7.
 pub fn sr(s: &[u32], r: &[u32], out: &mut [u32]) -> Written
     ensures { λ v. ⌜ CallOfTwo SR (now (s .entry)) (now (r .entry)) (now (out .entry)) v (now (out .exit)) ⌝ }
 {
-    operate(Operation::SetWins, INVERT, s, r, out)
+    operate(Operation::SetWins, UNREAD, s, r, out)
 }
 
 // The latch in which reset wins: faults list, list, 5, 7.
 pub fn rs(s: &[u32], r: &[u32], out: &mut [u32]) -> Written
     ensures { λ v. ⌜ CallOfTwo RS (now (s .entry)) (now (r .entry)) (now (out .entry)) v (now (out .exit)) ⌝ }
 {
-    operate(Operation::ResetWins, INVERT, s, r, out)
+    operate(Operation::ResetWins, UNREAD, s, r, out)
 }

@@ -1,19 +1,42 @@
--- `merging::not` is the connective that inverts its first operand.
-use Rattle.merging.proofs.OneOperand.{call-of-one, inverted}
+-- `merging::not` turns each value of an accepted list.
+use mathlib.Core.Path.{sym, _∙_}
+use Rattle.operations.specs.Calls.{faultOfOne}
+use Rattle.operations.proofs.JudgedCalls.{refused}
+use Rattle.merging.proofs.Turned.{first-is, turned-short, turned-written}
 use borrow.Author.Needs.{needs}
 use Rattle.merging.proofs.not.Statement.{statement}
 use Rattle.merging.proofs.not.Tie as tie
 
-operate-one-requires : tie.Need-operate-one-requires
-operate-one-requires c κs = search needs
+list-fault-requires : tie.Need-list-fault-requires
+list-fault-requires c κs = search needs
+
+returns : tie.Need-returns
+unfolding faultOfOne
+returns c = refused _ _ _ _ _ (c .before .list-fault .ensures) (c .if1 .taken)
+
+returns-2 : tie.Need-returns-2
+returns-2 c =
+    let judged = c .before in
+    let x = judged .before .before .before .before .args in
+    turned-short (x .a .now) (sym (judged .before .list-fault .ensures) ∙ judged .if1 .left)
+    (λ i. judged .before .before .before .shared-slice-known .given i .fits) (x .out .now) (c .if2 .taken)
+
+turn-words-requires : tie.Need-turn-words-requires
+turn-words-requires c κs =
+    let judged = c .before .before in
+    let first = first-is _ (sym (judged .before .list-fault .ensures) ∙ judged .if1 .left) in (first .0, first .1, c .before .if2 .left)
 
 same-length : tie.Need-same-length
 same-length c = search needs
 
-returns : tie.Need-returns
-returns c =
-    call-of-one _ _ inverted _ (c .before .before .before .before .before .before .args .out .now) _ _
-    (c .before .before .operate-one .ensures)
+returns-3 : tie.Need-returns-3
+returns-3 c =
+    let fits = c .before .before .before .before in
+    let judged = fits .before in
+    let x = judged .before .before .before .before .args in
+    turned-written (x .a .now) (sym (judged .before .list-fault .ensures) ∙ judged .if1 .left)
+    (λ i. judged .before .before .before .shared-slice-known .given i .fits) (x .out .now) _ (fits .if2 .left)
+    (c .before .before .turn-words .ensures)
 
 pub not-spec : {M : Type 1} → statement M
-not-spec = tie.close (tie.spec operate-one-requires same-length returns)
+not-spec = tie.close (tie.spec list-fault-requires returns returns-2 turn-words-requires same-length returns-3)
