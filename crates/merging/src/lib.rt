@@ -17,7 +17,6 @@ use reading::Step;
 use showing::Operation;
 use signals::Date;
 use signals::Written;
-use sources::Cursor;
 use sources::Memory;
 use sources::Source;
 
@@ -29,7 +28,7 @@ fn earlier(x: u32, y: u32) -> u32
 }
 
 // The merge of two lists, built in the slot from a place of the work area on: date by date, what the operation makes of both. The next
-// words are read before the answer's is stored. A reader goes on field by field, so that its padding is not copied each turn.
+// words are read before the answer's is stored.
 fn merge(
     operation: Operation,
     table: [[bool; 2]; 2],
@@ -60,18 +59,8 @@ fn merge(
         let shown = showing::date_shown(operation, table, carried, u.step, v.step);
         made = building::emit(&mut work[at..end], made, on, shown.at, shown.after);
         carried = shown.carried;
-        x = Cursor {
-            word: u.next.word,
-            date: u.next.date,
-            held: u.next.held,
-            passed: u.next.passed,
-        };
-        y = Cursor {
-            word: v.next.word,
-            date: v.next.date,
-            held: v.next.held,
-            passed: v.next.passed,
-        };
+        x = u.next;
+        y = v.next;
         date = earlier(x.date, y.date);
     }
     made
@@ -106,18 +95,8 @@ fn join(
         let value = showing::cell_of(table, u.step.at, v.step.at);
         let after = showing::cell_of(table, u.step.after, v.step.after);
         made = building::emit(&mut work[at..end], made, on, value, after);
-        x = Cursor {
-            word: u.next.word,
-            date: u.next.date,
-            held: u.next.held,
-            passed: u.next.passed,
-        };
-        y = Cursor {
-            word: v.next.word,
-            date: v.next.date,
-            held: v.next.held,
-            passed: v.next.passed,
-        };
+        x = u.next;
+        y = v.next;
         date = earlier(x.date, y.date);
     }
     made
@@ -208,12 +187,7 @@ fn merge_one(
         let shown = showing::date_shown(operation, table, carried, u.step, down);
         made = building::emit(&mut work[at..end], made, on, shown.at, shown.after);
         carried = shown.carried;
-        x = Cursor {
-            word: u.next.word,
-            date: u.next.date,
-            held: u.next.held,
-            passed: u.next.passed,
-        };
+        x = u.next;
     }
     made
 }

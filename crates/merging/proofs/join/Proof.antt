@@ -130,7 +130,7 @@ earlier-requires-2 c κs = search needs
 
 loop-less : tie.Need-loop-less Inv-loop μ-loop
 loop-less c =
-    let emitted = c .before .before .before in
+    let emitted = c .before .before .before .before .before in
     let shown = emitted .before .before in
     let other = shown .before .before in
     let passed = other .before .before in
@@ -146,7 +146,7 @@ loop-less c =
 
 loop-again : tie.Need-loop-again Inv-loop μ-loop
 loop-again c =
-    let emitted = c .before .before .before in
+    let emitted = c .before .before .before .before .before in
     let shown = emitted .before .before in
     let other = shown .before .before in
     let passed = other .before .before in

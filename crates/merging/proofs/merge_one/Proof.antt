@@ -105,7 +105,7 @@ emit-requires c κs = search needs
 
 loop-less : tie.Need-loop-less Inv-loop μ-loop
 loop-less c =
-    let emitted = c .before .before in
+    let emitted = c .before .before .before in
     let shown = emitted .before .before in
     let passed = shown .before in
     let taken = passed .before .before in
@@ -120,7 +120,7 @@ loop-less c =
 
 loop-again : tie.Need-loop-again Inv-loop μ-loop
 loop-again c =
-    let emitted = c .before .before in
+    let emitted = c .before .before .before in
     let shown = emitted .before .before in
     let passed = shown .before in
     let taken = passed .before .before in
