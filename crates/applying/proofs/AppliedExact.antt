@@ -16,7 +16,7 @@ use Rattle.signals.specs.declared.Written.the-variants.{Count, Refused}
 use Rattle.signals.proofs.FirstFault.{both-none}
 use Rattle.slices.specs.Bytes.{Words}
 use Rattle.operations.specs.Calls.{lengthFault, partFault, changesAfterM, exactOfTwo, exactOfDelay}
-use Rattle.building.specs.Building.{Built}
+use Rattle.building.proofs.Built.{Built}
 use Rattle.building.specs.Slots.{madeAnswer}
 use Rattle.building.specs.declared.Made.{Made}
 use Rattle.building.proofs.BuildingLaws.{slot-short}

@@ -15,7 +15,8 @@ use Rattle.signals.specs.declared.Written.the-variants.{Count, Refused}
 use Rattle.signals.proofs.FirstFault.{both-none}
 use Rattle.operations.proofs.CallFaults.{part-none}
 use Rattle.operations.specs.Calls.{partFault, roomFault, answerFault, changesAfterM}
-use Rattle.building.specs.Building.{Built, HandsOver, madeFault, Delivers}
+use Rattle.building.specs.Building.{HandsOver, madeFault, Delivers}
+use Rattle.building.proofs.Built.{Built}
 use Rattle.building.specs.declared.Made.{Made}
 use Rattle.building.proofs.BuildingLaws.{slot-short}
 use Rattle.signals.specs.Words.{mostWords}

@@ -11,7 +11,8 @@ use Rattle.signals.specs.Moment.{M, gap, instant}
 use Rattle.signals.specs.Signal.{Signal, num}
 use Rattle.signals.specs.Words.{wordsOf, listOf, word, dateOf}
 use Rattle.signals.proofs.Scan.{Held, scan-to, scan-settled}
-use Rattle.building.specs.Building.{idle, oneMore, lateWith, emitted, emittedIn, begun, Built, slotWith, fitting, upToM}
+use Rattle.building.specs.Building.{idle, oneMore, lateWith, emitted, emittedIn, begun, slotWith, fitting, upToM}
+use Rattle.building.proofs.Built.{Built}
 use Rattle.building.specs.declared.Made.{Made}
 use Rattle.building.proofs.BuildingLaws.{Building, building-begin, Advanced, advance}
 
@@ -92,14 +93,3 @@ module _ (F : Signal) (n : ℕ) (old : List ℕ) where
 
       all : take (made .count) (listOf F n) ≡ listOf F n
       all = take-all (made .count) (listOf F n) (omega (arith, whole))
-
--- what stood in the first place of the slot does not matter
-pub built-over : (F : Signal) (n : ℕ) (old slot : List ℕ) (made : Made) (x : ℕ) → Built (listOf F n) (set old 0 x) slot made
-    → Built (listOf F n) old slot made
-unfolding listOf slotWith fitting upToM dateOf
-built-over F n old slot made x b = record { count-is = b .count-is; late-is = b .late-is; slot-is = b .slot-is ∙ over old (F 0) }
-  where
-    over : (old : List ℕ) (v : Bool) → slotWith (num v ∷ wordsOf F 0 n) (set old 0 x) ≡ slotWith (num v ∷ wordsOf F 0 n) old
-    over [] v = refl
-    over (y ∷ old) true = refl
-    over (y ∷ old) false = refl

@@ -63,12 +63,6 @@ fitting n l = take n (upToM l)
 unfoldable pub slotWith : List ℕ → List ℕ → List ℕ
 slotWith l old = fitting (length old) l ++ drop (length (fitting (length old) l)) old
 
--- the whole of the answer `exact` is in the slot, which held `old`
-pub record Built (exact old slot : List ℕ) (made : Made) : Type 0 where
-  pub count-is : made .count ≡ length exact
-  pub late-is : made .late ≡ changesAfterM exact
-  pub slot-is : slot ≡ slotWith exact old
-
 -- a list handed to an output: 7 where that is shorter, which then stays as it was
 abbrev pub HandsOver : List ℕ → List ℕ → Written → List ℕ → Type 0
 HandsOver words out answer after =

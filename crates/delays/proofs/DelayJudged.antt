@@ -53,10 +53,6 @@ module _ (d : ℕ) (f : Source) (at room : ℕ) where
         and-right (leb (at + mostWords) room) (apartFrom f at mostWords) fits,
       )
 
-  pub may-delay : d ≤ M → at + mostWords ≤ room → apartFrom f at mostWords ≡ true → mayDelay d f at room ≡ true
-  unfolding mayDelay
-  may-delay h r e = rw (le-leb d M h, le-leb (at + mostWords) room r, e)
-
   module _ (h : d ≤ M) where
     pub no-room : room < at + mostWords → false ≡ mayDelay d f at room
     unfolding mayDelay

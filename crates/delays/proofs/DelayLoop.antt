@@ -18,7 +18,8 @@ use Rattle.signals.proofs.Normal.{accepted-start, accepted-settled}
 use Rattle.reading.specs.Reading.{NEVER, nextDate, stepPast}
 use Rattle.reading.specs.declared.Step.{Step}
 use Rattle.operations.specs.Calls.{exactOfDelay}
-use Rattle.building.specs.Building.{emitted, emittedIn, begun, Built}
+use Rattle.building.specs.Building.{emitted, emittedIn, begun}
+use Rattle.building.proofs.Built.{Built}
 use Rattle.timing.specs.Delay.{timerNext, firstTimer, onLevel, levelOf, delayed, delayOf}
 use Rattle.delays.specs.Upcoming.{upcomingDate}
 use Rattle.building.specs.declared.Made.{Made}

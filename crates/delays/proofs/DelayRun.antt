@@ -180,7 +180,8 @@ module _ (level : Bool) (d : ℕ) (sheet left right old : List ℕ) (f : Source)
       unfolding firstState
       start-is =
           by-timer
-          ∙ ap (stateWith level list (slotIn old at mostWords)) (e3 ∙ ap (firstTimer level d) (e2 ∙ ap (onLevel level) (reads-held list x on ∙ ap (heldValue list) one)))
+          ∙ ap (stateWith level list (slotIn old at mostWords)) (e3 ∙ ap (firstTimer level d) (e2 ∙ ap (onLevel level)
+          (reads-held list x on ∙ ap (heldValue list) one)))
 
       pub started : Started level d sheet left right old f at work x timer made date
       started =

@@ -12,7 +12,8 @@ use Rattle.signals.specs.Words.{mostWords, listFault}
 use Rattle.operations.specs.Calls.{exactOfDelay}
 use Rattle.operations.proofs.NeverMet.{last-32}
 use Rattle.reading.specs.Reading.{NEVER}
-use Rattle.building.specs.Building.{Built, slotWith}
+use Rattle.building.specs.Building.{slotWith}
+use Rattle.building.proofs.Built.{Built}
 use Rattle.building.specs.Slots.{builtAnswer}
 use Rattle.building.specs.declared.Made.{Made}
 use Rattle.building.specs.declared.SlotAnswer.{SlotAnswer}
@@ -77,21 +78,3 @@ delayed-whole level d l work made after long accepted short small r =
     let none : r .last .slot ++ drop mostWords work ≡ r .last .slot =
     ap (λ (rest : List ℕ). r .last .slot ++ rest) (drop-of-length-le work {i = mostWords} (omega arith)) ∙ append-nil (r .last .slot) in
     rw (r .work-is ∙ none) (rw all at (delayed-in level d l work 0 made after accepted short small r))
-
--- What a delay in a slot of the work area gives where its operand is an accepted list: the exact answer, judged.
-module _ (level : Bool) (d : ℕ) (sheet left right work : List ℕ) (f : Source) (at : ℕ) where
-  abbrev exact : List ℕ
-  exact = exactOfDelay (delayOf level d) d (listAt sheet left right work f)
-
-  pub delayed-at : (answer : SlotAnswer) (after : List ℕ) → DelayedAt level d sheet left right work f at answer after
-      → mayDelay d f at (length work) ≡ true → Bytes sheet → Words left → Words right → Words work
-      → listFault (listAt sheet left right work f) ≡ 0
-      → (answer ≡ builtAnswer exact) × (after ≡ withSlot work at mostWords (slotWith exact (slotIn work at mostWords)))
-  delayed-at answer after c may s l r w accepted =
-      let z = c .built may in
-      let b =
-      delayed-in level d (listAt sheet left right work f) work at (z .0) after accepted (may-all d f at (length work) may .0)
-      (words-at sheet left right work f s l r w) (z .1) in (
-        z .2 ∙ built-answer exact (slotIn work at mostWords) (z .1 .last .slot) (z .0) b,
-        z .1 .work-is ∙ ap (λ (slot : List ℕ). withSlot work at mostWords slot) (b .slot-is),
-      )

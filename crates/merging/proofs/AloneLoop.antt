@@ -60,7 +60,8 @@ own-date l x g = let h = date-below l x (x .passed) (g .on) in omega arith
 
 pub started-alone : (o : Operation) (table : Table) (sheet left right entry : List ℕ) (a : Source) (at : ℕ) → MayBegin a at (length entry)
     → Bytes sheet → Words left → Words right → Words entry → a .count < 4294967296
-    → (x : Cursor) → x ≡ startOf (listAt sheet left right entry a) → (first : Shown) → first ≡ firstShown o table (valueAfter (x .last)) false
+    → (x : Cursor) → x ≡ startOf (listAt sheet left right entry a) → (first : Shown) → first ≡ firstShown o table (valueAfter
+    (x .last)) false
     → (k : ℕ) → k ≡ mostWords → (made : Made) (part : List ℕ) → Begins (first .after) (take k (drop at entry)) made part
     → length part ≡ length (take k (drop at entry))
     → let work = take at entry ++ (part ++ drop k (drop at entry)) in

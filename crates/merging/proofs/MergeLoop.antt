@@ -174,7 +174,8 @@ module _ (o : Operation) (table : Table) (entry : List ℕ) (at : ℕ) (room : a
   same sheet left right a apart = rw put (apart-kept entry at mostWords room part full sheet left right a apart)
 
   module _ (l m l′ m′ : List ℕ) (el : l′ ≡ l) (em : m′ ≡ m) (x y : Cursor) (gx : Reading l x) (gy : Reading m y)
-      (one : x .passed ≡ 1) (other : y .passed ≡ 1) (first : Shown) (ef : first ≡ firstShown o table (valueAfter (x .last)) (valueAfter (y .last)))
+      (one : x .passed ≡ 1) (other : y .passed ≡ 1) (first : Shown) (ef : first ≡ firstShown o table (valueAfter (x .last)) (valueAfter
+      (y .last)))
       (made : Made) (eb : Begins (first .after) (take k (drop at entry)) made part) (date : ℕ) (ed : date ≡ min (x .date) (y .date)) where
     pub begun-there : Started o table l m l′ m′ entry at (take at entry ++ (part ++ drop k (drop at entry))) x y made (first .carried) date
     begun-there =

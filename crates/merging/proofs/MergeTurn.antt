@@ -17,7 +17,8 @@ use Rattle.signals.proofs.Normal.{accepted-start, accepted-normal, last-le}
 use Rattle.signals.proofs.WordFacts.{date-bounds}
 use Rattle.signals.proofs.Operand.{words-rise}
 use Rattle.reading.specs.Reading.{nextDate, NEVER}
-use Rattle.building.specs.Building.{emitted, emittedIn, begun, Built}
+use Rattle.building.specs.Building.{emitted, emittedIn, begun}
+use Rattle.building.proofs.Built.{Built}
 use Rattle.showing.specs.Showing.{merged, bitOf, firstShown, dateShown}
 use Rattle.building.specs.declared.Made.{Made}
 use Rattle.showing.specs.declared.Operation.{Operation}

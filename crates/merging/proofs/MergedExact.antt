@@ -14,7 +14,8 @@ use Rattle.signals.specs.Words.{mostWords, listFault, wordsFault, lastDate, sig
 use Rattle.reading.specs.Reading.{NEVER, nextDate}
 use Rattle.operations.specs.Calls.{exactOfTwo}
 use Rattle.operations.proofs.NeverMet.{last-32}
-use Rattle.building.specs.Building.{Built, slotWith}
+use Rattle.building.specs.Building.{slotWith}
+use Rattle.building.proofs.Built.{Built}
 use Rattle.building.specs.Slots.{builtAnswer}
 use Rattle.building.specs.declared.Made.{Made}
 use Rattle.building.specs.declared.SlotAnswer.{SlotAnswer}
@@ -90,26 +91,6 @@ down-small : Words always0
 down-small zero = omega arith
 down-small (suc i) = omega arith
 
--- so the call on two accepted lists gives the exact answer
-module _ (o : Operation) (table : Table) (sheet left right work : List ℕ) (a b : Source) (at : ℕ) where
-  abbrev exact : List ℕ
-  exact = exactOfTwo (merged o table) (listAt sheet left right work a) (listAt sheet left right work b)
-
-  pub merged-at : (answer : SlotAnswer) (after : List ℕ) → MergedAt o table sheet left right work a b at answer after
-      → mayMerge a b at (length work) ≡ true → Bytes sheet → Words left → Words right → Words work
-      → listFault (listAt sheet left right work a) ≡ 0 → listFault (listAt sheet left right work b) ≡ 0
-      → (answer ≡ builtAnswer exact) × (after ≡ withSlot work at mostWords (slotWith exact (slotIn work at mostWords)))
-  merged-at answer after c may s l r w ha hb =
-      let z = c .built may in
-      let made = z .0 in
-      let built =
-      merged-exact o table (listAt sheet left right work a) (listAt sheet left right work b) ha hb
-      (words-at sheet left right work a s l r w) (words-at sheet left right work b s l r w) (slotIn work at mostWords) (z .1 .0) made
-      (z .1 .1) in (
-        z .2 ∙ built-answer exact (slotIn work at mostWords) (z .1 .0) made built,
-        z .1 .2 ∙ ap (λ (slot : List ℕ). withSlot work at mostWords slot) (built .slot-is),
-      )
-
 -- two whole slices, in a slot of their own
 pub merged-slices : (o : Operation) (table : Table) (sheet a b slot : List ℕ) (made : Made) (after : List ℕ)
     → BuiltAt o table sheet a b slot (record { memory = Left; at = 0; count = length a })
@@ -127,24 +108,6 @@ merged-slices o table sheet a b slot made after (end, w, e) long ha hb wa wb =
     only = ap (λ (l : List ℕ). end ++ l) (drop-of-length-le slot {i = mostWords} (omega arith)) ∙ append-nil end
 
 -- one list with the list that is always down
-module _ (o : Operation) (table : Table) (sheet left right work : List ℕ) (a : Source) (at : ℕ) where
-  abbrev exactAlone : List ℕ
-  exactAlone = exactOfTwo (merged o table) (listAt sheet left right work a) always0
-
-  pub alone-exact : (answer : SlotAnswer) (after : List ℕ) → AloneAt o table sheet left right work a at answer after
-      → mayBegin a at (length work) ≡ true → Bytes sheet → Words left → Words right → Words work
-      → listFault (listAt sheet left right work a) ≡ 0
-      → (answer ≡ builtAnswer exactAlone) × (after ≡ withSlot work at mostWords (slotWith exactAlone (slotIn work at mostWords)))
-  alone-exact answer after c may s l r w ha =
-      let z = c .built may in
-      let made = z .0 in
-      let built =
-      merged-exact o table (listAt sheet left right work a) always0 ha down-accepted (words-at sheet left right work a s l r w) down-small
-      (slotIn work at mostWords) (z .1 .0) made (z .1 .1) in (
-        z .2 ∙ built-answer exactAlone (slotIn work at mostWords) (z .1 .0) made built,
-        z .1 .2 ∙ ap (λ (slot : List ℕ). withSlot work at mostWords slot) (built .slot-is),
-      )
-
 pub alone-slice : (o : Operation) (table : Table) (sheet right a slot : List ℕ) (made : Made) (after : List ℕ)
     → BuiltAlone o table sheet a right slot (record { memory = Left; at = 0; count = length a }) 0 made after
     → length slot ≡ mostWords → listFault a ≡ 0 → Words a → Built (exactOfTwo (merged o table) a always0) slot after made

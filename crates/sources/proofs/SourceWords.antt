@@ -4,7 +4,7 @@ use native.Mathlib.Omega.{arith}
 use mathlib.Core.Path.{_≡_, refl, sym, _∙_, ap}
 use mathlib.Core.Bool.{Bool, true, false, cond}
 use mathlib.Core.List.{List}
-use lib.Dec.{leb, ltb}
+use lib.Dec.{leb, ltb, eqb}
 use lib.ListN.{length, take, drop, getD, length-take, length-drop}
 use lib.Seq.{getD-take, getD-drop, drop-drop}
 use borrow.Author.Tests.{lt-ltb, le-ltb, ltb-true, ltb-false, eq-eqb, ne-eqb, le-leb, lt-leb}
@@ -13,7 +13,7 @@ use Rattle.slices.proofs.Numbers.{low32-halves, low16-at}
 use Rattle.signals.specs.Words.{valueAt, valueAfter}
 use Rattle.reading.specs.Reading.{heldOn}
 use Rattle.reading.specs.declared.Step.{Step}
-use Rattle.sources.specs.Sources.{noWord, nextWord, sheetWord, listOnSheet, listFrom, passOn, apartIn}
+use Rattle.sources.specs.Sources.{noWord, nextWord, sheetWord, listOnSheet, listFrom, apartIn}
 use Rattle.sources.specs.declared.Memory.{Memory}
 use Rattle.sources.specs.declared.Memory.the-variants.{Sheet, Work, Left, Right}
 
@@ -109,6 +109,13 @@ module _ (sheet left right work : List ℕ) (at count passed : ℕ) where
     next-in-right e q = rw e (q ∙ part-next right h)
 
 -- passing a date: the tests that the code makes
+-- Past a date from the next word and the value held: a word of that date is passed.
+unfoldable pub passOn : ℕ → Bool → ℕ → ℕ → Step
+passOn word held passed date =
+    cond (eqb (word / 4) date)
+    (record { before = held; at = valueAt word; after = valueAfter word; passed = passed % 4294967296 + 1 })
+    (heldOn held passed)
+
 module _ (word : ℕ) (held : Bool) (passed date : ℕ) where
   pub pass-word : word / 4 ≡ date
       → _≡_ {A = Step} (record { before = held; at = valueAt word; after = valueAfter word; passed = passed % 4294967296 + 1 })

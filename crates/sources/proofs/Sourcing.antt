@@ -14,11 +14,11 @@ use Rattle.slices.specs.Bytes.{low32, wordsIn, Bytes, Words}
 use Rattle.signals.specs.Words.{dateOf, valueAt, valueAfter}
 use Rattle.signals.specs.Passing.{heldValue, isNext, atDate, afterDate, passedDate}
 use Rattle.reading.specs.Reading.{NEVER, nextDate, heldOn, stepPast}
-use Rattle.sources.specs.Sources.{noWord, nextWord, listOnSheet, listFrom, listAt, passOn, apartIn, apartFrom, slotIn, withSlot}
+use Rattle.sources.specs.Sources.{noWord, nextWord, listOnSheet, listFrom, listAt, apartIn, apartFrom, slotIn, withSlot}
 use Rattle.sources.specs.declared.Memory.{Memory}
 use Rattle.sources.specs.declared.Memory.the-variants.{Sheet, Work, Left, Right}
 use Rattle.sources.specs.declared.Source.{Source}
-use Rattle.sources.proofs.SourceWords.{word-left, no-word-left, at-most}
+use Rattle.sources.proofs.SourceWords.{passOn, word-left, no-word-left, at-most}
 
 -- the date of the next word
 pub next-word-date : (l : List ℕ) (i : ℕ) → nextWord l i / 4 ≡ nextDate l i
@@ -102,9 +102,6 @@ list-short sheet left right work s = at-most sheet left right work (s .at) (s .c
 module _ (sheet left right work : List ℕ) where
   pub whole-left : listFrom Left sheet left right work 0 (length left) ≡ left
   whole-left = take-length left
-
-  pub whole-right : listFrom Right sheet left right work 0 (length right) ≡ right
-  whole-right = take-length right
 
 -- the words of a part are those of the whole, or 0
 words-part : (l : List ℕ) (at count : ℕ) → Words l → Words (take count (drop at l))

@@ -40,13 +40,6 @@ listFrom Right sheet left right work at count = take count (drop at right)
 abbrev pub listAt : List ℕ → List ℕ → List ℕ → List ℕ → Source → List ℕ
 listAt sheet left right work s = listFrom (s .memory) sheet left right work (s .at) (s .count)
 
--- Past a date from the next word and the value held: a word of that date is passed.
-unfoldable pub passOn : ℕ → Bool → ℕ → ℕ → Step
-passOn word held passed date =
-    cond (eqb (word / 4) date)
-    (record { before = held; at = valueAt word; after = valueAfter word; passed = passed % 4294967296 + 1 })
-    (heldOn held passed)
-
 -- the reader of a list of which so many words are passed, the last of them given; past the first word
 unfoldable pub cursorAt : List ℕ → ℕ → ℕ → Cursor
 cursorAt l passed last =

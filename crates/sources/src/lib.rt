@@ -2,7 +2,7 @@
 ghost use mathlib.Core.Path.{_≡_};
 ghost use Prim.Native.Nat.{_<_, _-_, min};
 ghost use lib.ListN.{length};
-ghost use Rattle.sources.specs.Sources.{nextWord, sheetWord, listAt, passOn, cursorAt, startOf, pastOn, apartFrom};
+ghost use Rattle.sources.specs.Sources.{nextWord, sheetWord, listAt, cursorAt, startOf, pastOn, apartFrom};
 use reading::Step;
 use signals::Date;
 
@@ -69,26 +69,6 @@ pub fn next_word(
         Memory::Work => word_in(work, at + passed),
         Memory::Left => word_in(left, at + passed),
         _ => word_in(right, at + passed),
-    }
-}
-
-// Past a date, from the next word and the value held before it: a word of that date is passed.
-pub fn pass(word: u64, held: bool, passed: usize, date: Date) -> Step
-    ensures { λ r. ⌜ r ≡ passOn word held passed (date .0) ⌝ }
-{
-    if word / 4 == date.0 as u64 {
-        return Step {
-            before: held,
-            at: word / 2 % 2 == 1,
-            after: word % 2 == 1,
-            passed: passed % 4294967296 + 1,
-        };
-    }
-    Step {
-        before: held,
-        at: held,
-        after: held,
-        passed,
     }
 }
 

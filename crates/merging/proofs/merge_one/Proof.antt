@@ -35,7 +35,11 @@ first-shown-requires : tie.Need-first-shown-requires Inv-loop μ-loop
 first-shown-requires c κs = search needs
 
 mul-begin : tie.Need-mul-begin Inv-loop μ-loop
-mul-begin c = let s = c .before .before .before .before .before .before .before .before in omega (arith, s .pre .1, s .good .1 .1 .1 .1 .1 .0 .1)
+mul-begin c = let s = c .before .before .before .before .before .before .before .before in omega (
+  arith,
+  s .pre .1,
+  s .good .1 .1 .1 .1 .1 .0 .1,
+)
 
 sub-begin : tie.Need-sub-begin Inv-loop μ-loop
 sub-begin c = search needs
