@@ -89,6 +89,9 @@ cargo run --offline --quiet --example embed | cmp - "$root/bindings/c/embed.expe
 cargo build --offline --quiet --release --bin sheet
 SHEET=$CARGO_TARGET_DIR/release/sheet "$root/bindings/test_sheet" --quiet
 
+echo "bindings: the same answers as plain Rust"
+"$root/compare/run" --equal
+
 echo "bindings: bin/claim"
 if ! wait "$claims"; then
     cat "$copy/claims" >&2

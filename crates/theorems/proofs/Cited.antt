@@ -248,3 +248,6 @@ texts-DecimalRight-DecimalRight = Rattle.texts.proofs.DecimalRight.decimal-righ
 
 pub tidying-TidyingGives-TidyingGives : Rattle.tidying.specs.TidyingGives.TidyingGives
 tidying-TidyingGives-TidyingGives = Rattle.tidying.proofs.TidyingGives.tidying-gives
+
+pub working-Layout-LayoutFits : Rattle.working.specs.Layout.LayoutFits
+working-Layout-LayoutFits = Rattle.working.proofs.WorkLayout.layout-fits

@@ -37,7 +37,7 @@ returns-2 c =
     let start = c .before .before .before .before .before .before .before .before .before .before .before .before .before in
     let ran = c .before .before .before .before .before .before .before in
     λ f g cf cg. claim-judged _ f g _ _ _ _ _ (start .pre)
-    (λ i. c .before .before .before .before .before .before .before .before .before .before .before .before .shared-slice-known .given i .fits) cf cg
+    (λ i. ran .before .before .before .before .before .shared-slice-known .given i .fits) cf cg
     (ran .work-out .ensures)
     (c .before .before .before .before .if1 .left) _ _ _ (c .implies-at .ensures) refl refl
 

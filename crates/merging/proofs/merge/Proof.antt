@@ -103,7 +103,8 @@ date-shown-requires c κs = search needs
 mul-emit : tie.Need-mul-emit Inv-loop μ-loop
 mul-emit c =
     let told = c .before .before .before .before .before .before .before in
-    let s = told .before .before .before .before .before .before .before .before .before .before .before .before .before .before .before .before in
+    let begun = told .before .before .before .before .before .before .before .before .before .before in
+    let s = begun .before .before .before .before .before .before in
     omega (arith, s .pre .2, s .good .1 .1 .1 .1 .1 .0 .1)
 
 sub-emit : tie.Need-sub-emit Inv-loop μ-loop
@@ -133,7 +134,8 @@ loop-less c =
     let at = taken .before .loop in
     let here = at .inv in
     let told = taken .before .before .before in
-    let x = told .before .before .before .before .before .before .before .before .before .before .before .before .before .before .before .args in
+    let begun = told .before .before .before .before .before .before .before .before .before in
+    let x = begun .before .before .before .before .before .before .args in
     let still = looping-still _ _ _ _ _ _ _ (here .1 .2) _ _ _ _ _ _ (here .2) (x .sheet .now) (x .left .now) (x .right .now) in
     let first = passed .past .ensures ∙ ap (λ (l : List ℕ). pastOn l (at .x) (at .date)) (still (x .a) (here .1 .0)) in
     let second = other .past2 .ensures ∙ ap (λ (l : List ℕ). pastOn l (at .y) (at .date)) (still (x .b) (here .1 .1)) in
@@ -149,7 +151,8 @@ loop-again c =
     let at = taken .before .loop in
     let here = at .inv in
     let told = taken .before .before .before in
-    let x = told .before .before .before .before .before .before .before .before .before .before .before .before .before .before .before .args in
+    let begun = told .before .before .before .before .before .before .before .before .before in
+    let x = begun .before .before .before .before .before .before .args in
     let still = looping-still _ _ _ _ _ _ _ (here .1 .2) _ _ _ _ _ _ (here .2) (x .sheet .now) (x .left .now) (x .right .now) in
     let first = passed .past .ensures ∙ ap (λ (l : List ℕ). pastOn l (at .x) (at .date)) (still (x .a) (here .1 .0)) in
     let second = other .past2 .ensures ∙ ap (λ (l : List ℕ). pastOn l (at .y) (at .date)) (still (x .b) (here .1 .1)) in (
