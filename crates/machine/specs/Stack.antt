@@ -1,5 +1,5 @@
 -- Mirrored: Code words worked out one after the other on a stack of lists, topmost first, whatever they are. What that is for those of a
--- formula says `formula-ran` (machine/proofs/Running).
+-- formula says `formula-ran` (machine/proofs/FormulaRan).
 use Prim.Native.Nat.{ℕ, _-_, _≤_, _<_}
 use mathlib.Core.Path.{_≡_}
 use mathlib.Core.Bool.{cond}
