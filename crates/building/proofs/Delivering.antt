@@ -89,9 +89,9 @@ output-alike fault words exact out h = go (eqb fault 0) refl
     go true e = rw (h (eqb-true fault 0 e))
     go false e = refl
 
--- what is delivered of the whole answer, built in a slot of 256 words or more, is what the call gives
-module _ (exact old slot : List ℕ) (made : Made) (b : Built exact old slot made) (room : mostWords ≤ length old)
-    (kept : length slot ≡ length old) (out : List ℕ)
+-- what is delivered of the whole answer, built in a slot that holds it where it is not too long, is what the call gives
+module _ (exact old slot : List ℕ) (made : Made) (b : Built exact old slot made)
+    (room : length exact ≤ mostWords → length exact ≤ length old) (kept : length slot ≡ length old) (out : List ℕ)
   where
     same-fault : madeFault made (length slot) (length out) ≡ answerFault exact (length out)
     unfolding madeFault answerFault partFault roomFault firstOf
@@ -103,7 +103,7 @@ module _ (exact old slot : List ℕ) (made : Made) (b : Built exact old slot mad
             (cond (t || ltb (length slot) (length exact)) 5 (cond u 6 (cond v 7 0)))
             (cond (eqb (cond t 5 (cond u 6 0)) 0) (cond v 7 0) (cond t 5 (cond u 6 0)))
         go true u v p = refl
-        go false u v p = rw (le-ltb (length slot) (length exact) (omega (arith, ltb-false mostWords (length exact) p))) (ways u v)
+        go false u v p = rw (le-ltb (length slot) (length exact) (omega (arith, room (ltb-false mostWords (length exact) p)))) (ways u v)
           where
             ways : (u v : Bool) → _≡_ {A = ℕ} (cond u 6 (cond v 7 0)) (cond (eqb (cond u 6 0) 0) (cond v 7 0) (cond u 6 0))
             ways true v = refl
@@ -113,7 +113,7 @@ module _ (exact old slot : List ℕ) (made : Made) (b : Built exact old slot mad
     unfolding answerFault
     same-words z =
         let p = part-none exact (both-none (partFault exact) (roomFault exact (length out)) z .0) in
-        rw (b .count-is, b .slot-is, slot-short exact old (p .1) (omega (arith, p .0)))
+        rw (b .count-is, b .slot-is, slot-short exact old (p .1) (room (p .0)))
         (take-at exact (drop (length exact) old) (length exact) refl)
 
     pub delivered : (r : Written) (after : List ℕ) → Delivers made slot out r after

@@ -56,7 +56,7 @@ returns-3 c =
     (rw (whole-left _ _ _ _) at (c .before .before .before .before .before .before .run .ensures)) in
     rw (← (fault-order _ _ _ _))
     (passes-on _ _ _ _ _ _ (sym (neither _ _ _ (judged .list-fault .ensures) (test .before .if1 .left) (test .if2 .left)))
-    (delivered _ _ _ _ built (omega arith) (omega arith) (judged .before .before .before .args .out .now) _ _
+    (delivered _ _ _ _ built (λ h. omega arith) (omega arith) (judged .before .before .before .args .out .now) _ _
     (c .before .before .deliver .ensures)))
 
 pub delay-spec : {M : Type 1} → statement M

@@ -59,7 +59,7 @@ returns-2 c =
     (λ i. z .before .before .before .before .shared-slice-known .given i .fits)
     (λ i. z .before .before .before .shared-slice-known2 .given i .fits) in
     passes-on _ _ _ _ _ _ none
-    (delivered _ _ _ _ built (omega arith) (omega arith) (x .out .now) _ _ (c .before .before .deliver .ensures))
+    (delivered _ _ _ _ built (λ h. omega arith) (omega arith) (x .out .now) _ _ (c .before .before .deliver .ensures))
 
 pub operate-spec : {M : Type 1} → statement M
 operate-spec =

@@ -55,7 +55,7 @@ returns-2 c =
     alone-slice (x .operation) (x .table) [] (x .a .now) (x .a .now) (replicate 256 0) _ _ (merged .merge-one .ensures) refl ok
     (λ i. z .before .before .before .shared-slice-known .given i .fits) in
     passes-on _ _ _ _ _ _ (pair-of-one _ ∙ ok)
-    (delivered _ _ _ _ built (omega arith) (omega arith) (x .out .now) _ _ (c .before .before .deliver .ensures))
+    (delivered _ _ _ _ built (λ h. omega arith) (omega arith) (x .out .now) _ _ (c .before .before .deliver .ensures))
 
 pub operate-one-spec : {M : Type 1} → statement M
 operate-one-spec =
