@@ -25,6 +25,7 @@ use Rattle.showing.specs.Showing.{merged}
 use Rattle.timing.specs.Delay.{delayOf}
 use Rattle.merging.proofs.OneOperand.{none}
 use Rattle.merging.proofs.MergedExact.{merged-exact}
+use Rattle.delays.specs.Turns.{lastState}
 use Rattle.delays.proofs.DelayedExact.{delayed-exact}
 use Rattle.grammar.specs.Kinds as kinds
 use Rattle.grammar.specs.Tree.{ton, tof}
@@ -103,8 +104,8 @@ delay-told level d a answer l m z u =
     let j = both-none (listFault a) (lengthFault d) z in
     let s = small d (j .1) in
     let r = m .ran s in
-    built-told _ (r .before) (r .last .slot) (r .last .made)
-    (delayed-exact level d a (r .before) (j .0) s u (r .last) (r .runs)) (r .wide) answer (r .answer-is) l (r .list-is)
+    built-told _ (r .before) (lastState level d a (r .before) .slot) (lastState level d a (r .before) .made)
+    (delayed-exact level d a (r .before) (j .0) s u) (r .wide) answer (r .answer-is) l (r .list-is)
 
 none-words : Words none
 none-words zero = omega arith

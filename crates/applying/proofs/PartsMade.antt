@@ -25,6 +25,7 @@ use Rattle.sources.specs.declared.Source.{Source}
 use Rattle.sources.proofs.Sourcing.{slot-long, slot-kept}
 use Rattle.merging.specs.Merging.{mayMerge, MergedAt}
 use Rattle.delays.specs.DelayAt.{mayDelay, DelayedAt}
+use Rattle.delays.specs.Turns.{State, lastState}
 use Rattle.grammar.specs.Kinds as kinds
 use Rattle.code_words.specs.CodeWords.{constants}
 use Rattle.applying.specs.PartCalls.{partAnswer}
@@ -102,19 +103,18 @@ module _ (sheet work : List ℕ) (at : ℕ) (given : SlotAnswer) (answer : Writt
       go : (t : Bool) → leb d M ≡ t → DelayPart w sheet work a at answer after
       go true s =
           let z = m .built (begins s) in
-          let told : answer ≡ partAnswer (madeAnswer (z .1 .last .made)) = e ∙ ap partAnswer (z .2) ∙ ap (λ x. partAnswer (madeAnswer x))
-          (z .1 .made-is) in
+          let last : State = lastState level d (listAt sheet constants constants work a) (slotIn work at mostWords) in
+          let told : answer ≡ partAnswer (madeAnswer (last .made)) = e ∙ ap partAnswer (z .2) ∙ ap (λ x. partAnswer (madeAnswer x))
+          (z .1 .0) in
           record {
-            slot = z .1 .last .slot;
-            after-is = z .1 .work-is;
-            short = rw told (made-small (z .1 .last .made));
+            slot = last .slot;
+            after-is = z .1 .1;
+            short = rw told (made-small (last .made));
             applied = rw (← i, ← j) (record {
               too-long = λ l. absurd (let k = leb-true d M s in omega arith);
               ran = λ k. record {
                 before = slotIn work at mostWords;
-                last = z .1 .last;
                 wide = slot-long work at mostWords (room .2);
-                runs = z .1 .runs;
                 answer-is = told;
                 list-is = refl;
               };

@@ -16,7 +16,7 @@ use Rattle.building.specs.declared.Made.{Made}
 use Rattle.sources.specs.Sources.{listAt, withSlot}
 use Rattle.sources.specs.declared.Source.{Source}
 use Rattle.merging.specs.Merging.{Merges, begunIn, mayMerge}
-use Rattle.delays.specs.Turns.{State, firstState, Delays}
+use Rattle.delays.specs.Turns.{lastState}
 use Rattle.grammar.specs.Kinds as kinds
 use Rattle.code_words.specs.CodeWords.{constants}
 use Rattle.applying.specs.PartCalls.{partAnswer}
@@ -35,11 +35,9 @@ pub record MergedTo (kind : ℕ) (a b : List ℕ) (answer : Written) (l : List �
 -- a delay, whose length is at most M
 pub record DelayRan (level : Bool) (d : ℕ) (a : List ℕ) (answer : Written) (l : List ℕ) : Type 0 where
   pub before : List ℕ
-  pub last : State
   pub wide : length before ≡ mostWords
-  pub runs : Delays level d a (firstState level d a before) last
-  pub answer-is : answer ≡ partAnswer (madeAnswer (last .made))
-  pub list-is : l ≡ take (countIn answer) (last .slot)
+  pub answer-is : answer ≡ partAnswer (madeAnswer (lastState level d a before .made))
+  pub list-is : l ≡ take (countIn answer) (lastState level d a before .slot)
 
 pub record DelayedTo (level : Bool) (d : ℕ) (a : List ℕ) (answer : Written) (l : List ℕ) : Type 0 where
   pub too-long : M < d → answer ≡ Refused 5

@@ -69,7 +69,8 @@ module _ (level : Bool) (d : ℕ) (sheet left right work : List ℕ) (f : Source
     pub at-rest : begins ≡ false → DelayedAt level d sheet left right work f at NotBegun work
     at-rest n = record { refused = λ z. (refl, refl); built = λ z. true-false (sym z ∙ sym e ∙ n) }
 
-    pub at-work : begins ≡ true → (made : Made) (after : List ℕ) → DelayedIn level d (listAt sheet left right work f) work at made after
+    pub at-work : begins ≡ true → (made : Made) (after : List ℕ)
+        → DelayedIn level d (listAt sheet left right work f) work at mostWords made after
         → (answer : SlotAnswer) → answer ≡ madeAnswer made → DelayedAt level d sheet left right work f at answer after
     at-work y made after ran answer q =
         record { refused = λ z. true-false (sym y ∙ e ∙ z); built = λ z. (made, ran, q) }

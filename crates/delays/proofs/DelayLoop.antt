@@ -21,13 +21,12 @@ use Rattle.operations.specs.Calls.{exactOfDelay}
 use Rattle.building.specs.Building.{emitted, emittedIn, begun}
 use Rattle.building.proofs.Built.{Built}
 use Rattle.timing.specs.Delay.{timerNext, firstTimer, onLevel, levelOf, delayed, delayOf}
-use Rattle.delays.specs.Upcoming.{upcomingDate}
 use Rattle.building.specs.declared.Made.{Made}
 use Rattle.timing.specs.declared.Timer.{Timer}
 use Rattle.building.proofs.Scanning.{Scanning, scanning-begin, scanning-emit, scanning-done}
 use Rattle.timing.proofs.DelaySignals.{delayed-down}
 use Rattle.timing.proofs.DelayTiming.{Timed, timed-value, timed-still, timed-first}
-use Rattle.delays.proofs.DelayUpcoming.{Upcoming, upcoming-is}
+use Rattle.delays.proofs.DelayUpcoming.{Upcoming, upcomingDate, upcoming-is}
 use Rattle.timing.proofs.DelayTurn.{timed-after, delay-held}
 
 -- the answer up to date k is in the slot, k's word is passed, and the delay's state is that in gap k
@@ -69,12 +68,16 @@ level-settled : (level : Bool) (l : List ℕ) → listFault l ≡ 0 → SettledF
 unfolding levelOf
 level-settled level l h t g = ap (onLevel level) (accepted-settled l h t g)
 
--- the value of a level's signal in gap 0
-first-value : (level : Bool) (l : List ℕ) → listFault l ≡ 0 → levelOf level (signalOf l) 0 ≡ onLevel level (heldValue l 1)
+-- the value of a level's signal in the gap after the words passed, and in gap 0
+pub gap-value : (level : Bool) (l : List ℕ) (p k : ℕ) → At (signalOf l) l p k
+    → levelOf level (signalOf l) (gap k) ≡ onLevel level (heldValue l p)
 unfolding levelOf
-first-value level l h =
-    let a : At (signalOf l) l 1 0 = accepted-start l h in
-    ap (onLevel level) (a .ahead .says 0 (omega arith) ∙ value-held (heldValue l 1) 0 (drop 1 l) 0 (a .ahead .rises) (omega arith))
+gap-value level l p k a =
+    ap (onLevel level)
+    (a .ahead .says (gap k) (omega arith) ∙ value-held (heldValue l p) k (drop p l) (gap k) (a .ahead .rises) (omega arith))
+
+first-value : (level : Bool) (l : List ℕ) → listFault l ≡ 0 → levelOf level (signalOf l) 0 ≡ onLevel level (heldValue l 1)
+first-value level l h = gap-value level l 1 0 (accepted-start l h)
 
 module _ (level : Bool) (d : ℕ) (l old : List ℕ) where
   pub delaying-begin : listFault l ≡ 0 → d ≤ M → lastDate l ≤ M

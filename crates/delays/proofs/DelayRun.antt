@@ -1,216 +1,212 @@
--- What the loop of a delay keeps, for every list: the words that it holds are the list's, the slot alone has changed, and from its state on
--- it ends as it does from the first.
-use Prim.Native.Nat.{ℕ, _+_, _-_, _≤_, _<_}
+-- What the loop of a delay keeps, for every list: the slot alone has changed, and from its state on the words left lead where all lead from
+-- the first.
+use Prim.Native.Nat.{ℕ, suc, _+_, _-_, _≤_, _<_}
 use native.Mathlib.Omega.{arith}
-use mathlib.Core.Path.{_≡_, refl, sym, _∙_, ap, subst}
-use mathlib.Core.Bool.{Bool, true, false, cond}
-use mathlib.Core.List.{List}
+use native.Mathlib.Numerals.{add-one}
+use mathlib.Core.Path.{_≡_, refl, sym, _∙_, ap}
+use mathlib.Core.Bool.{Bool, true, false}
+use mathlib.Core.List.{List, [], _∷_, _++_}
 use lib.Dec.{ltb}
-use lib.ListN.{length, set, length-set}
+use lib.ListN.{length, take, drop, getD, set, length-set, drop-of-length-le}
+use lib.Seq.{drop-cons}
 use borrow.Author.Tests.{ltb-true, ltb-false}
 use Rattle.slices.specs.Bytes.{Words}
 use Rattle.signals.specs.Signal.{num}
-use Rattle.signals.specs.Words.{mostWords, valueAfter, word}
+use Rattle.signals.specs.Words.{valueAfter}
 use Rattle.signals.specs.Passing.{heldValue}
-use Rattle.reading.specs.Reading.{NEVER, nextDate, stepPast}
-use Rattle.building.specs.Building.{idle, stores, emitted, emittedIn, begun}
+use Rattle.reading.specs.Reading.{NEVER}
+use Rattle.building.specs.Building.{begun}
 use Rattle.building.specs.declared.Made.{Made}
 use Rattle.timing.specs.Delay.{firstTimer, onLevel}
 use Rattle.timing.specs.declared.Timer.{Timer}
-use Rattle.sources.specs.Sources.{startOf, pastOn, listAt, apartFrom, slotIn, withSlot}
-use Rattle.sources.specs.declared.Cursor.{Cursor}
-use Rattle.sources.specs.declared.Passed.{Passed}
+use Rattle.sources.specs.Sources.{noWord, nextWord, listAt, apartFrom, slotIn, withSlot}
 use Rattle.sources.specs.declared.Source.{Source}
-use Rattle.sources.proofs.Sourcing.{list-short, slot-kept, slot-long, slot-back, slot-again, with-slot-long, apart-kept}
-use Rattle.sources.proofs.Readers.{Reading, reads-start, reads-date, reads-held, reads-step, reads-passed, reads-on, start-passed}
-use Rattle.delays.specs.Upcoming.{upcomingDate, laterDate}
-use Rattle.delays.specs.Turns.{State, stateOf, shownAt, firstState, stateWith, stateAfter, stateBy, nextState, Delays, done, turn}
-use Rattle.delays.specs.DelayAt.{DelayedIn}
-use Rattle.delays.specs.declared.Shown.{Shown}
-
--- a slot keeps its length
-emitted-length : (slot : List ℕ) (made : Made) (date : ℕ) (at after : Bool) → length (emittedIn slot made date at after) ≡ length slot
-unfolding emittedIn
-emitted-length slot made date at after = go (idle (made .value) at after) (stores slot made date)
-  where
-    go : (t u : Bool) → length (cond t slot (cond u (set slot (made .count) (word date at after)) slot)) ≡ length slot
-    go true u = refl
-    go false true = length-set slot (made .count) (word date at after)
-    go false false = refl
+use Rattle.sources.proofs.SourceWords.{word-left, no-word-left}
+use Rattle.sources.proofs.Sourcing.{list-short, slot-kept, slot-long, slot-back, slot-again, with-slot-long, part-back, apart-kept}
+use Rattle.sources.proofs.Sourcing.{first-held}
+use Rattle.delays.specs.Turns.{State, stateOf, settled, pastWord, pastWords, stateWith, firstState, lastState}
+use Rattle.delays.proofs.WordTests.{begins, leads-on, leads-home}
+use Rattle.delays.specs.DelayAt.{EndsIn, DelayedIn}
 
 -- the operand and the slot of a delay that begins
-pub record Placed (sheet left right work : List ℕ) (f : Source) (at : ℕ) : Type 0 where
-  pub fits : at + mostWords ≤ length work
-  pub apart : apartFrom f at mostWords ≡ true
+pub record Placed (sheet left right work : List ℕ) (f : Source) (at room : ℕ) : Type 0 where
+  pub fits : at + room ≤ length work
+  pub apart : apartFrom f at room ≡ true
   pub words : Words (listAt sheet left right work f)
   pub few : f .count < 4294967296
 
-pub record Running (level : Bool) (d : ℕ) (l old : List ℕ) (at : ℕ) (start : State) (work : List ℕ) (x : Cursor)
-    (timer : Timer) (made : Made) (date : ℕ) : Type 0 where
+pub record Running (level : Bool) (d : ℕ) (l old : List ℕ) (at room : ℕ) (start : State) (work : List ℕ) (passed word : ℕ)
+    (timer : Timer) (made : Made) : Type 0 where
   pub slot : List ℕ
-  pub full : length slot ≡ mostWords
-  pub work-is : work ≡ withSlot old at mostWords slot
-  pub on : Reading l x
-  pub leads : (t : State) → Delays level d l (stateOf (x .passed) timer made date slot) t → Delays level d l start t
+  pub full : length slot ≡ room
+  pub work-is : work ≡ withSlot old at room slot
+  pub word-is : word ≡ nextWord l passed
+  pub leads : pastWords level d (drop passed l) (stateOf timer made slot) ≡ pastWords level d (drop 1 l) start
 
--- the loop's first date, and what its last one gives
-pub record Started (level : Bool) (d : ℕ) (sheet left right old : List ℕ) (f : Source) (at : ℕ) (work : List ℕ) (x : Cursor)
-    (timer : Timer) (made : Made) (date : ℕ) : Type 0 where
-  pub placed : Placed sheet left right work f at
-  pub running : Running level d (listAt sheet left right work f) work at (stateOf 1 timer made date (slotIn work at mostWords)) work x timer
-      made date
-  pub ends : (work' : List ℕ) (x' : Cursor) (timer' : Timer) (made' : Made) (date' : ℕ)
-      → Running level d (listAt sheet left right work f) work at (stateOf 1 timer made date (slotIn work at mostWords)) work' x'
-      timer' made' date' → NEVER ≤ date'
-      → DelayedIn level d (listAt sheet left right old f) old at made' work'
+-- The slot with its first word in it: what the words lead to from there is what the whole list gives.
+module _ (level : Bool) (d : ℕ) (sheet left right old : List ℕ) (f : Source) (at room : ℕ) (fits : at + room ≤ length old)
+    (apart : apartFrom f at room ≡ true)
+  where
+    abbrev whole : List ℕ
+    whole = listAt sheet left right old f
 
-module _ (level : Bool) (d : ℕ) (sheet left right old : List ℕ) (f : Source) (at : ℕ) (p : Placed sheet left right old f at) where
+    module _ (part : List ℕ) (shown : Bool) (e : part ≡ set (take (at + room - at) (drop at old)) 0 (num shown)) where
+      abbrev first : List ℕ
+      first = take at old ++ (part ++ drop (at + room - at) (drop at old))
+
+      first-part : part ≡ set (slotIn old at room) 0 (num shown)
+      first-part = let n : at + room - at ≡ room = omega arith in rw n at e
+
+      first-full : length part ≡ room
+      first-full = ap length first-part ∙ length-set (slotIn old at room) 0 (num shown) ∙ slot-long old at room fits
+
+      first-is : first ≡ withSlot old at room part
+      first-is = part-back old at room fits part (at + room - at) (omega arith)
+
+      pub first-length : length first ≡ length old
+      first-length = ap length first-is ∙ with-slot-long old at room fits part first-full
+
+      pub begun-run : (word : ℕ) → word ≡ nextWord whole 0 → (value : Bool) → value ≡ onLevel level (valueAfter word)
+          → (timer : Timer) → timer ≡ firstTimer level d value → shown ≡ onLevel level (timer .level) → (made : Made) → made ≡ begun shown
+          → (r : Made) (after : List ℕ)
+          → EndsIn (pastWords level d (drop 1 (listAt sheet left right first f)) (stateOf timer made (slotIn first at room)))
+          first at room r after → DelayedIn level d whole old at room r after
+      unfolding lastState
+      begun-run word e0 value e1 timer e2 e3 made e4 r after (m, w) =
+          (m ∙ ap (λ (s : State). s .made) last, w ∙ ap (λ (s : State). withSlot first at room (s .slot)) last ∙ again)
+        where
+          same : listAt sheet left right first f ≡ whole
+          same =
+              ap (λ (x : List ℕ). listAt sheet left right x f) first-is
+              ∙ apart-kept old at room fits part first-full sheet left right f apart
+
+          there : slotIn first at room ≡ part
+          there = ap (λ (x : List ℕ). slotIn x at room) first-is ∙ slot-back old at room fits part first-full
+
+          state : stateOf timer made (slotIn first at room) ≡ firstState level d whole (slotIn old at room)
+          state =
+              ap (stateOf timer made) there
+              ∙ begins level d whole (slotIn old at room) value (e1 ∙ ap (onLevel level) (ap valueAfter e0 ∙ first-held whole)) timer e2
+              shown e3 made part (e4, first-part)
+
+          last : pastWords level d (drop 1 (listAt sheet left right first f)) (stateOf timer made (slotIn first at room))
+              ≡ pastWords level d (drop 1 whole) (firstState level d whole (slotIn old at room))
+          last =
+              ap (λ (l : List ℕ). pastWords level d (drop 1 l) (stateOf timer made (slotIn first at room))) same
+              ∙ ap (pastWords level d (drop 1 whole)) state
+
+          again : withSlot first at room (pastWords level d (drop 1 whole) (firstState level d whole (slotIn old at room)) .slot)
+              ≡ withSlot old at room (pastWords level d (drop 1 whole) (firstState level d whole (slotIn old at room)) .slot)
+          again =
+              ap (λ (x : List ℕ). withSlot x at room
+              (pastWords level d (drop 1 whole) (firstState level d whole (slotIn old at room)) .slot))
+              first-is
+              ∙ slot-again old at room fits part first-full
+              (pastWords level d (drop 1 whole) (firstState level d whole (slotIn old at room)) .slot)
+
+-- the words after it
+module _ (level : Bool) (d : ℕ) (sheet left right old : List ℕ) (f : Source) (at room : ℕ) (p : Placed sheet left right old f at room) where
   abbrev list : List ℕ
   list = listAt sheet left right old f
 
   short : length list < 4294967296
   short = omega (arith, list-short sheet left right old f, p .few)
 
-  pub running-length : (start : State) (work : List ℕ) (x : Cursor) (timer : Timer) (made : Made) (date : ℕ)
-      → Running level d list old at start work x timer made date → length work ≡ length old
-  running-length start work x timer made date r =
-      ap length (r .work-is) ∙ with-slot-long old at mostWords (p .fits) (r .slot) (r .full)
+  -- before the second word
+  pub running-first : (timer : Timer) (made : Made) (word : ℕ) → word ≡ nextWord list 1
+      → Running level d list old at room (stateOf timer made (slotIn old at room)) old 1 word timer made
+  running-first timer made word e =
+      record {
+        slot = slotIn old at room;
+        full = slot-long old at room (p .fits);
+        work-is = sym (slot-kept old at room (p .fits));
+        word-is = e;
+        leads = refl;
+      }
 
-  -- one turn
-  module _ (start : State) (work : List ℕ) (x : Cursor) (timer : Timer) (made : Made) (date : ℕ)
-      (r : Running level d list old at start work x timer made date) (h : date < NEVER)
-      (u : Passed) (e0 : u ≡ pastOn (listAt sheet left right work f) x date)
-      (shown : Shown) (e1 : shown ≡ shownAt level d timer date (u .step .at) (u .step .after))
-      (made' : Made) (e3 : made' ≡ emitted made date (shown .at) (shown .after))
-      (work' : List ℕ)
-      (e4 : work' ≡ withSlot work at mostWords (emittedIn (slotIn work at mostWords) made date (shown .at) (shown .after)))
-      (next : ℕ) (e5 : next ≡ upcomingDate (u .next .date) (shown .timer))
-      (date' : ℕ) (e6 : date' ≡ laterDate date next)
+  module _ (start : State) (work : List ℕ) (passed word : ℕ) (timer : Timer) (made : Made)
+      (r : Running level d list old at room start work passed word timer made)
     where
-      same : listAt sheet left right work f ≡ list
-      same = rw (r .work-is) (apart-kept old at mostWords (p .fits) (r .slot) (r .full) sheet left right f (p .apart))
+      pub running-length : length work ≡ length old
+      running-length = ap length (r .work-is) ∙ with-slot-long old at room (p .fits) (r .slot) (r .full)
 
-      there : slotIn work at mostWords ≡ r .slot
-      there = rw (r .work-is) (slot-back old at mostWords (p .fits) (r .slot) (r .full))
+      -- a word is left, of 32 bits, or none is
+      pub is-left : word < noWord → passed < length list
+      is-left h = go (ltb passed (length list)) refl
+        where
+          go : (t : Bool) → ltb passed (length list) ≡ t → passed < length list
+          go true e = ltb-true passed (length list) e
+          go false e = absurd (omega (arith, h, r .word-is, no-word-left list passed (ltb-false passed (length list) e)))
 
-      abbrev slot' : List ℕ
-      slot' = emittedIn (r .slot) made date (shown .at) (shown .after)
+      pub few-passed : word < noWord → passed + 1 < 4294967296
+      few-passed h = omega (arith, is-left h, short)
 
-      past-is : u ≡ pastOn list x date
-      past-is = e0 ∙ ap (λ (l : List ℕ). pastOn l x date) same
+      word-here : word < noWord → word ≡ getD list passed 0
+      word-here h = r .word-is ∙ word-left list passed (is-left h)
 
-      step-is : u .step ≡ stepPast list (x .passed) date
-      step-is = reads-step list x (r .on) date h u past-is
+      pub small : word < noWord → word < 4294967296
+      small h = rw (word-here h) (p .words passed)
 
-      next-is : Reading list (u .next)
-      next-is = reads-on list x (r .on) date h u past-is
+      none-left : noWord ≤ word → length list ≤ passed
+      none-left h = go (ltb passed (length list)) refl
+        where
+          go : (t : Bool) → ltb passed (length list) ≡ t → length list ≤ passed
+          go true e =
+              let q = ltb-true passed (length list) e in
+              absurd (omega (arith, h, r .word-is ∙ word-left list passed q, p .words passed))
+          go false e = ltb-false passed (length list) e
 
-      passed-is : u .next .passed ≡ u .step .passed
-      passed-is = reads-passed list x (r .on) date h u past-is
+      there : slotIn work at room ≡ r .slot
+      there = rw (r .work-is) (slot-back old at room (p .fits) (r .slot) (r .full))
 
-      date-next : date' ≡ laterDate date (upcomingDate (nextDate list (u .step .passed)) (shown .timer))
-      date-next =
-          e6 ∙ ap (laterDate date)
-          (e5 ∙ ap (λ (n : ℕ). upcomingDate n (shown .timer)) (reads-date list (u .next) next-is ∙ ap (nextDate list) passed-is))
+      -- the slot is lent and comes back with other words
+      module _ (part : List ℕ) (full : length part ≡ length (take (at + room - at) (drop at work))) where
+        size : at + room - at ≡ room
+        size = omega arith
 
-      by-step : stateOf (u .step .passed) (shown .timer) made' date' slot'
-          ≡ stateBy level d list (stateOf (x .passed) timer made date (r .slot)) (u .step)
-      by-step = rw (e3, date-next) (ap (stateAfter list (stateOf (x .passed) timer made date (r .slot)) (u .step .passed)) e1)
+        part-full : length part ≡ room
+        part-full = full ∙ ap (λ (n : ℕ). length (take n (drop at work))) size ∙ ap length there ∙ r .full
 
-      leads-on : stateOf (u .next .passed) (shown .timer) made' date' slot'
-          ≡ nextState level d list (stateOf (x .passed) timer made date (r .slot))
-      unfolding nextState
-      leads-on =
-          ap (λ (n : ℕ). stateOf n (shown .timer) made' date' slot') passed-is ∙ by-step
-          ∙ ap (stateBy level d list (stateOf (x .passed) timer made date (r .slot))) step-is
+        abbrev lent : List ℕ
+        lent = take at work ++ (part ++ drop (at + room - at) (drop at work))
 
-      pub running-turn : Running level d list old at start work' (u .next) (shown .timer) made' date'
-      running-turn =
-          record {
-            slot = slot';
-            full = emitted-length (r .slot) made date (shown .at) (shown .after) ∙ r .full;
-            work-is =
-                e4 ∙ ap (λ (s : List ℕ). withSlot work at mostWords (emittedIn s made date (shown .at) (shown .after))) there
-                ∙ ap (λ (w : List ℕ). withSlot w at mostWords slot') (r .work-is)
-                ∙ slot-again old at mostWords (p .fits) (r .slot) (r .full) slot';
-            on = next-is;
-            leads = λ t q. r .leads t (turn h (subst (λ (s : State). Delays level d list s t) leads-on q));
-          }
+        lent-is : lent ≡ withSlot old at room part
+        lent-is =
+            part-back work at room (rw running-length (p .fits)) part (at + room - at) size
+            ∙ ap (λ (w : List ℕ). withSlot w at room part) (r .work-is)
+            ∙ slot-again old at room (p .fits) (r .slot) (r .full) part
 
-  -- the first date, from the values that the code works out
-  module _ (x : Cursor) (e1 : x ≡ startOf list)
-      (value : Bool) (e2 : value ≡ onLevel level (valueAfter (x .last))) (timer : Timer) (e3 : timer ≡ firstTimer level d value)
-      (shown : Bool) (e4 : shown ≡ onLevel level (timer .level)) (made : Made) (e5 : made ≡ begun shown)
-      (work : List ℕ) (e6 : work ≡ withSlot old at mostWords (set (slotIn old at mostWords) 0 (num shown)))
-      (next : ℕ) (e7 : next ≡ upcomingDate (x .date) timer) (date : ℕ) (e8 : date ≡ laterDate 0 next)
-    where
-      on : Reading list x
-      on = reads-start list (p .words) short x e1
+        pub lent-length : length lent ≡ length old
+        lent-length = ap length lent-is ∙ with-slot-long old at room (p .fits) part part-full
 
-      one : x .passed ≡ 1
-      one = start-passed list x e1
+        part-there : take (at + room - at) (drop at work) ≡ r .slot
+        part-there = ap (λ (n : ℕ). take n (drop at work)) size ∙ there
 
-      one-full : length (set (slotIn old at mostWords) 0 (num shown)) ≡ mostWords
-      one-full = length-set (slotIn old at mostWords) 0 (num shown) ∙ slot-long old at mostWords (p .fits)
+        -- one turn
+        pub running-turn : (h : word < noWord) (timer' : Timer) (made' : Made)
+            → stateOf timer' made' part ≡ pastWord level d (stateOf timer made (take (at + room - at) (drop at work))) word
+            → (word' : ℕ) → word' ≡ nextWord (listAt sheet left right lent f) (passed + 1)
+            → Running level d list old at room start lent (passed + 1) word' timer' made'
+        running-turn h timer' made' e word' q =
+            record {
+              slot = part;
+              full = part-full;
+              work-is = lent-is;
+              word-is =
+                  q ∙ ap (λ (l : List ℕ). nextWord l (passed + 1)) (ap (λ (w : List ℕ). listAt sheet left right w f) lent-is
+                  ∙ apart-kept old at room (p .fits) part part-full sheet left right f (p .apart));
+              leads = leads-on level d list passed (stateOf timer made (r .slot)) start (r .leads) (is-left h) _ state;
+            }
+          where
+            state : stateOf timer' made' part ≡ pastWord level d (stateOf timer made (r .slot)) (getD list passed 0)
+            state = rw (part-there, word-here h) at e
 
-      list-same : listAt sheet left right work f ≡ list
-      list-same =
-          rw e6 (apart-kept old at mostWords (p .fits) (set (slotIn old at mostWords) 0 (num shown)) one-full sheet left right f (p .apart))
-
-      length-same : length work ≡ length old
-      length-same = rw e6 (with-slot-long old at mostWords (p .fits) (set (slotIn old at mostWords) 0 (num shown)) one-full)
-
-      abbrev start : State
-      start = stateOf 1 timer made date (slotIn work at mostWords)
-
-      still : Placed sheet left right work f at
-      still = record { fits = rw length-same (p .fits); apart = p .apart; words = rw list-same (p .words); few = p .few }
-
-      there-first : slotIn work at mostWords ≡ set (slotIn old at mostWords) 0 (num shown)
-      there-first = rw e6 (slot-back old at mostWords (p .fits) (set (slotIn old at mostWords) 0 (num shown)) one-full)
-
-      date-first : date ≡ laterDate 0 (upcomingDate (nextDate list 1) timer)
-      date-first =
-          e8 ∙ ap (laterDate 0) (e7 ∙ ap (λ (n : ℕ). upcomingDate n timer) (reads-date list x on ∙ ap (nextDate list) one))
-
-      by-timer : start ≡ stateWith level list (slotIn old at mostWords) timer
-      by-timer = rw (e5, date-first, there-first, e4)
-
-      start-is : start ≡ firstState level d list (slotIn old at mostWords)
-      unfolding firstState
-      start-is =
-          by-timer
-          ∙ ap (stateWith level list (slotIn old at mostWords)) (e3 ∙ ap (firstTimer level d) (e2 ∙ ap (onLevel level)
-          (reads-held list x on ∙ ap (heldValue list) one)))
-
-      pub started : Started level d sheet left right old f at work x timer made date
-      started =
-          record {
-            placed = still;
-            running = record {
-              slot = slotIn work at mostWords;
-              full = slot-long work at mostWords (still .fits);
-              work-is = sym (slot-kept work at mostWords (still .fits));
-              on = rw list-same on;
-              leads = λ t q. subst (λ (n : ℕ). Delays level d (listAt sheet left right work f)
-                  (stateOf n timer made date (slotIn work at mostWords)) t) one q;
-            };
-            ends = λ work' x' timer' made' date' r h. record {
-              last = stateOf (x' .passed) timer' made' date' (r .slot);
-              runs =
-                  subst (λ (s : State). Delays level d list s (stateOf (x' .passed) timer' made' date' (r .slot))) start-is
-                  (rw list-same at (r .leads _ (done h)));
-              made-is = refl;
-              work-is =
-                  r .work-is ∙ ap (λ (w : List ℕ). withSlot w at mostWords (r .slot)) e6
-                  ∙ slot-again old at mostWords (p .fits) (set (slotIn old at mostWords) 0 (num shown)) one-full (r .slot);
-            };
-          }
-
-pub later-never : (last date : ℕ) → last < NEVER → NEVER - laterDate last date < NEVER - last
-unfolding laterDate
-later-never last date h = go (ltb last date) refl
-  where
-    go : (t : Bool) → ltb last date ≡ t → NEVER - cond t date NEVER < NEVER - last
-    go true e = let q = ltb-true last date e in omega arith
-    go false e = omega arith
+        -- the end: what is pending comes
+        pub running-end : noWord ≤ word → (timer' : Timer) (made' : Made)
+            → stateOf timer' made' part ≡ settled level NEVER (stateOf timer made (take (at + room - at) (drop at work)))
+            → EndsIn (pastWords level d (drop 1 list) start) old at room made' lent
+        running-end h timer' made' e =
+            let last =
+            leads-home level d list passed (stateOf timer made (r .slot)) start (r .leads) (none-left h) (stateOf timer' made' part)
+            (rw part-there at e) in
+            (ap (λ x. x .made) last, lent-is ∙ ap (λ (s : State). withSlot old at room (s .slot)) last)

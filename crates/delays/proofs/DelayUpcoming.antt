@@ -2,7 +2,7 @@
 use Prim.Native.Nat.{ℕ, zero, suc, _+_, _≤_, _<_}
 use native.Mathlib.Omega.{arith}
 use mathlib.Core.Path.{_≡_, refl, _∙_, ap, subst}
-use mathlib.Core.Bool.{Bool, true, false}
+use mathlib.Core.Bool.{Bool, true, false, cond, _&&_}
 use mathlib.Core.List.{List, [], _∷_}
 use lib.Dec.{ltb}
 use lib.ListN.{length, getD, drop}
@@ -16,14 +16,13 @@ use Rattle.signals.proofs.Truth.{not-both}
 use Rattle.signals.proofs.Operand.{At, next-later, words-left}
 use Rattle.signals.proofs.Normal.{last-le}
 use Rattle.reading.specs.Reading.{NEVER, nextDate}
-use Rattle.delays.specs.Upcoming.{upcomingDate, laterDate}
-use Rattle.delays.specs.Turns.{shownAt}
-use Rattle.delays.specs.declared.Shown.{Shown}
-use Rattle.timing.specs.Delay.{timerNext, onLevel}
 use Rattle.timing.specs.declared.Timer.{Timer}
 use Rattle.timing.proofs.DelayTiming.{momentOf, Timed, timed-ahead}
 
--- the tests that the code makes
+-- the next date to look at: that of the next word or of the pending change, NEVER when there is neither
+unfoldable pub upcomingDate : ℕ → Timer → ℕ
+upcomingDate next s = cond (s .waiting && ltb (s .due .0) next) (s .due .0) next
+
 module _ (next : ℕ) (s : Timer) where
   pub upcoming-due : s .waiting ≡ true → s .due .0 < next → upcomingDate next s ≡ s .due .0
   unfolding upcomingDate
@@ -36,22 +35,6 @@ module _ (next : ℕ) (s : Timer) where
   pub upcoming-none : s .waiting ≡ false → upcomingDate next s ≡ next
   unfolding upcomingDate
   upcoming-none w = rw w
-
--- what a delay shows, from the values that the code works out
-pub shows : (level : Bool) (d : ℕ) (s : Timer) (date : ℕ) (at after a b : Bool) (s1 s2 : Timer) (x y : Bool)
-    → a ≡ onLevel level at → s1 ≡ timerNext s d date true a → b ≡ onLevel level after → s2 ≡ timerNext s1 d date false b
-    → x ≡ onLevel level (s1 .level) → y ≡ onLevel level (s2 .level)
-    → _≡_ {A = Shown} (record { timer = s2; at = x; after = y }) (shownAt level d s date at after)
-unfolding shownAt
-shows level d s date at after a b s1 s2 x y e0 e1 e2 e3 e4 e5 = rw (e5, e4, e3, e2, e1, e0)
-
-pub later-date : (last date : ℕ) → last < date → date ≡ laterDate last date
-unfolding laterDate
-later-date last date h = rw (lt-ltb last date h)
-
-pub not-later : (last date : ℕ) → date ≤ last → NEVER ≡ laterDate last date
-unfolding laterDate
-not-later last date h = rw (le-ltb last date h)
 
 -- the next word's date is at most the last
 last-drop : (x y j : ℕ) (ws : List ℕ) → j < length ws → lastFrom x ws ≡ lastFrom y (drop j ws)
@@ -72,11 +55,11 @@ next-within f (x ∷ ws) (suc j) k a h =
     last-drop 0 k j ws (omega arith) ∙ ap (lastFrom k) left in
     omega (arith, e, last-le (dateOf (getD (x ∷ ws) (suc j) 0)) (drop (suc j + 1) (x ∷ ws)) (rises .1))
 
-next-in : (l : List ℕ) (p : ℕ) → p < length l → nextDate l p ≡ dateOf (getD l p 0)
+pub next-in : (l : List ℕ) (p : ℕ) → p < length l → nextDate l p ≡ dateOf (getD l p 0)
 unfolding nextDate
 next-in l p h = rw (lt-ltb p (length l) h)
 
-next-end : (l : List ℕ) (p : ℕ) → length l ≤ p → nextDate l p ≡ NEVER
+pub next-end : (l : List ℕ) (p : ℕ) → length l ≤ p → nextDate l p ≡ NEVER
 unfolding nextDate
 next-end l p h = rw (le-ltb p (length l) h)
 

@@ -5,3 +5,4 @@ pub mod DelayJudged
 pub mod DelayedExact
 pub mod SlotParts
 pub mod DelayRun
+pub mod WordTests

@@ -13,14 +13,18 @@ use Rattle.building.specs.Slots.{madeAnswer}
 use Rattle.building.specs.declared.Made.{Made}
 use Rattle.building.specs.declared.SlotAnswer.{SlotAnswer}
 use Rattle.building.specs.declared.SlotAnswer.the-variants.{NotBegun}
-use Rattle.delays.specs.Turns.{State, firstState, Delays}
+use Rattle.delays.specs.Turns.{State, lastState}
+
+-- an answer built in a slot, and in the slot of `room` words from `at` on: this state is the last
+abbrev pub Ends : State → Made → List ℕ → Type 0
+Ends last made slot = (made ≡ last .made) × (slot ≡ last .slot)
+
+abbrev pub EndsIn : State → List ℕ → ℕ → ℕ → Made → List ℕ → Type 0
+EndsIn last work at room made after = (made ≡ last .made) × (after ≡ withSlot work at room (last .slot))
 
 -- the delay of a list, built whole in the slot
-pub record DelayedIn (level : Bool) (d : ℕ) (l work : List ℕ) (at : ℕ) (made : Made) (after : List ℕ) : Type 0 where
-  pub last : State
-  pub runs : Delays level d l (firstState level d l (slotIn work at mostWords)) last
-  pub made-is : made ≡ last .made
-  pub work-is : after ≡ withSlot work at mostWords (last .slot)
+abbrev pub DelayedIn : Bool → ℕ → List ℕ → List ℕ → ℕ → ℕ → Made → List ℕ → Type 0
+DelayedIn level d l work at room made after = EndsIn (lastState level d l (slotIn work at room)) work at room made after
 
 -- it begins where the length is at most M and the slot is in the work area, apart from the operand
 unfoldable pub mayDelay : ℕ → Source → ℕ → ℕ → Bool
@@ -31,4 +35,4 @@ pub record DelayedAt (level : Bool) (d : ℕ) (sheet left right work : List ℕ)
     : Type 0 where
   pub refused : mayDelay d f at (length work) ≡ false → (answer ≡ NotBegun) × (after ≡ work)
   pub built : mayDelay d f at (length work) ≡ true
-      → (made : Made) × DelayedIn level d (listAt sheet left right work f) work at made after × (answer ≡ madeAnswer made)
+      → (made : Made) × DelayedIn level d (listAt sheet left right work f) work at mostWords made after × (answer ≡ madeAnswer made)

@@ -1,68 +1,68 @@
--- Mirrored: A delay built in a slot from date to date, whatever the words of its list are.
-use Prim.Native.Nat.{ℕ, _≤_, _<_}
-use mathlib.Core.Bool.{Bool, true, false}
-use mathlib.Core.List.{List}
-use lib.ListN.{set}
+-- Mirrored: A delay built in a slot word by word, whatever the words of its list are.
+use Prim.Native.Nat.{ℕ}
+use mathlib.Core.Bool.{Bool, true, false, cond, _&&_}
+use mathlib.Core.List.{List, [], _∷_}
+use lib.Dec.{ltb}
+use lib.ListN.{drop, set}
 use Rattle.signals.specs.Signal.{num}
+use Rattle.signals.specs.Words.{dateOf, valueAt, valueAfter}
 use Rattle.signals.specs.Passing.{heldValue}
-use Rattle.reading.specs.Reading.{NEVER, nextDate, stepPast}
-use Rattle.reading.specs.declared.Step.{Step}
+use Rattle.reading.specs.Reading.{NEVER}
 use Rattle.building.specs.Building.{emitted, emittedIn, begun}
 use Rattle.building.specs.declared.Made.{Made}
-use Rattle.timing.specs.Delay.{timerNext, firstTimer, onLevel}
+use Rattle.timing.specs.Delay.{timer, timerNext, firstTimer, onLevel}
 use Rattle.timing.specs.declared.Timer.{Timer}
-use Rattle.delays.specs.Upcoming.{upcomingAfter}
-use Rattle.delays.specs.declared.Shown.{Shown}
 
--- what a delay shows at a date and after it, and its state then, its input having these values
+-- the delay's state, the answer being built, and the slot that it is built in
+pub record State : Type 0 where
+  pub timer : Timer
+  pub made : Made
+  pub slot : List ℕ
+
+abbrev pub stateOf : Timer → Made → List ℕ → State
+stateOf timer made slot = record { timer = timer; made = made; slot = slot }
+
+-- what a delay shows at a date and after it is put into the slot
+abbrev pub putAt : State → ℕ → Bool → Bool → Timer → State
+putAt s date at after next = stateOf next (emitted (s .made) date at after) (emittedIn (s .slot) (s .made) date at after)
+
+-- the pending change, where it comes before a date: the delay has its level from then on
+unfoldable pub settled : Bool → ℕ → State → State
+settled level next s =
+    cond (s .timer .waiting && ltb (s .timer .due .0) next)
+    (putAt s (s .timer .due .0) (onLevel level (s .timer .at)) level (timer true false (s .timer .due .0) (s .timer .at)))
+    s
+
+-- the delay at a date and after it, its input having these values
 abbrev pub timerAt : Bool → ℕ → Timer → ℕ → Bool → Timer
 timerAt level d s date at = timerNext s d date true (onLevel level at)
 
 abbrev pub timerAfter : Bool → ℕ → Timer → ℕ → Bool → Bool → Timer
 timerAfter level d s date at after = timerNext (timerAt level d s date at) d date false (onLevel level after)
 
-unfoldable pub shownAt : Bool → ℕ → Timer → ℕ → Bool → Bool → Shown
-shownAt level d s date at after =
-    record {
-      timer = timerAfter level d s date at after;
-      at = onLevel level (timerAt level d s date at .level);
-      after = onLevel level (timerAfter level d s date at after .level);
-    }
+-- past a date at which the input has these values
+unfoldable pub followed : Bool → ℕ → State → ℕ → Bool → Bool → State
+followed level d s date at after =
+    putAt s date (onLevel level (timerAt level d (s .timer) date at .level))
+    (onLevel level (timerAfter level d (s .timer) date at after .level)) (timerAfter level d (s .timer) date at after)
 
--- before a date: the words passed, the delay's state, the answer being built, the date, and the slot
-pub record State : Type 0 where
-  pub passed : ℕ
-  pub timer : Timer
-  pub made : Made
-  pub date : ℕ
-  pub slot : List ℕ
+-- past a word: first the change that comes before it
+unfoldable pub pastWord : Bool → ℕ → State → ℕ → State
+pastWord level d s w = followed level d (settled level (dateOf w) s) (dateOf w) (valueAt w) (valueAfter w)
 
-abbrev pub stateOf : ℕ → Timer → Made → ℕ → List ℕ → State
-stateOf passed timer made date slot = record { passed = passed; timer = timer; made = made; date = date; slot = slot }
+-- past all words, and the change that is pending then
+unfoldable pub pastWords : Bool → ℕ → List ℕ → State → State
+pastWords level d [] s = settled level NEVER s
+pastWords level d (w ∷ ws) s = pastWords level d ws (pastWord level d s w)
 
--- before the first date: the first word counts as passed, and the answer has its first word
-abbrev pub stateWith : Bool → List ℕ → List ℕ → Timer → State
-stateWith level l slot timer =
-    stateOf 1 timer (begun (onLevel level (timer .level))) (upcomingAfter 0 (nextDate l 1) timer)
-    (set slot 0 (num (onLevel level (timer .level))))
+-- before the second word: the answer has its first
+abbrev pub stateWith : Bool → List ℕ → Timer → State
+stateWith level slot timer =
+    stateOf timer (begun (onLevel level (timer .level))) (set slot 0 (num (onLevel level (timer .level))))
 
 unfoldable pub firstState : Bool → ℕ → List ℕ → List ℕ → State
-firstState level d l slot = stateWith level l slot (firstTimer level d (onLevel level (heldValue l 1)))
+firstState level d l slot = stateWith level slot (firstTimer level d (onLevel level (heldValue l 1)))
 
--- from a date to the next: its word is passed, the delay follows, and what it shows is put into the slot
-abbrev pub stateAfter : List ℕ → State → ℕ → Shown → State
-stateAfter l s passed shown =
-    stateOf passed (shown .timer) (emitted (s .made) (s .date) (shown .at) (shown .after))
-    (upcomingAfter (s .date) (nextDate l passed) (shown .timer))
-    (emittedIn (s .slot) (s .made) (s .date) (shown .at) (shown .after))
-
-abbrev pub stateBy : Bool → ℕ → List ℕ → State → Step → State
-stateBy level d l s step = stateAfter l s (step .passed) (shownAt level d (s .timer) (s .date) (step .at) (step .after))
-
-unfoldable pub nextState : Bool → ℕ → List ℕ → State → State
-nextState level d l s = stateBy level d l s (stepPast l (s .passed) (s .date))
-
--- the dates of a delay, up to the last state
-pub data Delays (level : Bool) (d : ℕ) (l : List ℕ) : State → State → Type 0 where
-  done : {s : State} → NEVER ≤ s .date → Delays level d l s s
-  turn : {s t : State} → s .date < NEVER → Delays level d l (nextState level d l s) t → Delays level d l s t
+-- the whole list
+unfoldable pub lastState : Bool → ℕ → List ℕ → List ℕ → State
+lastState level d l slot = pastWords level d (drop 1 l) (firstState level d l slot)

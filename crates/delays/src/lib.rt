@@ -2,16 +2,14 @@
 ghost use mathlib.Core.Path.{_≡_};
 ghost use mathlib.Core.Bool.{true};
 ghost use Prim.Native.Nat.{_+_, _≤_};
-ghost use lib.ListN.{length, set};
-ghost use Rattle.signals.specs.Signal.{TON, TOF, num};
+ghost use lib.ListN.{length, drop};
+ghost use Rattle.signals.specs.Signal.{TON, TOF};
 ghost use Rattle.signals.specs.Words.{mostWords};
 ghost use Rattle.operations.specs.Calls.{CallOfDelay};
-ghost use Rattle.building.specs.Building.{begun, emitted, emittedIn};
-ghost use Rattle.sources.specs.Sources.{listAt, apartFrom, slotIn, withSlot};
+ghost use Rattle.sources.specs.Sources.{listAt, apartFrom, slotIn};
 ghost use Rattle.timing.specs.Delay.{delayOf};
-ghost use Rattle.delays.specs.Upcoming.{upcomingDate, laterDate};
-ghost use Rattle.delays.specs.Turns.{shownAt};
-ghost use Rattle.delays.specs.DelayAt.{DelayedIn, mayDelay, DelayedAt};
+ghost use Rattle.delays.specs.Turns.{stateOf, settled, pastWord, pastWords, lastState};
+ghost use Rattle.delays.specs.DelayAt.{Ends, EndsIn, DelayedIn, mayDelay, DelayedAt};
 use building::Made;
 use building::SlotAnswer;
 use building::WORDS;
@@ -19,72 +17,105 @@ use signals::Date;
 use signals::Length;
 use signals::M;
 use signals::Written;
-use sources::Memory;
 use sources::Source;
 use timing::Timer;
 
-// The next date to look at: that of the next word or of the pending change.
-fn upcoming(next: u32, timer: Timer) -> Date
-    ensures { λ r. ⌜ r .0 ≡ upcomingDate next timer ⌝ }
+// A delay on its way: its state, and the answer being built.
+struct Going {
+    timer: Timer,
+    made: Made,
+}
+
+// The pending change, where it comes before a date, put into the slot. All is given back field by field, so that the bytes between the
+// fields are not copied in every turn of the loop.
+fn settle(slot: &mut [u32], level: bool, timer: Timer, made: Made, next: u32) -> Going
+    ensures { λ r. ⌜ stateOf (r .timer) (r .made) (now (slot .exit)) ≡ settled level next (stateOf timer made (now (slot .entry))) ⌝ }
 {
+    let due = timer.due;
     if timer.waiting {
-        let due = timer.due;
         if due.0 < next {
-            return due;
+            let here = timing::on_level(level, timer.at);
+            return Going {
+                timer: Timer {
+                    level: true,
+                    waiting: false,
+                    due,
+                    at: timer.at,
+                },
+                made: building::emit(slot, made, due, here, level),
+            };
         }
     }
-    Date(next)
-}
-
-// A date, or NEVER where it does not lie above the last one, so that a delay ends whatever the words are.
-fn later(last: Date, date: Date) -> Date
-    ensures { λ r. ⌜ r .0 ≡ laterDate (last .0) (date .0) ⌝ }
-{
-    if last.0 < date.0 {
-        return date;
+    Going {
+        timer: Timer {
+            level: timer.level,
+            waiting: timer.waiting,
+            due,
+            at: timer.at,
+        },
+        made: Made {
+            value: made.value,
+            count: made.count,
+            late: made.late,
+        },
     }
-    Date(reading::NEVER)
 }
 
-// What a delay shows at a date and after it, and its state then.
-struct Shown {
-    timer: Timer,
-    at: bool,
-    after: bool,
-}
-
-fn shown_at(level: bool, d: Length, timer: Timer, date: Date, at: bool, after: bool) -> Shown
-    ensures { λ r. ⌜ r ≡ shownAt level (d .0) timer (date .0) at after ⌝ }
+// Past a word: the change that comes before it, then the delay at its date and after it.
+fn pass(slot: &mut [u32], level: bool, d: Length, timer: Timer, made: Made, word: u32) -> Going
+    ensures { λ r.
+        ⌜ stateOf (r .timer) (r .made) (now (slot .exit)) ≡ pastWord level (d .0) (stateOf timer made (now (slot .entry))) word ⌝ }
 {
-    let now_at = timing::follow(timer, d, date, true, timing::on_level(level, at));
-    let now_after = timing::follow(now_at, d, date, false, timing::on_level(level, after));
-    Shown {
+    let date = Date(word / 4);
+    let before = settle(slot, level, timer, made, word / 4);
+    let here = timing::on_level(level, word / 2 % 2 == 1);
+    let next = timing::on_level(level, word % 2 == 1);
+    let now_at = timing::follow(before.timer, d, date, true, here);
+    let now_after = timing::follow(now_at, d, date, false, next);
+    let at = timing::on_level(level, now_at.level);
+    let after = timing::on_level(level, now_after.level);
+    Going {
         timer: now_after,
-        at: timing::on_level(level, now_at.level),
-        after: timing::on_level(level, now_after.level),
+        made: building::emit(slot, before.made, date, at, after),
     }
 }
 
-// The first word of the answer, and a word more, in the slot that begins at a place of the work area.
-fn begin_at(work: &mut [u32], at: usize, value: bool) -> Made
-    requires { ⌜ at + mostWords ≤ length (now work) ⌝ }
-    ensures { λ r. ⌜ (r ≡ begun value)
-        × (now (work .exit) ≡ withSlot (now (work .entry)) at mostWords (set (slotIn (now (work .entry)) at mostWords) 0 (num value))) ⌝ }
+// The words of a list from the second on, then the change that is still pending, in the slot from a place on.
+fn pass_words(
+    level: bool,
+    d: Length,
+    sheet: &[u8],
+    left: &[u32],
+    right: &[u32],
+    work: &mut [u32],
+    f: Source,
+    at: usize,
+    first: Timer,
+    begun: Made,
+) -> Made
+    requires { ⌜ (at + mostWords ≤ length (now work)) × (apartFrom f at mostWords ≡ true) ⌝ }
+    ensures { λ r.
+        ⌜ EndsIn (pastWords level (d .0)
+        (drop 1 (listAt (now (sheet .entry)) (now (left .entry)) (now (right .entry)) (now (work .entry)) f))
+        (stateOf first begun (slotIn (now (work .entry)) at mostWords))) (now (work .entry)) at mostWords r (now (work .exit)) ⌝ }
 {
     let end = at + WORDS;
-    building::begin(&mut work[at..end], value)
+    let mut timer = first;
+    let mut made = begun;
+    let mut passed: usize = 1;
+    let mut word = sources::next_word(sheet, left, right, work, f, 1);
+    while word < sources::NONE {
+        let going = pass(&mut work[at..end], level, d, timer, made, word as u32);
+        timer = going.timer;
+        made = going.made;
+        passed += 1;
+        word = sources::next_word(sheet, left, right, work, f, passed);
+    }
+    let going = settle(&mut work[at..end], level, timer, made, reading::NEVER);
+    going.made
 }
 
-fn emit_at(work: &mut [u32], at: usize, made: Made, date: Date, here: bool, after: bool) -> Made
-    requires { ⌜ at + mostWords ≤ length (now work) ⌝ }
-    ensures { λ r. ⌜ (r ≡ emitted made (date .0) here after) × (now (work .exit) ≡ withSlot (now (work .entry)) at mostWords
-        (emittedIn (slotIn (now (work .entry)) at mostWords) made (date .0) here after)) ⌝ }
-{
-    let end = at + WORDS;
-    building::emit(&mut work[at..end], made, date, here, after)
-}
-
-// The delay of one level of a list, built in the slot that begins at a place of the work area.
+// The delay of one level of a list, built in the slot from a place of the work area on.
 fn run(
     level: bool,
     d: Length,
@@ -97,21 +128,15 @@ fn run(
 ) -> Made
     requires { ⌜ (at + mostWords ≤ length (now work)) × (apartFrom f at mostWords ≡ true) ⌝ }
     ensures { λ r. ⌜ DelayedIn level (d .0) (listAt (now (sheet .entry)) (now (left .entry)) (now (right .entry)) (now (work .entry)) f)
-        (now (work .entry)) at r (now (work .exit)) ⌝ }
+        (now (work .entry)) at mostWords r (now (work .exit)) ⌝ }
 {
-    let mut x = sources::start(sheet, left, right, work, f);
-    let mut timer = timing::first(d, level, timing::on_level(level, x.last % 2 == 1));
-    let mut made = begin_at(work, at, timing::on_level(level, timer.level));
-    let mut date = later(Date(0), upcoming(x.date, timer));
-    while date.0 < reading::NEVER {
-        let u = sources::past(sheet, left, right, work, f, x, date);
-        let shown = shown_at(level, d, timer, date, u.step.at, u.step.after);
-        made = emit_at(work, at, made, date, shown.at, shown.after);
-        x = u.next;
-        timer = shown.timer;
-        date = later(date, upcoming(x.date, timer));
-    }
-    made
+    let end = at + WORDS;
+    let word = sources::next_word(sheet, left, right, work, f, 0);
+    let value = timing::on_level(level, word % 2 == 1);
+    let timer = timing::first(d, level, value);
+    let shown = timing::on_level(level, timer.level);
+    let made = building::begin(&mut work[at..end], shown);
+    pass_words(level, d, sheet, left, right, work, f, at, timer, made)
 }
 
 // Whether a delay begins: its length is at most M, and the slot is in the work area, apart from the operand.
@@ -149,6 +174,37 @@ pub fn delay_at(
     SlotAnswer::NotBegun
 }
 
+// The delay of one level of a list, built in a slot of any length. The loop has the body of `pass` once more: called in two loops, it would
+// be put into neither, at twice the time.
+fn delay_words(level: bool, d: Length, f: &[u32], slot: &mut [u32]) -> Made
+    requires { ⌜ 1 ≤ length (now f) ⌝ }
+    ensures { λ r. ⌜ Ends (lastState level (d .0) (now (f .entry)) (now (slot .entry))) r (now (slot .exit)) ⌝ }
+{
+    let value = timing::on_level(level, f[0] % 2 == 1);
+    let mut timer = timing::first(d, level, value);
+    let shown = timing::on_level(level, timer.level);
+    let mut made = building::begin(slot, shown);
+    let mut i: usize = 1;
+    while i < f.len() {
+        let word = f[i];
+        let date = Date(word / 4);
+        let before = settle(slot, level, timer, made, word / 4);
+        let here = timing::on_level(level, word / 2 % 2 == 1);
+        let next = timing::on_level(level, word % 2 == 1);
+        let now_at = timing::follow(before.timer, d, date, true, here);
+        timer = timing::follow(now_at, d, date, false, next);
+        let at = timing::on_level(level, now_at.level);
+        let after = timing::on_level(level, timer.level);
+        made = building::emit(slot, before.made, date, at, after);
+        i += 1;
+    }
+    let last = settle(slot, level, timer, made, reading::NEVER);
+    last.made
+}
+
+// The words of a slot for the answer of a short list.
+const SHORT: usize = 32;
+
 // A delay of a list that is judged first, its answer delivered to an output.
 fn delay(level: bool, d: Length, f: &[u32], out: &mut [u32]) -> Written
     ensures { λ r. ⌜ CallOfDelay (delayOf level (d .0)) (d .0) (now (f .entry)) (now (out .entry)) r (now (out .exit)) ⌝ }
@@ -161,13 +217,15 @@ fn delay(level: bool, d: Length, f: &[u32], out: &mut [u32]) -> Written
     if M < ticks {
         return Written::Refused(8);
     }
+    if 2 * f.len() <= SHORT {
+        let mut slot = [0u32; SHORT];
+        let made = delay_words(level, d, f, &mut slot);
+        if made.count as usize <= SHORT {
+            return building::deliver(&slot, made, out);
+        }
+    }
     let mut slot = [0u32; WORDS];
-    let list = Source {
-        memory: Memory::Left,
-        at: 0,
-        count: f.len() as u32,
-    };
-    let made = run(level, d, b"", f, f, &mut slot, list, 0);
+    let made = delay_words(level, d, f, &mut slot);
     building::deliver(&slot, made, out)
 }
 

@@ -1,12 +1,11 @@
 -- `delays::delay` meets its contract: list and length are judged, then the engine's answer is delivered.
 use native.Mathlib.Omega.{arith}
 use mathlib.Core.Path.{refl, sym, _∙_}
-use Rattle.signals.proofs.Normal.{accepted-normal}
+use lib.ListN.{replicate}
+use Rattle.signals.proofs.Normal.{accepted-normal, accepted-start}
 use Rattle.operations.proofs.JudgedCalls.{refused, passes-on}
-use Rattle.building.proofs.Delivering.{delivered}
-use Rattle.sources.proofs.Sourcing.{whole-left}
 use Rattle.delays.proofs.DelayJudged.{fault-order, list-first, length-next, neither}
-use Rattle.delays.proofs.DelayedExact.{delayed-whole}
+use Rattle.delays.proofs.DelayedExact.{delay-answers}
 use borrow.Author.Needs.{needs}
 use Rattle.delays.proofs.delay.Statement.{statement}
 use Rattle.delays.proofs.delay.Tie as tie
@@ -24,18 +23,20 @@ returns-2 c =
     (refused _ _ _ _ _ (length-next _ _ _ (c .before .before .list-fault .ensures) (c .before .if1 .left) (c .if2 .taken))
     (λ z. omega (arith, z)))
 
-cast-t14 : tie.Need-cast-t14
-cast-t14 c =
+mul-if3 : tie.Need-mul-if3
+mul-if3 c =
     omega (arith, accepted-normal _ .0 (sym (c .before .before .list-fault .ensures) ∙ c .before .if1 .left) .1)
 
-slice-aggregate-run : tie.Need-slice-aggregate-run
-slice-aggregate-run c = search needs
+slice-aggregate-delay-words : tie.Need-slice-aggregate-delay-words
+slice-aggregate-delay-words c = search needs
 
-slice-aggregate-run-2 : tie.Need-slice-aggregate-run-2
-slice-aggregate-run-2 c = search needs
+delay-words-requires : tie.Need-delay-words-requires
+delay-words-requires c κs =
+    let test = c .before .before .before in
+    omega (arith, accepted-start _ (sym (test .before .list-fault .ensures) ∙ test .if1 .left) .within)
 
-run-requires : tie.Need-run-requires
-run-requires c κs = search needs
+cast-if4 : tie.Need-cast-if4
+cast-if4 c = search needs
 
 slice-aggregate-deliver : tie.Need-slice-aggregate-deliver
 slice-aggregate-deliver c = search needs
@@ -48,16 +49,45 @@ same-length c = search needs
 
 returns-3 : tie.Need-returns-3
 returns-3 c =
-    let test = c .before .before .before .before .before .before .before .before .before in
+    let count = c .before .before .before .before .before in
+    let ran = count .before .before .before in
+    let test = ran .before .before .before in
     let judged = test .before .before in
     let accepted = sym (judged .list-fault .ensures) ∙ test .before .if1 .left in
-    let built =
-    delayed-whole _ _ _ _ _ _ refl accepted (test .if2 .left) (λ i. judged .before .before .shared-slice-known .given i .fits)
-    (rw (whole-left _ _ _ _) at (c .before .before .before .before .before .before .run .ensures)) in
     rw (← (fault-order _ _ _ _))
     (passes-on _ _ _ _ _ _ (sym (neither _ _ _ (judged .list-fault .ensures) (test .before .if1 .left) (test .if2 .left)))
-    (delivered _ _ _ _ built (λ h. omega arith) (omega arith) (judged .before .before .before .args .out .now) _ _
-    (c .before .before .deliver .ensures)))
+    (delay-answers _ _ _ accepted (test .if2 .left) (λ i. judged .before .before .shared-slice-known .given i .fits) (replicate 32 0)
+    _ _ (ran .delay-words .ensures) (λ h. count .if4 .taken) (ran .delay-words .kept .1 .1 .1 .0)
+    (judged .before .before .before .args .out .now) _ _ (c .before .before .deliver .ensures)))
+
+slice-aggregate-delay-words-2 : tie.Need-slice-aggregate-delay-words-2
+slice-aggregate-delay-words-2 c = search needs
+
+delay-words-requires-2 : tie.Need-delay-words-requires-2
+delay-words-requires-2 c κs =
+    let test = c .before .before .before in
+    omega (arith, accepted-start _ (sym (test .before .list-fault .ensures) ∙ test .if1 .left) .within)
+
+slice-aggregate-deliver-2 : tie.Need-slice-aggregate-deliver-2
+slice-aggregate-deliver-2 c = search needs
+
+deliver-requires-2 : tie.Need-deliver-requires-2
+deliver-requires-2 c κs = search needs
+
+same-length-2 : tie.Need-same-length-2
+same-length-2 c = search needs
+
+returns-4 : tie.Need-returns-4
+returns-4 c =
+    let ran = c .before .before .before .before .before .before in
+    let test = ran .before .before .before in
+    let judged = test .before .before in
+    let accepted = sym (judged .list-fault .ensures) ∙ test .before .if1 .left in
+    rw (← (fault-order _ _ _ _))
+    (passes-on _ _ _ _ _ _ (sym (neither _ _ _ (judged .list-fault .ensures) (test .before .if1 .left) (test .if2 .left)))
+    (delay-answers _ _ _ accepted (test .if2 .left) (λ i. judged .before .before .shared-slice-known .given i .fits) (replicate 256 0)
+    _ _ (ran .delay-words2 .ensures) (λ h. h) (ran .delay-words2 .kept .1 .1 .1 .0)
+    (judged .before .before .before .args .out .now) _ _ (c .before .before .deliver2 .ensures)))
 
 pub delay-spec : {M : Type 1} → statement M
 delay-spec =
@@ -66,11 +96,17 @@ delay-spec =
     list-fault-requires
     returns
     returns-2
-    cast-t14
-    slice-aggregate-run
-    slice-aggregate-run-2
-    run-requires
+    mul-if3
+    slice-aggregate-delay-words
+    delay-words-requires
+    cast-if4
     slice-aggregate-deliver
     deliver-requires
     same-length
-    returns-3)
+    returns-3
+    slice-aggregate-delay-words-2
+    delay-words-requires-2
+    slice-aggregate-deliver-2
+    deliver-requires-2
+    same-length-2
+    returns-4)
