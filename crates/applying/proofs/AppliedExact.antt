@@ -25,8 +25,8 @@ use Rattle.showing.specs.Showing.{merged}
 use Rattle.timing.specs.Delay.{delayOf}
 use Rattle.merging.proofs.OneOperand.{none}
 use Rattle.merging.proofs.MergedExact.{merged-exact}
-use Rattle.delays.specs.Turns.{lastState}
-use Rattle.delays.proofs.DelayedExact.{delayed-exact}
+use Rattle.delaying.specs.Turns.{lastState}
+use Rattle.delaying.proofs.DelayedExact.{delayed-exact}
 use Rattle.grammar.specs.Kinds as kinds
 use Rattle.grammar.specs.Tree.{ton, tof}
 use Rattle.applying.specs.PartCalls.{partAnswer, unaryIn, unaryFault, unaryExact, judgedFor, exactFor}

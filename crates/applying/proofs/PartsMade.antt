@@ -24,8 +24,8 @@ use Rattle.sources.specs.declared.Memory.the-variants.{Right}
 use Rattle.sources.specs.declared.Source.{Source}
 use Rattle.sources.proofs.Sourcing.{slot-long, slot-kept}
 use Rattle.merging.specs.Merging.{mayMerge, MergedAt}
-use Rattle.delays.specs.DelayAt.{mayDelay, DelayedAt}
-use Rattle.delays.specs.Turns.{State, lastState}
+use Rattle.delay_parts.specs.DelayAt.{mayDelay, DelayedAt}
+use Rattle.delaying.specs.Turns.{State, lastState}
 use Rattle.grammar.specs.Kinds as kinds
 use Rattle.code_words.specs.CodeWords.{constants}
 use Rattle.applying.specs.PartCalls.{partAnswer}

@@ -16,7 +16,7 @@ use Rattle.building.specs.declared.Made.{Made}
 use Rattle.sources.specs.Sources.{listAt, withSlot}
 use Rattle.sources.specs.declared.Source.{Source}
 use Rattle.merging.specs.Merging.{Merges, begunIn, mayMerge}
-use Rattle.delays.specs.Turns.{lastState}
+use Rattle.delaying.specs.Turns.{lastState}
 use Rattle.grammar.specs.Kinds as kinds
 use Rattle.code_words.specs.CodeWords.{constants}
 use Rattle.applying.specs.PartCalls.{partAnswer}

@@ -99,7 +99,7 @@ fn delayed_at(code: u64, sheet: &[u8], work: &mut [u32], a: Source, at: u32) -> 
 {
     let ticks = (code / 16 % 4294967296) as u32;
     let on_delay = code % 16 == kind::TON;
-    part_answer(delays::delay_at(
+    part_answer(delay_parts::delay_at(
         on_delay,
         Length(ticks),
         sheet,

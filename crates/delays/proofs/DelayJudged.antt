@@ -1,25 +1,14 @@
 -- A delay's faults in their order: list, 8, then those of the answer.
-use Prim.Native.Nat.{ℕ, _+_, _≤_, _<_}
-use mathlib.Core.Path.{_≡_, refl, sym, _∙_}
-use mathlib.Core.Bool.{Bool, true, false, _&&_}
+use Prim.Native.Nat.{ℕ, _≤_, _<_}
+use mathlib.Core.Path.{_≡_, sym, _∙_}
 use mathlib.Core.List.{List}
-use lib.Dec.{leb}
-use lib.ListN.{length}
-use borrow.Author.Tests.{lt-ltb, le-ltb, lt-leb, le-leb, leb-true}
+use borrow.Author.Tests.{lt-ltb, le-ltb}
 use Rattle.signals.specs.Moment.{M}
 use Rattle.signals.specs.Signal.{Signal}
-use Rattle.signals.specs.Words.{mostWords, listFault}
+use Rattle.signals.specs.Words.{listFault}
 use Rattle.signals.specs.Answers.{firstOf}
-use Rattle.signals.proofs.Truth.{true-false, and-left, and-right}
 use Rattle.signals.proofs.FirstFault.{first-assoc, first-is, next-is}
 use Rattle.operations.specs.Calls.{lengthFault, answerFault, exactOfDelay, faultOfDelay}
-use Rattle.building.specs.Slots.{madeAnswer}
-use Rattle.building.specs.declared.Made.{Made}
-use Rattle.building.specs.declared.SlotAnswer.{SlotAnswer}
-use Rattle.building.specs.declared.SlotAnswer.the-variants.{NotBegun}
-use Rattle.sources.specs.Sources.{listAt, apartFrom}
-use Rattle.sources.specs.declared.Source.{Source}
-use Rattle.delays.specs.DelayAt.{DelayedIn, mayDelay, DelayedAt}
 
 pub fault-order : (operation : Signal → Signal) (d : ℕ) (l : List ℕ) (n : ℕ)
     → firstOf (firstOf (listFault l) (lengthFault d)) (answerFault (exactOfDelay operation d l) n) ≡ faultOfDelay operation d l n
@@ -37,40 +26,3 @@ length-next f l d e z h = sym (next-is (listFault l) (lengthFault d) (sym e ∙ 
 pub neither : (f : ℕ) (l : List ℕ) (d : ℕ) → f ≡ listFault l → f ≡ 0 → d ≤ M → 0 ≡ firstOf (listFault l) (lengthFault d)
 unfolding lengthFault
 neither f l d e z h = sym (next-is (listFault l) (lengthFault d) (sym e ∙ z) ∙ rw (le-ltb M d h))
-
--- the tests that a delay in a slot of the work area makes before it begins
-module _ (d : ℕ) (f : Source) (at room : ℕ) where
-  pub too-long : M < d → false ≡ mayDelay d f at room
-  unfolding mayDelay
-  too-long h = rw (lt-leb d M h)
-
-  pub may-all : mayDelay d f at room ≡ true → (d ≤ M) × (at + mostWords ≤ room) × (apartFrom f at mostWords ≡ true)
-  unfolding mayDelay
-  may-all e =
-      let fits = and-right (leb d M) (leb (at + mostWords) room && apartFrom f at mostWords) e in (
-        leb-true d M (and-left (leb d M) (leb (at + mostWords) room && apartFrom f at mostWords) e),
-        leb-true (at + mostWords) room (and-left (leb (at + mostWords) room) (apartFrom f at mostWords) fits),
-        and-right (leb (at + mostWords) room) (apartFrom f at mostWords) fits,
-      )
-
-  module _ (h : d ≤ M) where
-    pub no-room : room < at + mostWords → false ≡ mayDelay d f at room
-    unfolding mayDelay
-    no-room r = rw (le-leb d M h, lt-leb (at + mostWords) room r)
-
-    pub apart-or-not : at + mostWords ≤ room → apartFrom f at mostWords ≡ mayDelay d f at room
-    unfolding mayDelay
-    apart-or-not r = rw (le-leb d M h, le-leb (at + mostWords) room r)
-
--- the whole call, by whether it begins
-module _ (level : Bool) (d : ℕ) (sheet left right work : List ℕ) (f : Source) (at : ℕ) (begins : Bool)
-    (e : begins ≡ mayDelay d f at (length work))
-  where
-    pub at-rest : begins ≡ false → DelayedAt level d sheet left right work f at NotBegun work
-    at-rest n = record { refused = λ z. (refl, refl); built = λ z. true-false (sym z ∙ sym e ∙ n) }
-
-    pub at-work : begins ≡ true → (made : Made) (after : List ℕ)
-        → DelayedIn level d (listAt sheet left right work f) work at mostWords made after
-        → (answer : SlotAnswer) → answer ≡ madeAnswer made → DelayedAt level d sheet left right work f at answer after
-    at-work y made after ran answer q =
-        record { refused = λ z. true-false (sym y ∙ e ∙ z); built = λ z. (made, ran, q) }

@@ -1,8 +1,2 @@
--- The engine of the delays builds the list of its signal.
-pub mod DelayUpcoming
-pub mod DelayLoop
+-- The calls of the delays.
 pub mod DelayJudged
-pub mod DelayedExact
-pub mod SlotParts
-pub mod DelayRun
-pub mod WordTests

@@ -1,178 +1,17 @@
 // On-delay and off-delay: one engine that follows one level of its input.
 ghost use mathlib.Core.Path.{_≡_};
-ghost use mathlib.Core.Bool.{true};
-ghost use Prim.Native.Nat.{_+_, _≤_};
-ghost use lib.ListN.{length, drop};
+ghost use Prim.Native.Nat.{_≤_};
+ghost use lib.ListN.{length};
 ghost use Rattle.signals.specs.Signal.{TON, TOF};
-ghost use Rattle.signals.specs.Words.{mostWords};
 ghost use Rattle.operations.specs.Calls.{CallOfDelay};
-ghost use Rattle.sources.specs.Sources.{listAt, apartFrom, slotIn};
 ghost use Rattle.timing.specs.Delay.{delayOf};
-ghost use Rattle.delays.specs.Turns.{stateOf, settled, pastWord, pastWords, lastState};
-ghost use Rattle.delays.specs.DelayAt.{Ends, EndsIn, DelayedIn, mayDelay, DelayedAt};
+ghost use Rattle.delaying.specs.Turns.{lastState, Ends};
 use building::Made;
-use building::SlotAnswer;
 use building::WORDS;
 use signals::Date;
 use signals::Length;
 use signals::M;
 use signals::Written;
-use sources::Source;
-use timing::Timer;
-
-// A delay on its way: its state, and the answer being built.
-struct Going {
-    timer: Timer,
-    made: Made,
-}
-
-// The pending change, where it comes before a date, put into the slot. All is given back field by field, so that the bytes between the
-// fields are not copied in every turn of the loop.
-fn settle(slot: &mut [u32], level: bool, timer: Timer, made: Made, next: u32) -> Going
-    ensures { λ r. ⌜ stateOf (r .timer) (r .made) (now (slot .exit)) ≡ settled level next (stateOf timer made (now (slot .entry))) ⌝ }
-{
-    let due = timer.due;
-    if timer.waiting {
-        if due.0 < next {
-            let here = timing::on_level(level, timer.at);
-            return Going {
-                timer: Timer {
-                    level: true,
-                    waiting: false,
-                    due,
-                    at: timer.at,
-                },
-                made: building::emit(slot, made, due, here, level),
-            };
-        }
-    }
-    Going {
-        timer: Timer {
-            level: timer.level,
-            waiting: timer.waiting,
-            due,
-            at: timer.at,
-        },
-        made: Made {
-            value: made.value,
-            count: made.count,
-            late: made.late,
-        },
-    }
-}
-
-// Past a word: the change that comes before it, then the delay at its date and after it.
-fn pass(slot: &mut [u32], level: bool, d: Length, timer: Timer, made: Made, word: u32) -> Going
-    ensures { λ r.
-        ⌜ stateOf (r .timer) (r .made) (now (slot .exit)) ≡ pastWord level (d .0) (stateOf timer made (now (slot .entry))) word ⌝ }
-{
-    let date = Date(word / 4);
-    let before = settle(slot, level, timer, made, word / 4);
-    let here = timing::on_level(level, word / 2 % 2 == 1);
-    let next = timing::on_level(level, word % 2 == 1);
-    let now_at = timing::follow(before.timer, d, date, true, here);
-    let now_after = timing::follow(now_at, d, date, false, next);
-    let at = timing::on_level(level, now_at.level);
-    let after = timing::on_level(level, now_after.level);
-    Going {
-        timer: now_after,
-        made: building::emit(slot, before.made, date, at, after),
-    }
-}
-
-// The words of a list from the second on, then the change that is still pending, in the slot from a place on.
-fn pass_words(
-    level: bool,
-    d: Length,
-    sheet: &[u8],
-    left: &[u32],
-    right: &[u32],
-    work: &mut [u32],
-    f: Source,
-    at: usize,
-    first: Timer,
-    begun: Made,
-) -> Made
-    requires { ⌜ (at + mostWords ≤ length (now work)) × (apartFrom f at mostWords ≡ true) ⌝ }
-    ensures { λ r.
-        ⌜ EndsIn (pastWords level (d .0)
-        (drop 1 (listAt (now (sheet .entry)) (now (left .entry)) (now (right .entry)) (now (work .entry)) f))
-        (stateOf first begun (slotIn (now (work .entry)) at mostWords))) (now (work .entry)) at mostWords r (now (work .exit)) ⌝ }
-{
-    let end = at + WORDS;
-    let mut timer = first;
-    let mut made = begun;
-    let mut passed: usize = 1;
-    let mut word = sources::next_word(sheet, left, right, work, f, 1);
-    while word < sources::NONE {
-        let going = pass(&mut work[at..end], level, d, timer, made, word as u32);
-        timer = going.timer;
-        made = going.made;
-        passed += 1;
-        word = sources::next_word(sheet, left, right, work, f, passed);
-    }
-    let going = settle(&mut work[at..end], level, timer, made, reading::NEVER);
-    going.made
-}
-
-// The delay of one level of a list, built in the slot from a place of the work area on.
-fn run(
-    level: bool,
-    d: Length,
-    sheet: &[u8],
-    left: &[u32],
-    right: &[u32],
-    work: &mut [u32],
-    f: Source,
-    at: usize,
-) -> Made
-    requires { ⌜ (at + mostWords ≤ length (now work)) × (apartFrom f at mostWords ≡ true) ⌝ }
-    ensures { λ r. ⌜ DelayedIn level (d .0) (listAt (now (sheet .entry)) (now (left .entry)) (now (right .entry)) (now (work .entry)) f)
-        (now (work .entry)) at mostWords r (now (work .exit)) ⌝ }
-{
-    let end = at + WORDS;
-    let word = sources::next_word(sheet, left, right, work, f, 0);
-    let value = timing::on_level(level, word % 2 == 1);
-    let timer = timing::first(d, level, value);
-    let shown = timing::on_level(level, timer.level);
-    let made = building::begin(&mut work[at..end], shown);
-    pass_words(level, d, sheet, left, right, work, f, at, timer, made)
-}
-
-// Whether a delay begins: its length is at most M, and the slot is in the work area, apart from the operand.
-fn begins(d: Length, f: Source, at: u32, room: usize) -> bool
-    ensures { λ r. ⌜ r ≡ mayDelay (d .0) f at room ⌝ }
-{
-    let length = d.0;
-    if M < length {
-        return false;
-    }
-    if room < at as usize + WORDS {
-        return false;
-    }
-    sources::apart(f, at, WORDS as u32)
-}
-
-// The delay of one level of a list that stands anywhere, in a slot of the work area: no entry point, since the slot is scratch.
-pub fn delay_at(
-    level: bool,
-    d: Length,
-    sheet: &[u8],
-    left: &[u32],
-    right: &[u32],
-    work: &mut [u32],
-    f: Source,
-    at: u32,
-) -> SlotAnswer
-    ensures { λ r. ⌜ DelayedAt level (d .0) (now (sheet .entry)) (now (left .entry)) (now (right .entry)) (now (work .entry)) f at r
-        (now (work .exit)) ⌝ }
-{
-    if begins(d, f, at, work.len()) {
-        let made = run(level, d, sheet, left, right, work, f, at as usize);
-        return building::finish(made);
-    }
-    SlotAnswer::NotBegun
-}
 
 // The delay of one level of a list, built in a slot of any length. The loop has the body of `pass` once more: called in two loops, it would
 // be put into neither, at twice the time.
@@ -188,7 +27,7 @@ fn delay_words(level: bool, d: Length, f: &[u32], slot: &mut [u32]) -> Made
     while i < f.len() {
         let word = f[i];
         let date = Date(word / 4);
-        let before = settle(slot, level, timer, made, word / 4);
+        let before = delaying::settle(slot, level, timer, made, word / 4);
         let here = timing::on_level(level, word / 2 % 2 == 1);
         let next = timing::on_level(level, word % 2 == 1);
         let now_at = timing::follow(before.timer, d, date, true, here);
@@ -198,7 +37,7 @@ fn delay_words(level: bool, d: Length, f: &[u32], slot: &mut [u32]) -> Made
         made = building::emit(slot, before.made, date, at, after);
         i += 1;
     }
-    let last = settle(slot, level, timer, made, reading::NEVER);
+    let last = delaying::settle(slot, level, timer, made, reading::NEVER);
     last.made
 }
 

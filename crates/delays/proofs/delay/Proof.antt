@@ -5,7 +5,7 @@ use lib.ListN.{replicate}
 use Rattle.signals.proofs.Normal.{accepted-normal, accepted-start}
 use Rattle.operations.proofs.JudgedCalls.{refused, passes-on}
 use Rattle.delays.proofs.DelayJudged.{fault-order, list-first, length-next, neither}
-use Rattle.delays.proofs.DelayedExact.{delay-answers}
+use Rattle.delaying.proofs.DelayedExact.{delay-answers}
 use borrow.Author.Needs.{needs}
 use Rattle.delays.proofs.delay.Statement.{statement}
 use Rattle.delays.proofs.delay.Tie as tie

@@ -5,8 +5,8 @@ use mathlib.Core.Path.{_≡_, refl, sym, _∙_, ap}
 use lib.ListN.{length, drop}
 use Rattle.signals.specs.Words.{dateOf, valueAt, valueAfter}
 use Rattle.signals.specs.Passing.{heldValue}
-use Rattle.delays.specs.Turns.{State, stateOf, pastWords, lastState}
-use Rattle.delays.proofs.WordTests.{begins, passes, leads-on, leads-home}
+use Rattle.delaying.specs.Turns.{State, stateOf, pastWords, lastState}
+use Rattle.delaying.proofs.WordTests.{begins, passes, leads-on, leads-home}
 use borrow.Author.Needs.{needs}
 use Rattle.delays.proofs.delay_words.Statement.{statement}
 use Rattle.delays.proofs.delay_words.Tie as tie

@@ -1,5 +1,6 @@
 -- Mirrored: A delay built in a slot word by word, whatever the words of its list are.
 use Prim.Native.Nat.{ℕ}
+use mathlib.Core.Path.{_≡_}
 use mathlib.Core.Bool.{Bool, true, false, cond, _&&_}
 use mathlib.Core.List.{List, [], _∷_}
 use lib.Dec.{ltb}
@@ -66,3 +67,7 @@ firstState level d l slot = stateWith level slot (firstTimer level d (onLevel le
 -- the whole list
 unfoldable pub lastState : Bool → ℕ → List ℕ → List ℕ → State
 lastState level d l slot = pastWords level d (drop 1 l) (firstState level d l slot)
+
+-- an answer built in a slot: this state is the last
+abbrev pub Ends : State → Made → List ℕ → Type 0
+Ends last made slot = (made ≡ last .made) × (slot ≡ last .slot)

@@ -1,8 +1,8 @@
--- `delays::settle` puts the pending change into the slot where it comes before the date.
-use Rattle.delays.proofs.WordTests.{comes, not-yet, none-waits}
+-- `delaying::settle` puts the pending change into the slot where it comes before the date.
+use Rattle.delaying.proofs.WordTests.{comes, not-yet, none-waits}
 use borrow.Author.Needs.{needs}
-use Rattle.delays.proofs.settle.Statement.{statement}
-use Rattle.delays.proofs.settle.Tie as tie
+use Rattle.delaying.proofs.settle.Statement.{statement}
+use Rattle.delaying.proofs.settle.Tie as tie
 
 on-level-requires : tie.Need-on-level-requires
 on-level-requires c κs = search needs

@@ -26,7 +26,7 @@ use Rattle.timing.specs.declared.Timer.{Timer}
 use Rattle.building.proofs.Scanning.{Scanning, scanning-begin, scanning-emit, scanning-done}
 use Rattle.timing.proofs.DelaySignals.{delayed-down}
 use Rattle.timing.proofs.DelayTiming.{Timed, timed-value, timed-still, timed-first}
-use Rattle.delays.proofs.DelayUpcoming.{Upcoming, upcomingDate, upcoming-is}
+use Rattle.delaying.proofs.DelayUpcoming.{Upcoming, upcomingDate, upcoming-is}
 use Rattle.timing.proofs.DelayTurn.{timed-after, delay-held}
 
 -- the answer up to date k is in the slot, k's word is passed, and the delay's state is that in gap k

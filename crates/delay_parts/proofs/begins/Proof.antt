@@ -1,9 +1,9 @@
--- `delays::begins` tests the length, then the slot, then the operand.
+-- `delay_parts::begins` tests the length, then the slot, then the operand.
 use mathlib.Core.Path.{_∙_}
-use Rattle.delays.proofs.DelayJudged.{too-long, no-room, apart-or-not}
+use Rattle.delay_parts.proofs.DelayBegins.{too-long, no-room, apart-or-not}
 use borrow.Author.Needs.{needs}
-use Rattle.delays.proofs.begins.Statement.{statement}
-use Rattle.delays.proofs.begins.Tie as tie
+use Rattle.delay_parts.proofs.begins.Statement.{statement}
+use Rattle.delay_parts.proofs.begins.Tie as tie
 
 returns : tie.Need-returns
 returns c = too-long _ _ _ _ (c .if1 .taken)

@@ -1,4 +1,4 @@
--- `delays::pass_words` passes word by word what is left of the list: its loop keeps `Running`.
+-- `delay_parts::pass_words` passes word by word what is left of the list: its loop keeps `Running`.
 use Prim.Native.Nat.{_+_, _-_}
 use native.Mathlib.Omega.{arith}
 use mathlib.Core.Path.{_≡_, refl, _∙_}
@@ -6,12 +6,12 @@ use lib.ListN.{length}
 use Rattle.signals.specs.Words.{mostWords}
 use Rattle.sources.specs.Sources.{listAt, slotIn}
 use Rattle.sources.proofs.Sourcing.{words-at}
-use Rattle.delays.specs.Turns.{stateOf}
-use Rattle.delays.proofs.DelayRun.{Placed, Running, running-first, running-length, is-left, few-passed, small}
-use Rattle.delays.proofs.DelayRun.{lent-length, running-turn, running-end}
+use Rattle.delaying.specs.Turns.{stateOf}
+use Rattle.delay_parts.proofs.DelayRun.{Placed, Running, running-first, running-length, is-left, few-passed, small}
+use Rattle.delay_parts.proofs.DelayRun.{lent-length, running-turn, running-end}
 use borrow.Author.Needs.{needs}
-use Rattle.delays.proofs.pass_words.Statement.{statement}
-use Rattle.delays.proofs.pass_words.Tie as tie
+use Rattle.delay_parts.proofs.pass_words.Statement.{statement}
+use Rattle.delay_parts.proofs.pass_words.Tie as tie
 
 abbrev Inv-loop : tie.InvT-loop
 Inv-loop level d sheet left right work₀ f at end timer₀ made₀ passed₀ word₀ work timer made passed word =

@@ -1,14 +1,14 @@
--- `delays::run` puts the first word into the slot; the words left lead to the rest.
+-- `delay_parts::run` puts the first word into the slot; the words left lead to the rest.
 use Prim.Native.Nat.{_+_, _-_}
 use native.Mathlib.Omega.{arith}
 use mathlib.Core.Path.{_≡_, _∙_}
 use mathlib.Core.List.{_++_}
 use lib.ListN.{length, take, drop}
 use Rattle.signals.specs.Words.{mostWords, valueAfter}
-use Rattle.delays.proofs.DelayRun.{first-length, begun-run}
+use Rattle.delay_parts.proofs.DelayRun.{first-length, begun-run}
 use borrow.Author.Needs.{needs}
-use Rattle.delays.proofs.run.Statement.{statement}
-use Rattle.delays.proofs.run.Tie as tie
+use Rattle.delay_parts.proofs.run.Statement.{statement}
+use Rattle.delay_parts.proofs.run.Tie as tie
 
 abbrev start : tie.After-slice-known → tie.Start
 start c = c .before .before .before .before

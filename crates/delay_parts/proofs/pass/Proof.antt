@@ -1,10 +1,10 @@
--- `delays::pass` settles what comes before the word, and follows its two values.
+-- `delay_parts::pass` settles what comes before the word, and follows its two values.
 use Rattle.signals.specs.Words.{dateOf, valueAt, valueAfter}
-use Rattle.delays.specs.Turns.{stateOf}
-use Rattle.delays.proofs.WordTests.{passes}
+use Rattle.delaying.specs.Turns.{stateOf}
+use Rattle.delaying.proofs.WordTests.{passes}
 use borrow.Author.Needs.{needs}
-use Rattle.delays.proofs.pass.Statement.{statement}
-use Rattle.delays.proofs.pass.Tie as tie
+use Rattle.delay_parts.proofs.pass.Statement.{statement}
+use Rattle.delay_parts.proofs.pass.Tie as tie
 
 settle-requires : tie.Need-settle-requires
 settle-requires c κs = search needs

@@ -33,11 +33,10 @@ use Rattle.timing.specs.Delay.{timer, timerNext, reached, risen, onLevel, level
 use Rattle.timing.specs.declared.Timer.{Timer}
 use Rattle.timing.proofs.DelayCases.{next-up, next-waiting}
 use Rattle.timing.proofs.DelayTiming.{TimedBy, Timed}
-use Rattle.sources.specs.Sources.{slotIn, withSlot}
-use Rattle.delays.specs.Turns.{State, stateOf, settled, followed, pastWord, pastWords, firstState, lastState}
-use Rattle.delays.specs.DelayAt.{Ends}
-use Rattle.delays.proofs.DelayUpcoming.{upcomingDate, next-in, next-end}
-use Rattle.delays.proofs.DelayLoop.{Delaying, gap-value, delaying-begin, delaying-turn, delaying-done}
+use Rattle.delaying.specs.Turns.{State, stateOf, settled, followed, pastWord, pastWords, firstState, lastState}
+use Rattle.delaying.specs.Turns.{Ends}
+use Rattle.delaying.proofs.DelayUpcoming.{upcomingDate, next-in, next-end}
+use Rattle.delaying.proofs.DelayLoop.{Delaying, gap-value, delaying-begin, delaying-turn, delaying-done}
 
 -- The pending change of a delay whose input stays at the level: it comes at its instant, or after it.
 module _ (s : Timer) (d : ℕ) (low : s .level ≡ false) (waits : s .waiting ≡ true) where

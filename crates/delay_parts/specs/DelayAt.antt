@@ -13,12 +13,9 @@ use Rattle.building.specs.Slots.{madeAnswer}
 use Rattle.building.specs.declared.Made.{Made}
 use Rattle.building.specs.declared.SlotAnswer.{SlotAnswer}
 use Rattle.building.specs.declared.SlotAnswer.the-variants.{NotBegun}
-use Rattle.delays.specs.Turns.{State, lastState}
+use Rattle.delaying.specs.Turns.{State, lastState}
 
--- an answer built in a slot, and in the slot of `room` words from `at` on: this state is the last
-abbrev pub Ends : State → Made → List ℕ → Type 0
-Ends last made slot = (made ≡ last .made) × (slot ≡ last .slot)
-
+-- an answer built in the slot of `room` words from `at` on: this state is the last
 abbrev pub EndsIn : State → List ℕ → ℕ → ℕ → Made → List ℕ → Type 0
 EndsIn last work at room made after = (made ≡ last .made) × (after ≡ withSlot work at room (last .slot))
 

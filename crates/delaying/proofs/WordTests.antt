@@ -14,7 +14,7 @@ use Rattle.building.specs.Building.{Begins, Emits}
 use Rattle.building.specs.declared.Made.{Made}
 use Rattle.timing.specs.Delay.{timer, timerNext, firstTimer, onLevel}
 use Rattle.timing.specs.declared.Timer.{Timer}
-use Rattle.delays.specs.Turns.{State, stateOf, settled, followed, pastWord, pastWords, stateWith, firstState}
+use Rattle.delaying.specs.Turns.{State, stateOf, settled, followed, pastWord, pastWords, stateWith, firstState}
 
 module _ (level : Bool) (next : ℕ) (s : Timer) (made : Made) (slot : List ℕ) where
   pub comes : s .waiting ≡ true → s .due .0 < next → (here : Bool) → here ≡ onLevel level (s .at) → (made' : Made) (slot' : List ℕ)

@@ -1,9 +1,9 @@
--- `delays::delay_at` meets its contract: it begins where it may, and then the engine builds its answer in the slot.
+-- `delay_parts::delay_at` meets its contract: it begins where it may, and then the engine builds its answer in the slot.
 use mathlib.Core.Path.{sym, _∙_}
-use Rattle.delays.proofs.DelayJudged.{may-all, at-rest, at-work}
+use Rattle.delay_parts.proofs.DelayBegins.{may-all, at-rest, at-work}
 use borrow.Author.Needs.{needs}
-use Rattle.delays.proofs.delay_at.Statement.{statement}
-use Rattle.delays.proofs.delay_at.Tie as tie
+use Rattle.delay_parts.proofs.delay_at.Statement.{statement}
+use Rattle.delay_parts.proofs.delay_at.Tie as tie
 
 begins-requires : tie.Need-begins-requires
 begins-requires c κs = search needs

@@ -24,9 +24,9 @@ use Rattle.sources.specs.declared.Source.{Source}
 use Rattle.sources.proofs.SourceWords.{word-left, no-word-left}
 use Rattle.sources.proofs.Sourcing.{list-short, slot-kept, slot-long, slot-back, slot-again, with-slot-long, part-back, apart-kept}
 use Rattle.sources.proofs.Sourcing.{first-held}
-use Rattle.delays.specs.Turns.{State, stateOf, settled, pastWord, pastWords, stateWith, firstState, lastState}
-use Rattle.delays.proofs.WordTests.{begins, leads-on, leads-home}
-use Rattle.delays.specs.DelayAt.{EndsIn, DelayedIn}
+use Rattle.delaying.specs.Turns.{State, stateOf, settled, pastWord, pastWords, stateWith, firstState, lastState}
+use Rattle.delaying.proofs.WordTests.{begins, leads-on, leads-home}
+use Rattle.delay_parts.specs.DelayAt.{EndsIn, DelayedIn}
 
 -- the operand and the slot of a delay that begins
 pub record Placed (sheet left right work : List ℕ) (f : Source) (at room : ℕ) : Type 0 where

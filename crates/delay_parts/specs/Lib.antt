@@ -1,0 +1,2 @@
+-- Definitions that mirror a delay in a slot of the work area.
+pub mod DelayAt

@@ -1,0 +1,2 @@
+-- Definitions that mirror how a delay is built.
+pub mod Turns
