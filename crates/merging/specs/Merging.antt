@@ -2,7 +2,7 @@
 use Prim.Native.Nat.{ℕ, _+_, _≤_, _<_, min}
 use mathlib.Core.Path.{_≡_}
 use mathlib.Core.Bool.{Bool, true, false, _&&_}
-use mathlib.Core.List.{List, [], _∷_}
+use mathlib.Core.List.{List}
 use lib.Dec.{leb}
 use lib.ListN.{length, set}
 use Rattle.signals.specs.Signal.{Table, num}
@@ -83,27 +83,7 @@ MayMerge a b at n = (apartFrom a at mostWords ≡ true) × (apartFrom b at mostW
 unfoldable pub mayMerge : Source → Source → ℕ → ℕ → Bool
 mayMerge a b at n = apartFrom a at mostWords && (apartFrom b at mostWords && leb (at + mostWords) n)
 
--- The merge of one source with the list that is always down, which no slice holds.
-abbrev pub always0 : List ℕ
-always0 = 0 ∷ []
-
-abbrev pub BuiltAlone : Operation → Table → List ℕ → List ℕ → List ℕ → List ℕ → Source → ℕ → Made → List ℕ → Type 0
-BuiltAlone o table sheet left right work a at made after =
-    BuiltFrom o table (listAt sheet left right work a) always0 work at made after
-
-abbrev pub MayBegin : Source → ℕ → ℕ → Type 0
-MayBegin a at n = (apartFrom a at mostWords ≡ true) × (at + mostWords ≤ n)
-
-unfoldable pub mayBegin : Source → ℕ → ℕ → Bool
-mayBegin a at n = apartFrom a at mostWords && leb (at + mostWords) n
-
-pub record AloneAt (o : Operation) (table : Table) (sheet left right work : List ℕ) (a : Source) (at : ℕ) (answer : SlotAnswer)
-    (after : List ℕ) : Type 0 where
-  pub refused : mayBegin a at (length work) ≡ false → (answer ≡ NotBegun) × (after ≡ work)
-  pub built : mayBegin a at (length work) ≡ true
-      → (made : Made) × BuiltAlone o table sheet left right work a at made after × (answer ≡ madeAnswer made)
-
--- the whole call of two: all is as it was where it may not begin
+-- the whole call: all is as it was where it may not begin
 pub record MergedAt (o : Operation) (table : Table) (sheet left right work : List ℕ) (a b : Source) (at : ℕ) (answer : SlotAnswer)
     (after : List ℕ) : Type 0 where
   pub refused : mayMerge a b at (length work) ≡ false → (answer ≡ NotBegun) × (after ≡ work)
