@@ -1,12 +1,13 @@
 // The merge of two lists, and what it makes: connectives and latches; of a list and one that is always down, NOT and edges.
 ghost use mathlib.Core.Path.{_≡_};
-ghost use Prim.Native.Nat.{min};
+ghost use Prim.Native.Nat.{min, _≤_};
 ghost use lib.ListN.{length};
 ghost use Rattle.signals.specs.Signal.{connective, SR, RS};
+ghost use Rattle.signals.specs.Words.{mostWords};
 ghost use Rattle.operations.specs.Calls.{CallOfTwo};
 ghost use Rattle.showing.specs.Showing.{merged};
 ghost use Rattle.showing.specs.declared.Operation.the-variants.{Connective};
-ghost use Rattle.merging.specs.Merging.{MayMerge, BuiltAt, MergedAt};
+ghost use Rattle.merging.specs.Merging.{MayMerge, BuiltFrom, BuiltAt, MergedAt};
 use building::Made;
 use building::SlotAnswer;
 use building::WORDS;
@@ -24,8 +25,8 @@ fn earlier(x: u32, y: u32) -> u32
     if x < y { x } else { y }
 }
 
-// The merge of two lists, built in the slot from a place of the work area on: date by date, what the operation makes of both. The next
-// words are read before the answer's is stored.
+// The merge of two lists, built in the slot that begins at a place of the work area and has so many words: date by date, what the
+// operation makes of both. The next words are read before the answer's is stored.
 fn merge(
     operation: Operation,
     table: [[bool; 2]; 2],
@@ -36,13 +37,14 @@ fn merge(
     a: Source,
     b: Source,
     at: usize,
+    room: usize,
 ) -> Made
-    requires { ⌜ MayMerge a b at (length (now work)) ⌝ }
+    requires { ⌜ MayMerge a b at room (length (now work)) ⌝ }
     ensures { λ r.
-        ⌜ BuiltAt operation table (now (sheet .entry)) (now (left .entry)) (now (right .entry)) (now (work .entry)) a b at r
+        ⌜ BuiltAt operation table (now (sheet .entry)) (now (left .entry)) (now (right .entry)) (now (work .entry)) a b at room r
         (now (work .exit)) ⌝ }
 {
-    let end = at + WORDS;
+    let end = at + room;
     let mut x = sources::start(sheet, left, right, work, a);
     let mut y = sources::start(sheet, left, right, work, b);
     let first = showing::first_shown(operation, table, x.last % 2 == 1, y.last % 2 == 1);
@@ -73,13 +75,14 @@ fn join(
     a: Source,
     b: Source,
     at: usize,
+    room: usize,
 ) -> Made
-    requires { ⌜ MayMerge a b at (length (now work)) ⌝ }
+    requires { ⌜ MayMerge a b at room (length (now work)) ⌝ }
     ensures { λ r.
-        ⌜ BuiltAt Connective table (now (sheet .entry)) (now (left .entry)) (now (right .entry)) (now (work .entry)) a b at r
+        ⌜ BuiltAt Connective table (now (sheet .entry)) (now (left .entry)) (now (right .entry)) (now (work .entry)) a b at room r
         (now (work .exit)) ⌝ }
 {
-    let end = at + WORDS;
+    let end = at + room;
     let mut x = sources::start(sheet, left, right, work, a);
     let mut y = sources::start(sheet, left, right, work, b);
     let first = showing::cell_of(table, x.last % 2 == 1, y.last % 2 == 1);
@@ -110,15 +113,16 @@ fn made_at(
     a: Source,
     b: Source,
     at: usize,
+    room: usize,
 ) -> Made
-    requires { ⌜ MayMerge a b at (length (now work)) ⌝ }
+    requires { ⌜ MayMerge a b at room (length (now work)) ⌝ }
     ensures { λ r.
-        ⌜ BuiltAt operation table (now (sheet .entry)) (now (left .entry)) (now (right .entry)) (now (work .entry)) a b at r
+        ⌜ BuiltAt operation table (now (sheet .entry)) (now (left .entry)) (now (right .entry)) (now (work .entry)) a b at room r
         (now (work .exit)) ⌝ }
 {
     match operation {
-        Operation::Connective => join(table, sheet, left, right, work, a, b, at),
-        _ => merge(operation, table, sheet, left, right, work, a, b, at),
+        Operation::Connective => join(table, sheet, left, right, work, a, b, at, room),
+        _ => merge(operation, table, sheet, left, right, work, a, b, at, room),
     }
 }
 
@@ -143,7 +147,18 @@ pub fn merge_at(
     if sources::apart(a, at, WORDS as u32) {
         if sources::apart(b, at, WORDS as u32) {
             if from + WORDS <= work.len() {
-                let made = made_at(operation, table, sheet, left, right, work, a, b, from);
+                let made = made_at(
+                    operation,
+                    table,
+                    sheet,
+                    left,
+                    right,
+                    work,
+                    a,
+                    b,
+                    from,
+                    WORDS,
+                );
                 return building::finish(made);
             }
         }
@@ -151,7 +166,37 @@ pub fn merge_at(
     SlotAnswer::NotBegun
 }
 
-// A merge of two lists that are judged first, its answer delivered to an output.
+// The merge of two slices in a slot.
+fn merge_slices(
+    operation: Operation,
+    table: [[bool; 2]; 2],
+    a: &[u32],
+    b: &[u32],
+    slot: &mut [u32],
+) -> Made
+    requires { ⌜ (length (now a) ≤ mostWords) × (length (now b) ≤ mostWords) ⌝ }
+    ensures { λ r.
+        ⌜ BuiltFrom operation table (now (a .entry)) (now (b .entry)) (now (slot .entry)) 0 (length (now (slot .entry))) r
+        (now (slot .exit)) ⌝ }
+{
+    let room = slot.len();
+    let first = Source {
+        memory: Memory::Left,
+        at: 0,
+        count: a.len() as u32,
+    };
+    let second = Source {
+        memory: Memory::Right,
+        at: 0,
+        count: b.len() as u32,
+    };
+    made_at(operation, table, b"", a, b, slot, first, second, 0, room)
+}
+
+// The words of a slot in which short lists are merged: fewer are cleared for them.
+const SHORT: usize = 32;
+
+// A merge of two lists that are judged first, its answer delivered to an output. It has fewer words than both lists together.
 fn operate(
     operation: Operation,
     table: [[bool; 2]; 2],
@@ -165,29 +210,13 @@ fn operate(
     if fault != 0 {
         return Written::Refused(fault);
     }
-    let bytes = [0u8; 1];
+    if a.len() + b.len() <= SHORT {
+        let mut slot = [0u32; SHORT];
+        let made = merge_slices(operation, table, a, b, &mut slot);
+        return building::deliver(&slot, made, out);
+    }
     let mut slot = [0u32; WORDS];
-    let first = Source {
-        memory: Memory::Left,
-        at: 0,
-        count: a.len() as u32,
-    };
-    let second = Source {
-        memory: Memory::Right,
-        at: 0,
-        count: b.len() as u32,
-    };
-    let made = made_at(
-        operation,
-        table,
-        &bytes[..0],
-        a,
-        b,
-        &mut slot,
-        first,
-        second,
-        0,
-    );
+    let made = merge_slices(operation, table, a, b, &mut slot);
     building::deliver(&slot, made, out)
 }
 
