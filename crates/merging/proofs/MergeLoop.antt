@@ -227,7 +227,8 @@ reads-source sheet left right work hs hl hr hw a ca x e =
 
 -- two sources
 pub started : (o : Operation) (table : Table) (sheet left right entry : List ℕ) (a b : Source) (at room : ℕ)
-    → MayMerge a b at room (length entry) → Bytes sheet → Words left → Words right → Words entry → a .count < 4294967296 → b .count < 4294967296
+    → MayMerge a b at room (length entry) → Bytes sheet → Words left → Words right → Words entry
+    → a .count < 4294967296 → b .count < 4294967296
     → (x y : Cursor) → x ≡ startOf (listAt sheet left right entry a) → y ≡ startOf (listAt sheet left right entry b)
     → (first : Shown) → first ≡ firstShown o table (valueAfter (x .last)) (valueAfter (y .last))
     → (made : Made) (part : List ℕ) → Begins (first .after) (take room (drop at entry)) made part
