@@ -66,7 +66,7 @@ pub extern "C" fn sgl_implies(a: &[u32], b: &[u32]) -> u64
 pub extern "C" fn sgl_not(a: &[u32], out: &mut [u32]) -> u32
     ensures { λ r. ⌜ ExportedOne NOT (now (a .entry)) (now (out .entry)) r (now (out .exit)) ⌝ }
 {
-    packing::pack_written(merging::not(a, out))
+    packing::pack_written(edges::not(a, out))
 }
 
 // A connective by its table.
@@ -82,7 +82,7 @@ pub extern "C" fn sgl_connective(table: u32, a: &[u32], b: &[u32], out: &mut [u3
 pub extern "C" fn sgl_rising(a: &[u32], out: &mut [u32]) -> u32
     ensures { λ r. ⌜ ExportedOne rising (now (a .entry)) (now (out .entry)) r (now (out .exit)) ⌝ }
 {
-    packing::pack_written(merging::rising(a, out))
+    packing::pack_written(edges::rising(a, out))
 }
 
 // Falling edges.
@@ -90,7 +90,7 @@ pub extern "C" fn sgl_rising(a: &[u32], out: &mut [u32]) -> u32
 pub extern "C" fn sgl_falling(a: &[u32], out: &mut [u32]) -> u32
     ensures { λ r. ⌜ ExportedOne falling (now (a .entry)) (now (out .entry)) r (now (out .exit)) ⌝ }
 {
-    packing::pack_written(merging::falling(a, out))
+    packing::pack_written(edges::falling(a, out))
 }
 
 // The latch in which set wins.

@@ -51,9 +51,9 @@ fn operation(
 ) -> Written {
     match call {
         6 => tidying::tidy(a, out),
-        7 => merging::not(a, out),
-        8 => merging::rising(a, out),
-        9 => merging::falling(a, out),
+        7 => edges::not(a, out),
+        8 => edges::rising(a, out),
+        9 => edges::falling(a, out),
         10 => merging::sr(a, b, out),
         11 => merging::rs(a, b, out),
         12 => delays::ton(Length(d), b, out),

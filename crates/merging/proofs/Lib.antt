@@ -1,8 +1,6 @@
 -- The merge of two lists builds the list of its signal.
 pub mod MergeTurn
 pub mod MergeLoop
-pub mod AloneLoop
 pub mod MergedExact
 pub mod MergedCalls
 pub mod OneOperand
-pub mod Turned

@@ -18,7 +18,7 @@ use Rattle.sources.specs.Sources.{apartFrom}
 use Rattle.sources.specs.declared.Source.{Source}
 use Rattle.merging.specs.Merging.{MayMerge, mayMerge, BuiltAt, MergedAt}
 
-pub may-merge : (a b : Source) (at n : ℕ) → MayMerge a b at n → mayMerge a b at n ≡ true
+pub may-merge : (a b : Source) (at n : ℕ) → MayMerge a b at mostWords n → mayMerge a b at n ≡ true
 unfolding mayMerge
 may-merge a b at n (p, q, r) = rw (p, q, le-leb (at + mostWords) n r)
 
@@ -39,13 +39,14 @@ module _ (o : Operation) (table : Table) (sheet left right work : List ℕ) (a b
   no-room h = may-not (rw (lt-leb (at + mostWords) (length work) h)
       (ap (λ (t : Bool). apartFrom a at mostWords && t) (and-false (apartFrom b at mostWords)) ∙ and-false (apartFrom a at mostWords)))
 
-  pub begins : MayMerge a b at (length work) → (made : Made) (after : List ℕ) → BuiltAt o table sheet left right work a b at made after
-      → (answer : SlotAnswer) → answer ≡ madeAnswer made → MergedAt o table sheet left right work a b at answer after
+  pub begins : MayMerge a b at mostWords (length work) → (made : Made) (after : List ℕ)
+      → BuiltAt o table sheet left right work a b at mostWords made after → (answer : SlotAnswer) → answer ≡ madeAnswer made
+      → MergedAt o table sheet left right work a b at answer after
   begins may made after w answer e =
       record { refused = λ h. true-false (sym (may-merge a b at (length work) may) ∙ h); built = λ h. (made, w, e) }
 
 -- the loop of connectives
-pub joined : (o : Operation) → o ≡ Connective → (table : Table) (sheet left right work : List ℕ) (a b : Source) (at : ℕ) (made : Made)
-    (after : List ℕ) → BuiltAt Connective table sheet left right work a b at made after
-    → BuiltAt o table sheet left right work a b at made after
-joined o e table sheet left right work a b at made after w = rw e w
+pub joined : (o : Operation) → o ≡ Connective → (table : Table) (sheet left right work : List ℕ) (a b : Source) (at room : ℕ) (made : Made)
+    (after : List ℕ) → BuiltAt Connective table sheet left right work a b at room made after
+    → BuiltAt o table sheet left right work a b at room made after
+joined o e table sheet left right work a b at room made after w = rw e w

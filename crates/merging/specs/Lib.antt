@@ -1,3 +1,2 @@
 -- The merge of two lists for every input: definitions that mirror the code.
 pub mod Merging
-pub mod Turning

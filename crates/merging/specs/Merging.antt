@@ -2,7 +2,7 @@
 use Prim.Native.Nat.{ℕ, _+_, _≤_, _<_, min}
 use mathlib.Core.Path.{_≡_}
 use mathlib.Core.Bool.{Bool, true, false, _&&_}
-use mathlib.Core.List.{List, [], _∷_}
+use mathlib.Core.List.{List}
 use lib.Dec.{leb}
 use lib.ListN.{length, set}
 use Rattle.signals.specs.Signal.{Table, num}
@@ -65,47 +65,27 @@ pub data Merges (o : Operation) (table : Table) (a b slot : List ℕ) (made : Ma
   turn : {s : State} → dateAhead a b s < NEVER → Merges o table a b slot made (pastDate o table a b s (dateAhead a b s)) →
       Merges o table a b slot made s
 
--- The merge of two lists in the slot of 256 words from `at` on: what is built, and the work area after it.
-abbrev pub BuiltFrom : Operation → Table → List ℕ → List ℕ → List ℕ → ℕ → Made → List ℕ → Type 0
-BuiltFrom o table l m work at made after =
-    (slot : List ℕ) × Merges o table l m slot made (begunIn o table l m (slotIn work at mostWords))
-    × (after ≡ withSlot work at mostWords slot)
+-- The merge of two lists in the slot of `room` words from `at` on: what is built, and the work area after it.
+abbrev pub BuiltFrom : Operation → Table → List ℕ → List ℕ → List ℕ → ℕ → ℕ → Made → List ℕ → Type 0
+BuiltFrom o table l m work at room made after =
+    (slot : List ℕ) × Merges o table l m slot made (begunIn o table l m (slotIn work at room))
+    × (after ≡ withSlot work at room slot)
 
 -- of two sources
-abbrev pub BuiltAt : Operation → Table → List ℕ → List ℕ → List ℕ → List ℕ → Source → Source → ℕ → Made → List ℕ → Type 0
-BuiltAt o table sheet left right work a b at made after =
-    BuiltFrom o table (listAt sheet left right work a) (listAt sheet left right work b) work at made after
+abbrev pub BuiltAt : Operation → Table → List ℕ → List ℕ → List ℕ → List ℕ → Source → Source → ℕ → ℕ → Made → List ℕ → Type 0
+BuiltAt o table sheet left right work a b at room made after =
+    BuiltFrom o table (listAt sheet left right work a) (listAt sheet left right work b) work at room made after
 
 -- both lists are apart from the slot, and it fits
-abbrev pub MayMerge : Source → Source → ℕ → ℕ → Type 0
-MayMerge a b at n = (apartFrom a at mostWords ≡ true) × (apartFrom b at mostWords ≡ true) × (at + mostWords ≤ n)
+abbrev pub MayMerge : Source → Source → ℕ → ℕ → ℕ → Type 0
+MayMerge a b at room n = (apartFrom a at room ≡ true) × (apartFrom b at room ≡ true) × (at + room ≤ n)
 
 unfoldable pub mayMerge : Source → Source → ℕ → ℕ → Bool
 mayMerge a b at n = apartFrom a at mostWords && (apartFrom b at mostWords && leb (at + mostWords) n)
 
--- The merge of one source with the list that is always down, which no slice holds.
-abbrev pub always0 : List ℕ
-always0 = 0 ∷ []
-
-abbrev pub BuiltAlone : Operation → Table → List ℕ → List ℕ → List ℕ → List ℕ → Source → ℕ → Made → List ℕ → Type 0
-BuiltAlone o table sheet left right work a at made after =
-    BuiltFrom o table (listAt sheet left right work a) always0 work at made after
-
-abbrev pub MayBegin : Source → ℕ → ℕ → Type 0
-MayBegin a at n = (apartFrom a at mostWords ≡ true) × (at + mostWords ≤ n)
-
-unfoldable pub mayBegin : Source → ℕ → ℕ → Bool
-mayBegin a at n = apartFrom a at mostWords && leb (at + mostWords) n
-
-pub record AloneAt (o : Operation) (table : Table) (sheet left right work : List ℕ) (a : Source) (at : ℕ) (answer : SlotAnswer)
-    (after : List ℕ) : Type 0 where
-  pub refused : mayBegin a at (length work) ≡ false → (answer ≡ NotBegun) × (after ≡ work)
-  pub built : mayBegin a at (length work) ≡ true
-      → (made : Made) × BuiltAlone o table sheet left right work a at made after × (answer ≡ madeAnswer made)
-
--- the whole call of two: all is as it was where it may not begin
+-- the whole call, in a slot of 256 words: all is as it was where it may not begin
 pub record MergedAt (o : Operation) (table : Table) (sheet left right work : List ℕ) (a b : Source) (at : ℕ) (answer : SlotAnswer)
     (after : List ℕ) : Type 0 where
   pub refused : mayMerge a b at (length work) ≡ false → (answer ≡ NotBegun) × (after ≡ work)
   pub built : mayMerge a b at (length work) ≡ true
-      → (made : Made) × BuiltAt o table sheet left right work a b at made after × (answer ≡ madeAnswer made)
+      → (made : Made) × BuiltAt o table sheet left right work a b at mostWords made after × (answer ≡ madeAnswer made)

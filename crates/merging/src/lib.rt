@@ -1,19 +1,17 @@
-// The merge of two lists, and what it makes: NOT, connectives, edges and latches.
+// The merge of two lists, and what it makes: connectives and latches; of a list and one that is always down, NOT and edges.
 ghost use mathlib.Core.Path.{_≡_};
 ghost use Prim.Native.Nat.{min, _≤_};
-ghost use mathlib.Core.List.{_++_};
-ghost use lib.ListN.{length, drop, getD};
-ghost use Rattle.signals.specs.Signal.{NOT, connective, rising, falling, SR, RS};
-ghost use Rattle.operations.specs.Calls.{CallOfOne, CallOfTwo};
+ghost use lib.ListN.{length};
+ghost use Rattle.signals.specs.Signal.{connective, SR, RS};
+ghost use Rattle.signals.specs.Words.{mostWords};
+ghost use Rattle.operations.specs.Calls.{CallOfTwo};
 ghost use Rattle.showing.specs.Showing.{merged};
 ghost use Rattle.showing.specs.declared.Operation.the-variants.{Connective};
-ghost use Rattle.merging.specs.Merging.{MayMerge, BuiltAt, MergedAt, MayBegin, BuiltAlone, AloneAt, always0};
-ghost use Rattle.merging.specs.Turning.{turnedList};
+ghost use Rattle.merging.specs.Merging.{MayMerge, BuiltFrom, BuiltAt, MergedAt};
 use building::Made;
 use building::SlotAnswer;
 use building::WORDS;
 use reading::NEVER;
-use reading::Step;
 use showing::Operation;
 use signals::Date;
 use signals::Written;
@@ -27,8 +25,8 @@ fn earlier(x: u32, y: u32) -> u32
     if x < y { x } else { y }
 }
 
-// The merge of two lists, built in the slot from a place of the work area on: date by date, what the operation makes of both. The next
-// words are read before the answer's is stored.
+// The merge of two lists, built in the slot that begins at a place of the work area and has so many words: date by date, what the
+// operation makes of both. The next words are read before the answer's is stored.
 fn merge(
     operation: Operation,
     table: [[bool; 2]; 2],
@@ -39,13 +37,14 @@ fn merge(
     a: Source,
     b: Source,
     at: usize,
+    room: usize,
 ) -> Made
-    requires { ⌜ MayMerge a b at (length (now work)) ⌝ }
+    requires { ⌜ MayMerge a b at room (length (now work)) ⌝ }
     ensures { λ r.
-        ⌜ BuiltAt operation table (now (sheet .entry)) (now (left .entry)) (now (right .entry)) (now (work .entry)) a b at r
+        ⌜ BuiltAt operation table (now (sheet .entry)) (now (left .entry)) (now (right .entry)) (now (work .entry)) a b at room r
         (now (work .exit)) ⌝ }
 {
-    let end = at + WORDS;
+    let end = at + room;
     let mut x = sources::start(sheet, left, right, work, a);
     let mut y = sources::start(sheet, left, right, work, b);
     let first = showing::first_shown(operation, table, x.last % 2 == 1, y.last % 2 == 1);
@@ -76,13 +75,14 @@ fn join(
     a: Source,
     b: Source,
     at: usize,
+    room: usize,
 ) -> Made
-    requires { ⌜ MayMerge a b at (length (now work)) ⌝ }
+    requires { ⌜ MayMerge a b at room (length (now work)) ⌝ }
     ensures { λ r.
-        ⌜ BuiltAt Connective table (now (sheet .entry)) (now (left .entry)) (now (right .entry)) (now (work .entry)) a b at r
+        ⌜ BuiltAt Connective table (now (sheet .entry)) (now (left .entry)) (now (right .entry)) (now (work .entry)) a b at room r
         (now (work .exit)) ⌝ }
 {
-    let end = at + WORDS;
+    let end = at + room;
     let mut x = sources::start(sheet, left, right, work, a);
     let mut y = sources::start(sheet, left, right, work, b);
     let first = showing::cell_of(table, x.last % 2 == 1, y.last % 2 == 1);
@@ -113,15 +113,16 @@ fn made_at(
     a: Source,
     b: Source,
     at: usize,
+    room: usize,
 ) -> Made
-    requires { ⌜ MayMerge a b at (length (now work)) ⌝ }
+    requires { ⌜ MayMerge a b at room (length (now work)) ⌝ }
     ensures { λ r.
-        ⌜ BuiltAt operation table (now (sheet .entry)) (now (left .entry)) (now (right .entry)) (now (work .entry)) a b at r
+        ⌜ BuiltAt operation table (now (sheet .entry)) (now (left .entry)) (now (right .entry)) (now (work .entry)) a b at room r
         (now (work .exit)) ⌝ }
 {
     match operation {
-        Operation::Connective => join(table, sheet, left, right, work, a, b, at),
-        _ => merge(operation, table, sheet, left, right, work, a, b, at),
+        Operation::Connective => join(table, sheet, left, right, work, a, b, at, room),
+        _ => merge(operation, table, sheet, left, right, work, a, b, at, room),
     }
 }
 
@@ -146,7 +147,18 @@ pub fn merge_at(
     if sources::apart(a, at, WORDS as u32) {
         if sources::apart(b, at, WORDS as u32) {
             if from + WORDS <= work.len() {
-                let made = made_at(operation, table, sheet, left, right, work, a, b, from);
+                let made = made_at(
+                    operation,
+                    table,
+                    sheet,
+                    left,
+                    right,
+                    work,
+                    a,
+                    b,
+                    from,
+                    WORDS,
+                );
                 return building::finish(made);
             }
         }
@@ -154,89 +166,37 @@ pub fn merge_at(
     SlotAnswer::NotBegun
 }
 
-// The merge of one list with the list that is always down, which has no date and is not read.
-fn merge_one(
+// The merge of two slices in a slot.
+fn merge_slices(
     operation: Operation,
     table: [[bool; 2]; 2],
-    sheet: &[u8],
-    left: &[u32],
-    right: &[u32],
-    work: &mut [u32],
-    a: Source,
-    at: usize,
+    a: &[u32],
+    b: &[u32],
+    slot: &mut [u32],
 ) -> Made
-    requires { ⌜ MayBegin a at (length (now work)) ⌝ }
+    requires { ⌜ (length (now a) ≤ mostWords) × (length (now b) ≤ mostWords) ⌝ }
     ensures { λ r.
-        ⌜ BuiltAlone operation table (now (sheet .entry)) (now (left .entry)) (now (right .entry)) (now (work .entry)) a at r
-        (now (work .exit)) ⌝ }
+        ⌜ BuiltFrom operation table (now (a .entry)) (now (b .entry)) (now (slot .entry)) 0 (length (now (slot .entry))) r
+        (now (slot .exit)) ⌝ }
 {
-    let end = at + WORDS;
-    let mut x = sources::start(sheet, left, right, work, a);
-    let first = showing::first_shown(operation, table, x.last % 2 == 1, false);
-    let mut made = building::begin(&mut work[at..end], first.after);
-    let mut carried = first.carried;
-    while x.date < NEVER {
-        let on = Date(x.date);
-        let u = sources::past(sheet, left, right, work, a, x, on);
-        let down = Step {
-            before: false,
-            at: false,
-            after: false,
-            passed: 1,
-        };
-        let shown = showing::date_shown(operation, table, carried, u.step, down);
-        made = building::emit(&mut work[at..end], made, on, shown.at, shown.after);
-        carried = shown.carried;
-        x = u.next;
-    }
-    made
-}
-
-// NOT or an edge of a list where it stands, as `merge_at` with the list that is always down, of which no word is read.
-pub fn alone_at(
-    operation: Operation,
-    table: [[bool; 2]; 2],
-    sheet: &[u8],
-    left: &[u32],
-    right: &[u32],
-    work: &mut [u32],
-    a: Source,
-    at: u32,
-) -> SlotAnswer
-    ensures { λ r.
-        ⌜ AloneAt operation table (now (sheet .entry)) (now (left .entry)) (now (right .entry)) (now (work .entry)) a at r
-        (now (work .exit)) ⌝ }
-{
-    let from = at as usize;
-    if sources::apart(a, at, WORDS as u32) {
-        if from + WORDS <= work.len() {
-            let made = merge_one(operation, table, sheet, left, right, work, a, from);
-            return building::finish(made);
-        }
-    }
-    SlotAnswer::NotBegun
-}
-
-// The same of a list that is judged first, its answer delivered to an output.
-fn operate_one(operation: Operation, table: [[bool; 2]; 2], a: &[u32], out: &mut [u32]) -> Written
-    ensures { λ r. ⌜ CallOfTwo (merged operation table) (now (a .entry)) always0 (now (out .entry)) r (now (out .exit)) ⌝ }
-{
-    let fault = lists::list_fault(a);
-    if fault != 0 {
-        return Written::Refused(fault);
-    }
-    let bytes = [0u8; 1];
-    let mut slot = [0u32; WORDS];
-    let list = Source {
+    let room = slot.len();
+    let first = Source {
         memory: Memory::Left,
         at: 0,
         count: a.len() as u32,
     };
-    let made = merge_one(operation, table, &bytes[..0], a, a, &mut slot, list, 0);
-    building::deliver(&slot, made, out)
+    let second = Source {
+        memory: Memory::Right,
+        at: 0,
+        count: b.len() as u32,
+    };
+    made_at(operation, table, b"", a, b, slot, first, second, 0, room)
 }
 
-// A merge of two lists that are judged first, its answer delivered to an output.
+// The words of a slot in which short lists are merged: fewer are cleared for them.
+const SHORT: usize = 32;
+
+// A merge of two lists that are judged first, its answer delivered to an output. It has fewer words than both lists together.
 fn operate(
     operation: Operation,
     table: [[bool; 2]; 2],
@@ -250,84 +210,24 @@ fn operate(
     if fault != 0 {
         return Written::Refused(fault);
     }
-    let bytes = [0u8; 1];
+    if a.len() + b.len() <= SHORT {
+        let mut slot = [0u32; SHORT];
+        let made = merge_slices(operation, table, a, b, &mut slot);
+        return building::deliver(&slot, made, out);
+    }
     let mut slot = [0u32; WORDS];
-    let first = Source {
-        memory: Memory::Left,
-        at: 0,
-        count: a.len() as u32,
-    };
-    let second = Source {
-        memory: Memory::Right,
-        at: 0,
-        count: b.len() as u32,
-    };
-    let made = made_at(
-        operation,
-        table,
-        &bytes[..0],
-        a,
-        b,
-        &mut slot,
-        first,
-        second,
-        0,
-    );
+    let made = merge_slices(operation, table, a, b, &mut slot);
     building::deliver(&slot, made, out)
 }
 
 // The table given where the operation reads none.
 const UNREAD: [[bool; 2]; 2] = [[true, true], [false, false]];
 
-// A list with each value turned, at the front of the output.
-fn turn_words(words: &[u32], out: &mut [u32])
-    requires { ⌜ (1 ≤ length (now words)) × (getD (now words) 0 0 ≤ 1) × (length (now words) ≤ length (now out)) ⌝ }
-    ensures { λ r.
-        ⌜ now (out .exit) ≡ turnedList (now (words .entry)) ++ drop (length (now (words .entry))) (now (out .entry)) ⌝ }
-{
-    out[0] = 1 - words[0];
-    let mut i: usize = 1;
-    while i < words.len() {
-        let word = words[i];
-        out[i] = 4 * (word / 4) + (3 - word % 4);
-        i += 1;
-    }
-}
-
-// NOT: faults list, 7.
-pub fn not(a: &[u32], out: &mut [u32]) -> Written
-    ensures { λ r. ⌜ CallOfOne NOT (now (a .entry)) (now (out .entry)) r (now (out .exit)) ⌝ }
-{
-    let fault = lists::list_fault(a);
-    if fault != 0 {
-        return Written::Refused(fault);
-    }
-    if out.len() < a.len() {
-        return Written::Refused(7);
-    }
-    turn_words(a, out);
-    Written::Count(a.len())
-}
-
 // A connective by its table, row by the first operand, column by the second: faults list, list, 5, 7.
 pub fn connective(table: [[bool; 2]; 2], a: &[u32], b: &[u32], out: &mut [u32]) -> Written
     ensures { λ r. ⌜ CallOfTwo (connective table) (now (a .entry)) (now (b .entry)) (now (out .entry)) r (now (out .exit)) ⌝ }
 {
     operate(Operation::Connective, table, a, b, out)
-}
-
-// Rising edges: faults list, 7.
-pub fn rising(a: &[u32], out: &mut [u32]) -> Written
-    ensures { λ r. ⌜ CallOfOne rising (now (a .entry)) (now (out .entry)) r (now (out .exit)) ⌝ }
-{
-    operate_one(Operation::Rising, UNREAD, a, out)
-}
-
-// Falling edges: faults list, 7.
-pub fn falling(a: &[u32], out: &mut [u32]) -> Written
-    ensures { λ r. ⌜ CallOfOne falling (now (a .entry)) (now (out .entry)) r (now (out .exit)) ⌝ }
-{
-    operate_one(Operation::Falling, UNREAD, a, out)
 }
 
 // The latch in which set wins: faults list, list, 5, 7.

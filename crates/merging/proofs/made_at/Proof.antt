@@ -21,7 +21,7 @@ returns c =
     let told = c .before .before .before .before in
     let x = told .before .before .before .before .before .before .args in
     joined (x .operation) (told .enum-told .given .1) (x .table) (x .sheet .now) (x .left .now) (x .right .now) (x .work .now) (x .a) (x .b)
-    (x .at) _ _ (c .before .before .join .ensures)
+    (x .at) (x .room) _ _ (c .before .before .join .ensures)
 
 same-length-2 : tie.Need-same-length-2
 same-length-2 c = search needs

@@ -1,13 +1,12 @@
--- `merging::operate` meets its contract: the lists are judged, then the merge's answer is delivered.
+-- `merging::operate` meets its contract: the lists are judged, then the merge's answer is delivered from a slot that holds it.
 use native.Mathlib.Omega.{arith}
-use mathlib.Core.Path.{refl, sym, _∙_}
-use mathlib.Core.List.{[]}
+use mathlib.Core.Path.{sym, _∙_}
 use lib.ListN.{replicate}
 use Rattle.operations.specs.Calls.{faultOfTwo}
 use Rattle.operations.proofs.JudgedCalls.{refused, passes-on, pair-none}
 use Rattle.building.proofs.Delivering.{delivered}
 use Rattle.merging.proofs.MergeTurn.{short}
-use Rattle.merging.proofs.MergedExact.{merged-slices}
+use Rattle.merging.proofs.MergedExact.{merged-slices, few-words}
 use borrow.Author.Needs.{needs}
 use Rattle.merging.proofs.operate.Statement.{statement}
 use Rattle.merging.proofs.operate.Tie as tie
@@ -19,23 +18,14 @@ returns : tie.Need-returns
 unfolding faultOfTwo
 returns c = refused _ _ _ _ _ (c .before .pair-fault .ensures) (c .if1 .taken)
 
-cast-t15 : tie.Need-cast-t15
-cast-t15 c = let z = pair-none _ _ (sym (c .before .pair-fault .ensures) ∙ c .if1 .left) in omega (arith, short _ (z .0))
+add-if2 : tie.Need-add-if2
+add-if2 c = search needs
 
-cast-t15-2 : tie.Need-cast-t15-2
-cast-t15-2 c = let z = pair-none _ _ (sym (c .before .pair-fault .ensures) ∙ c .if1 .left) in omega (arith, short _ (z .1))
+slice-aggregate-merge-slices : tie.Need-slice-aggregate-merge-slices
+slice-aggregate-merge-slices c = search needs
 
-array-share-prefix-bytes : tie.Need-array-share-prefix-bytes
-array-share-prefix-bytes c = search needs
-
-slice-aggregate-made-at : tie.Need-slice-aggregate-made-at
-slice-aggregate-made-at c = search needs
-
-slice-aggregate-made-at-2 : tie.Need-slice-aggregate-made-at-2
-slice-aggregate-made-at-2 c = search needs
-
-made-at-requires : tie.Need-made-at-requires
-made-at-requires c κs = search needs
+merge-slices-requires : tie.Need-merge-slices-requires
+merge-slices-requires c κs = search needs
 
 slice-aggregate-deliver : tie.Need-slice-aggregate-deliver
 slice-aggregate-deliver c = search needs
@@ -49,17 +39,55 @@ same-length c = search needs
 returns-2 : tie.Need-returns-2
 unfolding faultOfTwo
 returns-2 c =
-    let merged = c .before .before .before .before .before .before in
-    let z = merged .before .before .before in
-    let x = z .before .before .before .before .before .args in
-    let none = sym (z .before .pair-fault .ensures) ∙ z .if1 .left in
+    let delivers = c .before .before in
+    let made = delivers .before .before .before .before in
+    let fits = made .before .before in
+    let judged = fits .before in
+    let x = judged .before .before .before .before .before .args in
+    let none = sym (judged .before .pair-fault .ensures) ∙ judged .if1 .left in
     let ok = pair-none _ _ none in
     let built =
-    merged-slices (x .operation) (x .table) [] (x .a .now) (x .b .now) (replicate 256 0) _ _ (merged .made-at .ensures) refl (ok .0) (ok .1)
-    (λ i. z .before .before .before .before .shared-slice-known .given i .fits)
-    (λ i. z .before .before .before .shared-slice-known2 .given i .fits) in
+    merged-slices (x .operation) (x .table) (x .a .now) (x .b .now) (replicate 32 0) _ _ (made .merge-slices .ensures) (ok .0) (ok .1)
+    (λ i. judged .before .before .before .before .shared-slice-known .given i .fits)
+    (λ i. judged .before .before .before .shared-slice-known2 .given i .fits) in
+    let few = few-words _ _ (x .a .now) (x .b .now) (replicate 32 0) 0 32 _ _ (made .merge-slices .ensures) in
     passes-on _ _ _ _ _ _ none
-    (delivered _ _ _ _ built (λ h. omega arith) (omega arith) (x .out .now) _ _ (c .before .before .deliver .ensures))
+    (delivered _ _ _ _ built (λ h. omega (arith, built .count-is, few, fits .if2 .taken)) (omega arith) (x .out .now) _ _
+    (delivers .deliver .ensures))
+
+slice-aggregate-merge-slices-2 : tie.Need-slice-aggregate-merge-slices-2
+slice-aggregate-merge-slices-2 c = search needs
+
+merge-slices-requires-2 : tie.Need-merge-slices-requires-2
+merge-slices-requires-2 c κs =
+    let judged = c .before .before in
+    let ok = pair-none _ _ (sym (judged .before .pair-fault .ensures) ∙ judged .if1 .left) in
+    (short _ (ok .0), short _ (ok .1))
+
+slice-aggregate-deliver-2 : tie.Need-slice-aggregate-deliver-2
+slice-aggregate-deliver-2 c = search needs
+
+deliver-requires-2 : tie.Need-deliver-requires-2
+deliver-requires-2 c κs = search needs
+
+same-length-2 : tie.Need-same-length-2
+same-length-2 c = search needs
+
+returns-3 : tie.Need-returns-3
+unfolding faultOfTwo
+returns-3 c =
+    let delivers = c .before .before in
+    let made = delivers .before .before .before .before in
+    let judged = made .before .before .before in
+    let x = judged .before .before .before .before .before .args in
+    let none = sym (judged .before .pair-fault .ensures) ∙ judged .if1 .left in
+    let ok = pair-none _ _ none in
+    let built =
+    merged-slices (x .operation) (x .table) (x .a .now) (x .b .now) (replicate 256 0) _ _ (made .merge-slices2 .ensures) (ok .0) (ok .1)
+    (λ i. judged .before .before .before .before .shared-slice-known .given i .fits)
+    (λ i. judged .before .before .before .shared-slice-known2 .given i .fits) in
+    passes-on _ _ _ _ _ _ none
+    (delivered _ _ _ _ built (λ h. omega arith) (omega arith) (x .out .now) _ _ (delivers .deliver2 .ensures))
 
 pub operate-spec : {M : Type 1} → statement M
 operate-spec =
@@ -67,13 +95,16 @@ operate-spec =
     (tie.spec
     pair-fault-requires
     returns
-    cast-t15
-    cast-t15-2
-    array-share-prefix-bytes
-    slice-aggregate-made-at
-    slice-aggregate-made-at-2
-    made-at-requires
+    add-if2
+    slice-aggregate-merge-slices
+    merge-slices-requires
     slice-aggregate-deliver
     deliver-requires
     same-length
-    returns-2)
+    returns-2
+    slice-aggregate-merge-slices-2
+    merge-slices-requires-2
+    slice-aggregate-deliver-2
+    deliver-requires-2
+    same-length-2
+    returns-3)

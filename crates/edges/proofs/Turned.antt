@@ -1,29 +1,25 @@
 -- NOT of an accepted list is the list with each value turned.
 use Prim.Native.Nat.{ℕ, zero, suc, _+_, _*_, _-_, _/_, _%_, _≤_, _<_}
 use native.Mathlib.Omega.{arith}
-use mathlib.Core.Path.{_≡_, refl, sym, _∙_, ap}
+use mathlib.Core.Path.{_≡_, refl, _∙_, ap}
 use mathlib.Core.Bool.{Bool, true, false, not, cond, Bool·beq, _&&_}
 use mathlib.Core.List.{List, [], _∷_, _++_}
-use lib.Dec.{ltb}
 use lib.ListN.{length, take, drop, set, getD}
 use lib.Seq.{take-all}
-use borrow.Author.Tests.{le-ltb}
 use Rattle.slices.specs.Bytes.{Words}
-use Rattle.signals.specs.Moment.{M, gap}
+use Rattle.signals.specs.Moment.{gap}
 use Rattle.signals.specs.Signal.{Signal, NOT, num}
-use Rattle.signals.specs.Words.{mostWords, word, dateOf, listFault, lastDate, signalOf, wordsOf, listOf}
-use Rattle.signals.specs.Giving.{WithinM}
+use Rattle.signals.specs.Words.{word, listFault, lastDate, signalOf, wordsOf, listOf}
 use Rattle.signals.specs.Normal.{Normal}
 use Rattle.signals.specs.declared.Written.{Written}
 use Rattle.signals.specs.declared.Written.the-variants.{Count, Refused}
-use Rattle.signals.proofs.Giving.{within}
 use Rattle.signals.proofs.Normal.{accepted-normal, read-back}
-use Rattle.operations.specs.Calls.{exactOfOne, changesAfterM, partFault, answerFault, faultOfOne, CallOfOne}
-use Rattle.operations.proofs.JudgedCalls.{passes-on}
-use Rattle.operations.proofs.NeverMet.{last-32}
+use Rattle.operations.specs.Calls.{exactOfOne, CallOfOne}
+use Rattle.operations.proofs.NeverMet.{never-met}
 use Rattle.building.specs.Building.{HandsOver}
 use Rattle.building.proofs.Delivering.{copy-next, no-room, handed}
-use Rattle.merging.specs.Turning.{turnedWord, turnedWords, turnedList}
+use Rattle.edges.specs.Turning.{turnedWord, turnedWords, turnedList}
+use Rattle.edges.proofs.NoFault.{call-handed}
 
 turn-word : (d : ℕ) (a b : Bool) → word d (not a) (not b) ≡ turnedWord (word d a b)
 unfolding turnedWord word
@@ -94,29 +90,11 @@ first-is a e = go a (accepted-normal a .0 e .0)
     go [] n = absurd n
     go (h ∷ ws) n = (omega arith, n .0)
 
--- no word of the answer is late, and none too many
-quiet : (l : List ℕ) → WithinM l → changesAfterM l ≡ false
-unfolding changesAfterM
-quiet [] w = refl
-quiet (x ∷ l) w = rw (le-ltb M (dateOf x) (w 0 (omega arith)), quiet l (λ i h. w (suc i) (omega arith)))
-
 module _ (a : List ℕ) (accepted : listFault a ≡ 0) (small : Words a) where
-  no-fault : partFault (turnedList a) ≡ 0
-  unfolding partFault exactOfOne
-  no-fault =
-      let late : changesAfterM (turnedList a) ≡ false =
-      rw (← exact-turned a accepted)
-      (quiet (listOf (NOT (signalOf a)) (lastDate a)) (within (NOT (signalOf a)) (lastDate a) (last-32 a (λ i u. small i)))) in
-      let few : length (turnedList a) ≤ mostWords = rw (list-long a) (accepted-normal a .0 accepted .1) in
-      rw (le-ltb mostWords (length (turnedList a)) few, late)
-
   turned-call : (out : List ℕ) (answer : Written) (after : List ℕ) → HandsOver (turnedList a) out answer after
       → CallOfOne NOT a out answer after
-  unfolding faultOfOne answerFault
   turned-call out answer after h =
-      rw (exact-turned a accepted)
-      (passes-on (listFault a) (answerFault (turnedList a) (length out)) (turnedList a) out answer after accepted
-      (passes-on (partFault (turnedList a)) _ (turnedList a) out answer after no-fault h))
+      call-handed NOT a small accepted (never-met .notLonger a accepted) out answer after (rw (exact-turned a accepted) h)
 
   pub turned-short : (out : List ℕ) → length out < length a → CallOfOne NOT a out (Refused 7) out
   turned-short out h = turned-call out (Refused 7) out (no-room (turnedList a) out (rw (list-long a) h))

@@ -1,14 +1,14 @@
--- `merging::turn_words` meets its contract: after i turns the first i words are there and the rest is as it was.
+-- `edges::turn_words` meets its contract: after i turns the first i words are there and the rest is as it was.
 use borrow.Author.Needs.{needs}
-use Prim.Native.Nat.{ℕ, _≤_, _<_, _-_}
+use Prim.Native.Nat.{ℕ, _≤_, _-_}
 use native.Mathlib.Omega.{arith}
 use mathlib.Core.Path.{_≡_, refl, sym, _∙_}
 use mathlib.Core.List.{List, _++_}
 use lib.ListN.{length, take, drop, set, getD, length-set}
-use Rattle.merging.specs.Turning.{turnedList}
-use Rattle.merging.proofs.Turned.{put-first, put-next, put-all}
-use Rattle.merging.proofs.turn_words.Statement.{statement}
-use Rattle.merging.proofs.turn_words.Tie as tie
+use Rattle.edges.specs.Turning.{turnedList}
+use Rattle.edges.proofs.Turned.{put-first, put-next, put-all}
+use Rattle.edges.proofs.turn_words.Statement.{statement}
+use Rattle.edges.proofs.turn_words.Tie as tie
 
 abbrev Inv-loop : tie.InvT-loop
 Inv-loop words out₀ i₀ out i =

@@ -1,11 +1,11 @@
--- `merging::not` turns each value of an accepted list.
+-- `edges::not` turns each value of an accepted list.
 use mathlib.Core.Path.{sym, _∙_}
 use Rattle.operations.specs.Calls.{faultOfOne}
 use Rattle.operations.proofs.JudgedCalls.{refused}
-use Rattle.merging.proofs.Turned.{first-is, turned-short, turned-written}
+use Rattle.edges.proofs.Turned.{first-is, turned-short, turned-written}
 use borrow.Author.Needs.{needs}
-use Rattle.merging.proofs.not.Statement.{statement}
-use Rattle.merging.proofs.not.Tie as tie
+use Rattle.edges.proofs.not.Statement.{statement}
+use Rattle.edges.proofs.not.Tie as tie
 
 list-fault-requires : tie.Need-list-fault-requires
 list-fault-requires c κs = search needs

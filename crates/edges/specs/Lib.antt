@@ -1,0 +1,3 @@
+-- NOT and the edges word by word: definitions that mirror the code.
+pub mod Turning
+pub mod Edging
