@@ -3,3 +3,4 @@ pub mod DelayUpcoming
 pub mod DelayLoop
 pub mod WordTests
 pub mod DelayedExact
+pub mod FewWords

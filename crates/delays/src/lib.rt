@@ -41,10 +41,10 @@ fn delay_words(level: bool, d: Length, f: &[u32], slot: &mut [u32]) -> Made
     last.made
 }
 
-// The words of a slot for the answer of a short list.
+// The words of a slot for the answer of a short list: fewer are cleared for it.
 const SHORT: usize = 32;
 
-// A delay of a list that is judged first, its answer delivered to an output.
+// A delay of a list that is judged first, its answer delivered to an output. It has at most two words for each word of the list.
 fn delay(level: bool, d: Length, f: &[u32], out: &mut [u32]) -> Written
     ensures { λ r. ⌜ CallOfDelay (delayOf level (d .0)) (d .0) (now (f .entry)) (now (out .entry)) r (now (out .exit)) ⌝ }
 {
@@ -59,9 +59,7 @@ fn delay(level: bool, d: Length, f: &[u32], out: &mut [u32]) -> Written
     if 2 * f.len() <= SHORT {
         let mut slot = [0u32; SHORT];
         let made = delay_words(level, d, f, &mut slot);
-        if made.count as usize <= SHORT {
-            return building::deliver(&slot, made, out);
-        }
+        return building::deliver(&slot, made, out);
     }
     let mut slot = [0u32; WORDS];
     let made = delay_words(level, d, f, &mut slot);

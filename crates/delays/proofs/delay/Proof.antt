@@ -5,6 +5,7 @@ use lib.ListN.{replicate}
 use Rattle.signals.proofs.Normal.{accepted-normal, accepted-start}
 use Rattle.operations.proofs.JudgedCalls.{refused, passes-on}
 use Rattle.delays.proofs.DelayJudged.{fault-order, list-first, length-next, neither}
+use Rattle.delaying.proofs.FewWords.{short-answer}
 use Rattle.delaying.proofs.DelayedExact.{delay-answers}
 use borrow.Author.Needs.{needs}
 use Rattle.delays.proofs.delay.Statement.{statement}
@@ -35,9 +36,6 @@ delay-words-requires c κs =
     let test = c .before .before .before in
     omega (arith, accepted-start _ (sym (test .before .list-fault .ensures) ∙ test .if1 .left) .within)
 
-cast-if4 : tie.Need-cast-if4
-cast-if4 c = search needs
-
 slice-aggregate-deliver : tie.Need-slice-aggregate-deliver
 slice-aggregate-deliver c = search needs
 
@@ -49,15 +47,16 @@ same-length c = search needs
 
 returns-3 : tie.Need-returns-3
 returns-3 c =
-    let count = c .before .before .before .before .before in
-    let ran = count .before .before .before in
-    let test = ran .before .before .before in
+    let ran = c .before .before .before .before .before .before in
+    let short = ran .before .before in
+    let test = short .before in
     let judged = test .before .before in
     let accepted = sym (judged .list-fault .ensures) ∙ test .before .if1 .left in
+    let fits = short-answer _ _ _ _ _ (accepted-start _ accepted .within) (short .if3 .taken) (ran .delay-words .ensures) in
     rw (← (fault-order _ _ _ _))
     (passes-on _ _ _ _ _ _ (sym (neither _ _ _ (judged .list-fault .ensures) (test .before .if1 .left) (test .if2 .left)))
     (delay-answers _ _ _ accepted (test .if2 .left) (λ i. judged .before .before .shared-slice-known .given i .fits) (replicate 32 0)
-    _ _ (ran .delay-words .ensures) (λ h. count .if4 .taken) (ran .delay-words .kept .1 .1 .1 .0)
+    _ _ (ran .delay-words .ensures) (λ h. fits) (ran .delay-words .kept .1 .1 .1 .0)
     (judged .before .before .before .args .out .now) _ _ (c .before .before .deliver .ensures)))
 
 slice-aggregate-delay-words-2 : tie.Need-slice-aggregate-delay-words-2
@@ -99,7 +98,6 @@ delay-spec =
     mul-if3
     slice-aggregate-delay-words
     delay-words-requires
-    cast-if4
     slice-aggregate-deliver
     deliver-requires
     same-length
