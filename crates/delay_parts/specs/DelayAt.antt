@@ -25,7 +25,7 @@ DelayedIn level d l work at room made after = EndsIn (lastState level d l (slotI
 
 -- it begins where the length is at most M and the slot is in the work area, apart from the operand
 unfoldable pub mayDelay : ℕ → Source → ℕ → ℕ → Bool
-mayDelay d f at room = leb d M && (leb (at + mostWords) room && apartFrom f at mostWords)
+mayDelay d f at words = leb d M && (leb (at + mostWords) words && apartFrom f at mostWords)
 
 -- Its answer and the work area at exit: as it was where it does not begin, else with the answer in the slot.
 pub record DelayedAt (level : Bool) (d : ℕ) (sheet left right work : List ℕ) (f : Source) (at : ℕ) (answer : SlotAnswer) (after : List ℕ)

@@ -23,7 +23,7 @@ fn pass(slot: &mut [u32], level: bool, d: Length, timer: Timer, made: Made, word
         ⌜ stateOf (r .timer) (r .made) (now (slot .exit)) ≡ pastWord level (d .0) (stateOf timer made (now (slot .entry))) word ⌝ }
 {
     let date = Date(word / 4);
-    let before = delaying::settle(slot, level, timer, made, word / 4);
+    let before = delaying::settle(slot, level, timer, made, date);
     let here = timing::on_level(level, word / 2 % 2 == 1);
     let next = timing::on_level(level, word % 2 == 1);
     let now_at = timing::follow(before.timer, d, date, true, here);
@@ -67,7 +67,7 @@ fn pass_words(
         passed += 1;
         word = sources::next_word(sheet, left, right, work, f, passed);
     }
-    let going = delaying::settle(&mut work[at..end], level, timer, made, reading::NEVER);
+    let going = delaying::settle(&mut work[at..end], level, timer, made, Date(reading::NEVER));
     going.made
 }
 

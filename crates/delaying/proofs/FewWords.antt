@@ -11,7 +11,8 @@ use Rattle.reading.specs.Reading.{NEVER}
 use Rattle.building.specs.Building.{idle, oneMore, lateWith, emitted, begun}
 use Rattle.building.specs.declared.Made.{Made}
 use Rattle.timing.specs.Delay.{timer, onLevel}
-use Rattle.delaying.specs.Turns.{State, putAt, settled, timerAt, timerAfter, followed, pastWord, pastWords, firstState, lastState, Ends}
+use Rattle.delaying.specs.Turns.{State, putAt, settled, timerAt, timerAfter, followed, pastWord, pastWords}
+use Rattle.delaying.specs.Turns.{firstState, lastState, Ends}
 
 -- a date gives at most one word
 emitted-count : (made : Made) (date : ℕ) (at after : Bool) → emitted made date at after .count ≤ made .count + 1

@@ -13,8 +13,8 @@ use signals::Length;
 use signals::M;
 use signals::Written;
 
-// The delay of one level of a list, built in a slot of any length. The loop has the body of `pass` once more: called in two loops, it would
-// be put into neither, at twice the time.
+// The delay of one level of a list, built in a slot of any length. The loop has the body of the one in
+// `delay_parts` once more: as a function called in both, it would be put into neither, at twice the time.
 fn delay_words(level: bool, d: Length, f: &[u32], slot: &mut [u32]) -> Made
     requires { ⌜ 1 ≤ length (now f) ⌝ }
     ensures { λ r. ⌜ Ends (lastState level (d .0) (now (f .entry)) (now (slot .entry))) r (now (slot .exit)) ⌝ }
@@ -27,7 +27,7 @@ fn delay_words(level: bool, d: Length, f: &[u32], slot: &mut [u32]) -> Made
     while i < f.len() {
         let word = f[i];
         let date = Date(word / 4);
-        let before = delaying::settle(slot, level, timer, made, word / 4);
+        let before = delaying::settle(slot, level, timer, made, date);
         let here = timing::on_level(level, word / 2 % 2 == 1);
         let next = timing::on_level(level, word % 2 == 1);
         let now_at = timing::follow(before.timer, d, date, true, here);
@@ -37,7 +37,7 @@ fn delay_words(level: bool, d: Length, f: &[u32], slot: &mut [u32]) -> Made
         made = building::emit(slot, before.made, date, at, after);
         i += 1;
     }
-    let last = delaying::settle(slot, level, timer, made, reading::NEVER);
+    let last = delaying::settle(slot, level, timer, made, Date(reading::NEVER));
     last.made
 }
 

@@ -63,17 +63,16 @@ compared sheet ok t u a b =
     (settled-later _ _ m (settles sheet ok u) (omega arith)))
 
 -- both formulas worked out, F's list below G's
-module _ (sheet f g before after : List ℕ) (ok : sheetFault sheet ≡ 0) (bytes : Bytes sheet) (readF : readingFault sheet f ≡ 0)
-    (readG : readingFault sheet g ≡ 0) (fault : ℕ) (end : List (List ℕ))
-    (r : RanOut sheet (placedCodes sheet f ++ placedCodes sheet g) before after fault end) where
+module _ (sheet f g : List ℕ) (ok : sheetFault sheet ≡ 0) (bytes : Bytes sheet) (readF : readingFault sheet f ≡ 0)
+    (readG : readingFault sheet g ≡ 0) (fault : ℕ) (end : List (List ℕ)) where
   abbrev Ended : Type 0
   Ended =
       (fault ≡ firstOf (workingFault sheet f) (workingFault sheet g))
       × (fault ≡ 0 → (end ≡ wordsOn sheet g ∷ wordsOn sheet f ∷ [])
       × (listFault (wordsOn sheet f) ≡ 0) × (listFault (wordsOn sheet g) ≡ 0) × Words (wordsOn sheet f) × Words (wordsOn sheet g))
 
-  ended : Runs sheet (placedCodes sheet f ++ placedCodes sheet g) [] fault end → Ended
-  ended q = let b = in-a-row sheet (placedCodes sheet f) (placedCodes sheet g) [] fault end q in go (b .middle) (b .ran)
+  pub both-ran : Runs sheet (placedCodes sheet f ++ placedCodes sheet g) [] fault end → Ended
+  both-ran q = let b = in-a-row sheet (placedCodes sheet f) (placedCodes sheet g) [] fault end q in go (b .middle) (b .ran)
     where
       go : (middle : List (List ℕ))
           → (Runs sheet (placedCodes sheet f) [] 0 middle × Runs sheet (placedCodes sheet g) middle fault end)
@@ -88,6 +87,13 @@ module _ (sheet f g before after : List ℕ) (ok : sheetFault sheet ≡ 0) (byte
       go middle (inr h) =
           let a = formula-ran sheet f ok bytes readF [] (omega arith) fault middle (h .1) in
           (a .fault-is ∙ sym (first-is (workingFault sheet f) _ (λ z. h .0 (a .fault-is ∙ z))), λ z. absurd (h .0 z))
+
+-- in a work area
+module _ (sheet f g before after : List ℕ) (ok : sheetFault sheet ≡ 0) (bytes : Bytes sheet) (readF : readingFault sheet f ≡ 0)
+    (readG : readingFault sheet g ≡ 0) (fault : ℕ) (end : List (List ℕ))
+    (r : RanOut sheet (placedCodes sheet f ++ placedCodes sheet g) before after fault end) where
+  ended : Runs sheet (placedCodes sheet f ++ placedCodes sheet g) [] fault end → Ended sheet f g ok bytes readF readG fault end
+  ended = both-ran sheet f g ok bytes readF readG fault end
 
   pub judged-fault : fault ≡ judgeFault sheet f g (length before)
   unfolding judgeFault

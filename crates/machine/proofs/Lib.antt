@@ -11,3 +11,4 @@ pub mod Preparing
 pub mod FormulaRan
 pub mod Calling
 pub mod Claiming
+pub mod SlotsSuffice

@@ -1,4 +1,4 @@
--- Mirrored: Reading a formula for a sheet as a call: 10, 11, 8, 12 of the formula, then 13 where a name is not found.
+-- Mirrored: Reading a formula for a sheet as a call: 10, 11, 8, 12 of the formula, then 13 where a name has no list.
 use Prim.Native.Nat.{ℕ}
 use mathlib.Core.Path.{_≡_}
 use mathlib.Core.Bool.{cond}
@@ -11,7 +11,8 @@ use Rattle.grammar.specs.Formula.{formulaFault, codeOf}
 use Rattle.format.specs.Reading.{sheetFault}
 use Rattle.machine.specs.Machine.{placedCodes, allFound}
 
--- on a sheet that is refused a name is sought among the whole signals at its front
+-- on a sheet that is refused a name is sought among the whole signals at its front; one whose signal has no words, or 512, counts as
+-- missing too
 unfoldable pub preparingFault : List ℕ → List ℕ → ℕ
 preparingFault sheet text = firstOf (formulaFault text) (cond (allFound (placedCodes sheet text)) 0 13)
 

@@ -1,4 +1,4 @@
-// A formula read for a sheet that is judged already: its code words, with the places of its names on the sheet.
+// A formula read for a sheet: its code words, with the places of its names on the sheet.
 ghost use mathlib.Core.Path.{_≡_};
 ghost use mathlib.Core.Bool.{_&&_};
 ghost use mathlib.Core.List.{map, _++_};
@@ -66,8 +66,8 @@ fn place_names(sheet: &[u8], text: &[u8], codes: &mut [u64], n: usize) -> bool
     all
 }
 
-// A formula read for a sheet: 10, 11, 8, 12, 13, or how many code words stand for its parts. On a sheet that is refused a name is sought
-// among the whole signals at its front.
+// A formula read for a sheet that need not be judged: 10, 11, 8, 12, 13, or how many code words stand for its parts. On a sheet that is
+// refused a name is sought among the whole signals at its front, and one whose signal has no words, or 512, counts as missing too.
 pub fn prepare(sheet: &[u8], text: &[u8], codes: &mut [u64; 32]) -> Written
     ensures { λ r. ⌜ PreparesFor (now (sheet .entry)) (now (text .entry)) (now (codes .entry)) r (now (codes .exit)) ⌝ }
 {

@@ -63,7 +63,7 @@ pastOn l c date =
     })
     (record { step = heldOn (valueAfter (c .last)) (c .passed); next = c })
 
--- no word of the list stands among `room` words of the work area from `at` on
+-- none of the places that the list claims is among `room` words of the work area from `at` on
 abbrev pub apartIn : Memory → ℕ → ℕ → ℕ → ℕ → Bool
 apartIn Sheet from count at room = true
 apartIn Work from count at room = leb (from + count) at || leb (at + room) from

@@ -72,7 +72,7 @@ pub fn next_word(
     }
 }
 
-// No word of the list stands among so many words of the work area from a place on.
+// None of the places that the list claims is among so many words of the work area from a place on.
 pub fn apart(list: Source, at: u32, room: u32) -> bool
     ensures { λ r. ⌜ r ≡ apartFrom list at room ⌝ }
 {
@@ -91,7 +91,7 @@ pub fn apart(list: Source, at: u32, room: u32) -> bool
 }
 
 // A reader of a list where it stands: the low 32 bits of the next word, its date, which is NEVER where none is left, the last word passed,
-// whose low bit is the value held, and how many words are passed. Its fields leave no gap between them, which would be copied too.
+// whose low bit is the value held, and how many words are passed. Its fields leave no padding between them, which would be copied too.
 pub struct Cursor {
     pub word: u32,
     pub date: u32,

@@ -147,6 +147,9 @@ laws-Substitutions-SubstitutionsExact = Rattle.laws.proofs.Substitutions.substi
 pub laws-WrongTurns-WrongTurns : Rattle.laws.specs.WrongTurns.WrongTurns
 laws-WrongTurns-WrongTurns = Rattle.laws.proofs.WrongTurns.wrong-turns
 
+pub machine-Enough-SlotsSuffice : Rattle.machine.specs.Enough.SlotsSuffice
+machine-Enough-SlotsSuffice = Rattle.machine.proofs.SlotsSuffice.slots-suffice
+
 pub names-Sentence-NamesExact : Rattle.names.specs.Sentence.NamesExact
 names-Sentence-NamesExact = Rattle.names.proofs.NamesExact.names-exact
 

@@ -19,11 +19,12 @@ use Rattle.sources.specs.Sources.{listAt, apartFrom, slotIn, withSlot}
 use Rattle.sources.specs.declared.Memory.{Memory}
 use Rattle.sources.specs.declared.Memory.the-variants.{Sheet, Work, Left, Right}
 use Rattle.sources.specs.declared.Source.{Source}
-use Rattle.sources.proofs.Sourcing.{slot-back, with-slot-long}
+use Rattle.sources.proofs.Sourcing.{slot-back, with-slot-long, part-after}
 use Rattle.code_words.specs.CodeWords.{constants, constantOf, leafSource, operandsOf}
 use Rattle.applying.specs.Applied.{Applied}
 use Rattle.machine.specs.Stack.{leafList, firstTaken, onTop, Runs, Worked, lacking, high, leaf, made, refused, areaFault, RanOut}
 use Rattle.machine.proofs.PartCodes.{arity-small}
+use Rattle.working.specs.Layout.{keptAt}
 use Rattle.working.specs.declared.Next.{Next}
 use Rattle.working.specs.declared.Ran.{Ran}
 use Rattle.working.specs.Standing.{listOf, nowhere, slotSource, fromAbove, Ready}
@@ -42,6 +43,7 @@ no-room sheet codes before ran h e =
       out = record { short = λ x. (e ∙ sym fault, refl); runs = λ z. absurd (let q = sym fault ∙ z in omega arith) };
       top-is = λ z. absurd (let q = sym e ∙ z in omega arith);
       below-is = λ z. absurd (let q = sym e ∙ z in omega arith);
+      kept-is = refl;
     }
   where
     fault : areaFault (length before) ≡ 18
@@ -78,6 +80,7 @@ module _ (sheet codes before : List ℕ) where
     pub slotted : Slotted slots
     pub stacked : Stacked sheet work stack slots st
     pub same : length work ≡ length before
+    pub kept : drop (keptAt 0) work ≡ drop (keptAt 0) before
     pub on : (fault : ℕ) (end : List (List ℕ)) → Runs sheet (drop i codes) st fault end → Runs sheet codes [] fault end
 
   pub start : (stack : List Source) → length stack ≡ 20 → Going before stack firstSlots 0 0
@@ -90,6 +93,7 @@ module _ (sheet codes before : List ℕ) where
         slotted = first-slotted;
         stacked = tt;
         same = refl;
+        kept = refl;
         on = λ fault end r. r;
       }
 
@@ -103,14 +107,15 @@ module _ (sheet codes before : List ℕ) where
     ended ran after end r = record { short = λ x. absurd (x no-18); runs = λ z. r }
 
     -- a fault ends it
-    stops : (ran : Ran) (after : List ℕ) (end : List (List ℕ)) → (ran .fault ≡ 0 → ⊥) → Runs sheet codes [] (ran .fault) end
-        → WorkedOut sheet codes before ran after
-    stops ran after end x r =
+    stops : (ran : Ran) (after : List ℕ) → drop (keptAt 0) after ≡ drop (keptAt 0) before → (end : List (List ℕ))
+        → (ran .fault ≡ 0 → ⊥) → Runs sheet codes [] (ran .fault) end → WorkedOut sheet codes before ran after
+    stops ran after kept end x r =
         record {
           end = end;
           out = ended ran after end r;
           top-is = λ z. absurd (x z);
           below-is = λ z. absurd (x z);
+          kept-is = kept;
         }
 
     module _ (work : List ℕ) (stack : List Source) (slots : List ℕ) (height i : ℕ) (g : Going work stack slots height i) where
@@ -123,6 +128,7 @@ module _ (sheet codes before : List ℕ) where
             out = ended ran work (g .st) (g .on (ran .fault) (g .st) (rw (drop-of-length-le codes {i = i} h) (z, refl)));
             top-is = λ q k. rw t (above 0 (omega (arith, g .tall)));
             below-is = λ q k. rw b (above 1 (omega (arith, g .tall)));
+            kept-is = g .kept;
           }
         where
           above : (depth : ℕ) → depth < height → listOf sheet work (fromAbove stack height depth) ≡ getD (g .st) depth []
@@ -142,13 +148,14 @@ module _ (sheet codes before : List ℕ) where
         now-runs fault end r = g .on fault end (rw next r)
 
         pub lacks : height < operandsOf w → (ran : Ran) → ran .fault ≡ 12 → WorkedOut sheet codes before ran work
-        lacks h ran f = stops ran work [] (λ z. absurd (let q = sym f ∙ z in omega arith)) (now-runs (ran .fault) [] (lacking (omega
-            (arith, g .tall)) f))
+        lacks h ran f =
+            stops ran work (g .kept) [] (λ z. absurd (let q = sym f ∙ z in omega arith))
+            (now-runs (ran .fault) [] (lacking (omega (arith, g .tall)) f))
 
         pub too-high : operandsOf w ≤ height → 17 < height - operandsOf w → (ran : Ran) → ran .fault ≡ 12
             → WorkedOut sheet codes before ran work
         too-high h k ran f =
-            stops ran work [] (λ z. absurd (let q = sym f ∙ z in omega arith))
+            stops ran work (g .kept) [] (λ z. absurd (let q = sym f ∙ z in omega arith))
             (now-runs (ran .fault) [] (high (omega (arith, g .few)) (omega (arith, g .tall)) f))
 
         -- the places of a part's operands
@@ -178,7 +185,7 @@ module _ (sheet codes before : List ℕ) where
 
           -- the part's list put in its place
           module _ (list : Source) (work' l : List ℕ) (stands : Stands sheet work' list (getD slots height 0) l)
-              (long' : length work' ≡ length work)
+              (long' : length work' ≡ length work) (kept' : drop (keptAt 0) work' ≡ drop (keptAt 0) work)
               (below : Stacked sheet work' (set stack (height - taken) list) (exchanged slots height (height - taken)) (drop taken (g .st)))
               (goes : (fault : ℕ) (end : List (List ℕ)) → Runs sheet (drop (suc i) codes) (l ∷ drop taken (g .st)) fault end
               → Worked sheet w (g .st) fault (λ st. Runs sheet (drop (suc i) codes) st fault end)) where
@@ -196,6 +203,7 @@ module _ (sheet codes before : List ℕ) where
                       (omega (arith, g .slotted .long)) (omega (arith, g .few)) (omega arith) (g .slotted);
                   stacked = (rw left top, below);
                   same = long' ∙ g .same;
+                  kept = kept' ∙ g .kept;
                   on = λ fault end r. now-runs fault end (goes fault end (rw (add-one i) at r));
                 }
               where
@@ -225,7 +233,7 @@ module _ (sheet codes before : List ℕ) where
           pub leaf-turn : taken ≡ 0 → (next : Next) (work' : List ℕ) → LeafMade w work next work'
               → Going work' (set stack (height - taken) (next .list)) (exchanged slots height (height - taken)) (height - taken + 1) (i + 1)
           leaf-turn z next work' m =
-              placed (next .list) work' (leafList sheet w) here (ap length (m .kept))
+              placed (next .list) work' (leafList sheet w) here (ap length (m .kept)) (ap (drop (keptAt 0)) (m .kept))
               (rw (m .kept) (stacked-same sheet work stack _ slots _ (drop taken (g .st)) (stacked-drop sheet work stack slots taken
               (g .st) (g .stacked))
               (under (next .list))))
@@ -246,21 +254,28 @@ module _ (sheet codes before : List ℕ) where
                 let second = own (height - taken + taken / 2) (omega (arith, small)) .names ∙ ap (λ n. getD (g .st) n []) y in
                 rw (first, second) at (m .applied)
 
-            pub refusal : (next .fault ≡ 0 → ⊥) → (ran : Ran) → ran .fault ≡ next .fault → WorkedOut sheet codes before ran work'
-            refusal x ran f =
-                stops ran work' [] (λ z. x (sym f ∙ z))
-                (now-runs (ran .fault) []
-                (refused (m .answer) _ (rw (sym t) l) (omega (arith, g .tall)) applied (sym (f ∙ m .fault-is)) (λ z. x (sym f ∙ z))))
-
             fits : getD slots height 0 + mostWords ≤ length work
             fits = ready l .fits
+
+            -- the slot is one of the stack's
+            above : drop (keptAt 0) work' ≡ drop (keptAt 0) work
+            above =
+                ap (drop (keptAt 0)) (m .after-is)
+                ∙ part-after work (getD slots height 0) mostWords fits (m .slot) (m .wide) (keptAt 0)
+                (let z = g .slotted .within height (omega (arith, g .few)) in omega arith)
+
+            pub refusal : (next .fault ≡ 0 → ⊥) → (ran : Ran) → ran .fault ≡ next .fault → WorkedOut sheet codes before ran work'
+            refusal x ran f =
+                stops ran work' (above ∙ g .kept) [] (λ z. x (sym f ∙ z))
+                (now-runs (ran .fault) []
+                (refused (m .answer) _ (rw (sym t) l) (omega (arith, g .tall)) applied (sym (f ∙ m .fault-is)) (λ z. x (sym f ∙ z))))
 
             pub list-turn : next .fault ≡ 0
                 → Going work' (set stack (height - taken) (next .list)) (exchanged slots height (height - taken)) (height - taken + 1)
                 (i + 1)
             list-turn z =
                 placed (next .list) work' (take (countIn (m .answer)) (m .slot)) here
-                (ap length (m .after-is) ∙ with-slot-long work (getD slots height 0) mostWords fits (m .slot) (m .wide))
+                (ap length (m .after-is) ∙ with-slot-long work (getD slots height 0) mostWords fits (m .slot) (m .wide)) above
                 (rw (m .after-is)
                 (stacked-kept sheet work stack _ slots _ (getD slots height 0) fits (m .slot) (m .wide) (drop taken (g .st))
                 (stacked-drop sheet work stack slots taken (g .st) (g .stacked))

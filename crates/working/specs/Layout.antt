@@ -1,6 +1,5 @@
 -- Statement: Where the slots of the work area stand, 256 words each: 32 for the stack of a call, which is all that sheets of version 1
--- need,
--- and above them room for the lists of 32 kept formulas.
+-- need, and above them room for the lists of 32 kept formulas.
 use Prim.Native.Nat.{ℕ, _+_, _*_, _≤_, _<_}
 use mathlib.Core.Path.{_≡_}
 use Rattle.signals.specs.Words.{mostWords}

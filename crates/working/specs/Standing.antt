@@ -5,7 +5,7 @@ use mathlib.Core.Path.{_≡_}
 use mathlib.Core.Bool.{true, cond}
 use lib.Dec.{leb, ltb}
 use mathlib.Core.List.{List, []}
-use lib.ListN.{length, take, getD}
+use lib.ListN.{length, take, drop, getD}
 use Rattle.signals.specs.Words.{mostWords}
 use Rattle.signals.specs.Answers.{faultIn, countIn}
 use Rattle.signals.specs.declared.Written.{Written}
@@ -15,6 +15,7 @@ use Rattle.sources.specs.declared.Source.{Source}
 use Rattle.code_words.specs.CodeWords.{constants, leafSource}
 use Rattle.applying.specs.Applied.{Applied}
 use Rattle.machine.specs.Stack.{RanOut}
+use Rattle.working.specs.Layout.{keptAt}
 use Rattle.working.specs.declared.Next.{Next}
 use Rattle.working.specs.declared.Ran.{Ran}
 
@@ -60,9 +61,11 @@ abbrev pub StepMade : ℕ → ℕ → List ℕ → List ℕ → Source → Sourc
 StepMade w taken sheet before a b at next after =
     (taken ≡ 0 → LeafMade w before next after) × (1 ≤ taken → ListMade w sheet before a b at next after)
 
--- The whole of working code words out: the stack after them, and where the two topmost of its lists stand.
+-- The whole of working code words out: the stack after them, and where the two topmost of its lists stand; where lists of kept formulas
+-- stand, nothing is written.
 pub record WorkedOut (sheet codes before : List ℕ) (ran : Ran) (after : List ℕ) : Type 0 where
   pub end : List (List ℕ)
   pub out : RanOut sheet codes before after (ran .fault) end
   pub top-is : ran .fault ≡ 0 → 1 ≤ length end → listOf sheet after (ran .top) ≡ getD end 0 []
   pub below-is : ran .fault ≡ 0 → 2 ≤ length end → listOf sheet after (ran .below) ≡ getD end 1 []
+  pub kept-is : drop (keptAt 0) after ≡ drop (keptAt 0) before

@@ -18,7 +18,7 @@ pub const WORK_WORDS: usize = 8192;
 // The most lists that another is put on.
 const HIGHEST: usize = 17;
 
-// Where the slots of the work area stand that a stack uses: one for each place, and one above.
+// Where the slots of the work area stand that a stack uses: one for each of its places and one above them; the last is never used.
 const SLOTS: [u32; 20] = [
     0,
     256,

@@ -17,11 +17,11 @@ returns : tie.Need-returns
 returns c =
     let shown = c .before .before .before .before in
     let test = shown .before in
-    comes _ _ _ _ _ (test .before .before .if1 .taken) (test .if2 .taken) _ (shown .on-level .ensures) _ _
+    comes _ _ _ _ _ (test .before .before .before .if1 .taken) (test .if2 .taken) _ (shown .on-level .ensures) _ _
     (c .before .before .emit .ensures)
 
 returns-2 : tie.Need-returns-2
-returns-2 c = not-yet _ _ _ _ _ (c .before .before .if1 .taken) (c .if2 .left)
+returns-2 c = not-yet _ _ _ _ _ (c .before .before .before .if1 .taken) (c .if2 .left)
 
 returns-3 : tie.Need-returns-3
 returns-3 c = none-waits _ _ _ _ _ (c .if1 .left)
