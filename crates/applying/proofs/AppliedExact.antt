@@ -31,7 +31,7 @@ use Rattle.grammar.specs.Kinds as kinds
 use Rattle.grammar.specs.Tree.{ton, tof}
 use Rattle.applying.specs.PartCalls.{partAnswer, unaryIn, unaryFault, unaryExact, judgedFor, exactFor}
 use Rattle.applying.specs.Merges.{operationOf, tableFor}
-use Rattle.applying.specs.Applied.{MergedTo, DelayRan, DelayedTo, edged, appliedBy, Applied}
+use Rattle.applying.specs.Applied.{MergedIn, DelayedInto, edged, appliedInBy, Applied}
 use Rattle.applying.proofs.Numbering.{numbered}
 use Rattle.applying.proofs.Operators.{of-one, of-two, of-delay, delay-judged, delay-exact}
 use Rattle.applying.proofs.Operators.{judged-one, exact-one, judged-two, exact-two}
@@ -81,15 +81,6 @@ built-told exact before slot made b wide answer e l i = (fault, list)
         let s = b .slot-is ∙ slot-short exact before (f .1) (omega (arith, f .0)) in
         i ∙ rw (n, s) (take-at exact (drop (length exact) before) (length exact) refl)
 
-merge-told : (k : ℕ) (a b : List ℕ) (answer : Written) (l : List ℕ) → MergedTo k a b answer l → pairFault a b ≡ 0 → Words a → Words b
-    → Told answer l (exactOfTwo (merged (operationOf k) (tableFor k)) a b)
-unfolding pairFault
-merge-told k a b answer l m z u v =
-    let j = both-none (listFault a) (listFault b) z in
-    built-told _ (m .before) (m .slot) (m .made)
-    (merged-exact (operationOf k) (tableFor k) a b (j .0) (j .1) u v (m .before) (m .slot) (m .made) (m .merges))
-    (m .wide) answer (m .answer-is) l (m .list-is)
-
 small : (d : ℕ) → lengthFault d ≡ 0 → d ≤ M
 unfolding lengthFault
 small d z = go (ltb M d) refl z
@@ -98,14 +89,25 @@ small d z = go (ltb M d) refl z
     go true e z = absurd (omega arith)
     go false e z = ltb-false M d e
 
-delay-told : (level : Bool) (d : ℕ) (a : List ℕ) (answer : Written) (l : List ℕ) → DelayedTo level d a answer l
-    → firstOf (listFault a) (lengthFault d) ≡ 0 → Words a → Told answer l (exactOfDelay (delayOf level d) d a)
-delay-told level d a answer l m z u =
-    let j = both-none (listFault a) (lengthFault d) z in
-    let s = small d (j .1) in
-    let r = m .ran s in
-    built-told _ (r .before) (lastState level d a (r .before) .slot) (lastState level d a (r .before) .made)
-    (delayed-exact level d a (r .before) (j .0) s u) (r .wide) answer (r .answer-is) l (r .list-is)
+-- a merge and a delay in a slot of 256 words, their list at its front
+module _ (answer : Written) (l before slot : List ℕ) (wide : length before ≡ mostWords) (i : l ≡ take (countIn answer) slot) where
+  merge-told : (k : ℕ) (a b : List ℕ) → MergedIn k a b before slot answer → pairFault a b ≡ 0 → Words a → Words b
+      → Told answer l (exactOfTwo (merged (operationOf k) (tableFor k)) a b)
+  unfolding pairFault
+  merge-told k a b m z u v =
+      let j = both-none (listFault a) (listFault b) z in
+      built-told _ before slot (m .made)
+      (merged-exact (operationOf k) (tableFor k) a b (j .0) (j .1) u v before slot (m .made) (m .merges))
+      wide answer (m .answer-is) l i
+
+  delay-told : (level : Bool) (d : ℕ) (a : List ℕ) → DelayedInto level d a before slot answer
+      → firstOf (listFault a) (lengthFault d) ≡ 0 → Words a → Told answer l (exactOfDelay (delayOf level d) d a)
+  delay-told level d a m z u =
+      let j = both-none (listFault a) (lengthFault d) z in
+      let s = small d (j .1) in
+      let r = m .ran s in
+      built-told _ before (lastState level d a before .slot) (lastState level d a before .made)
+      (delayed-exact level d a before (j .0) s u) wide answer (r .0) l (i ∙ ap (take (countIn answer)) (r .1))
 
 none-words : Words none
 none-words zero = omega arith
@@ -114,25 +116,28 @@ none-words (suc i) = omega arith
 pub applied-exact : (w : ℕ) (a b : List ℕ) (answer : Written) (l : List ℕ) → Applied w a b answer l → judgedFor w a b ≡ 0
     → Words a → Words b
     → (faultIn answer ≡ partFault (exactFor w a b)) × (faultIn answer ≡ 0 → l ≡ exactFor w a b)
-applied-exact w a b answer l x z u v = go (leb kinds.AND (w % 16)) (edged (w % 16)) refl refl x
+applied-exact w a b answer l x z u v = go (leb kinds.AND (w % 16)) (edged (w % 16)) refl refl (x .applied)
   where
     under : (e : List ℕ) → e ≡ exactFor w a b → Told answer l e → Told answer l (exactFor w a b)
     under e q t = rw q at t
 
-    go : (two edge : Bool) → leb kinds.AND (w % 16) ≡ two → edged (w % 16) ≡ edge → appliedBy two edge w a b answer l
+    go : (two edge : Bool) → leb kinds.AND (w % 16) ≡ two → edged (w % 16) ≡ edge → appliedInBy two edge w a b (x .before) (x .slot) answer
         → Told answer l (exactFor w a b)
     go true edge e f y =
         let h = leb-true kinds.AND (w % 16) e in
         let i = le-ltb (w % 16) kinds.AND h in
-        under _ (of-two (w % 16) h a b ∙ exact-two w a b i) (merge-told (w % 16) a b answer l y (judged-two w a b i ∙ z) u v)
+        under _ (of-two (w % 16) h a b ∙ exact-two w a b i)
+        (merge-told answer l (x .before) (x .slot) (x .wide) (x .list-is) (w % 16) a b y (judged-two w a b i ∙ z) u v)
     go false true e f y =
         let i = lt-ltb (w % 16) kinds.AND (leb-false kinds.AND (w % 16) e) in
         let o = of-one (w % 16) f (w / 16 % 4294967296) a in
-        under _ (o .1 ∙ exact-one w a b i) (merge-told (w % 16) a none answer l y (o .0 ∙ judged-one w a b i ∙ z) u none-words)
+        under _ (o .1 ∙ exact-one w a b i)
+        (merge-told answer l (x .before) (x .slot) (x .wide) (x .list-is) (w % 16) a none y (o .0 ∙ judged-one w a b i ∙ z) u none-words)
     go false false e f y =
         let n = w / 16 % 4294967296 in
         let r = eqb (w % 16) kinds.TON in
         let i = lt-ltb (w % 16) kinds.AND (leb-false kinds.AND (w % 16) e) in
         let same : cond r (ton n) (tof n) ≡ unaryIn w = sym (of-delay (w % 16) n f) in
         under _ (delay-exact r n a ∙ ap (λ o. unaryExact o a) same ∙ exact-one w a b i)
-        (delay-told r n a answer l y (delay-judged r n a ∙ ap (λ o. unaryFault o a) same ∙ judged-one w a b i ∙ z) u)
+        (delay-told answer l (x .before) (x .slot) (x .wide) (x .list-is) r n a y
+        (delay-judged r n a ∙ ap (λ o. unaryFault o a) same ∙ judged-one w a b i ∙ z) u)

@@ -5,7 +5,7 @@ use mathlib.Core.Path.{_≡_, refl, sym, _∙_, ap}
 use mathlib.Core.Bool.{Bool, true, false, cond, _&&_, _||_}
 use mathlib.Core.List.{List, [], _∷_}
 use lib.Dec.{leb, ltb, eqb}
-use lib.ListN.{length, take}
+use lib.ListN.{length}
 use borrow.Author.Tests.{leb-true, leb-false, le-leb, lt-leb, ltb-false}
 use Rattle.signals.specs.Moment.{M}
 use Rattle.signals.specs.Words.{mostWords}
@@ -22,7 +22,7 @@ use Rattle.showing.specs.declared.Operation.{Operation}
 use Rattle.sources.specs.Sources.{listAt, apartFrom, slotIn, withSlot}
 use Rattle.sources.specs.declared.Memory.the-variants.{Right}
 use Rattle.sources.specs.declared.Source.{Source}
-use Rattle.sources.proofs.Sourcing.{slot-long, slot-kept}
+use Rattle.sources.proofs.Sourcing.{slot-kept}
 use Rattle.merging.specs.Merging.{mayMerge, MergedAt}
 use Rattle.delay_parts.specs.DelayAt.{mayDelay, DelayedAt}
 use Rattle.delaying.specs.Turns.{State, lastState}
@@ -30,7 +30,7 @@ use Rattle.grammar.specs.Kinds as kinds
 use Rattle.code_words.specs.CodeWords.{constants}
 use Rattle.applying.specs.PartCalls.{partAnswer}
 use Rattle.applying.specs.Merges.{operationOf, tableFor}
-use Rattle.applying.specs.Applied.{MergedTo, DelayedTo, edged, appliedBy, MergePart, DelayPart, PartMade, PartAt}
+use Rattle.applying.specs.Applied.{edged, MergePart, DelayPart, PartMade, PartAt}
 
 -- what stands in a slot has at most 256 words
 made-small : (made : Made) → countIn (partAnswer (madeAnswer made)) ≤ mostWords
@@ -77,15 +77,7 @@ module _ (sheet work : List ℕ) (at : ℕ) (given : SlotAnswer) (answer : Writt
         slot = z .1 .0;
         after-is = z .1 .2;
         short = rw told (made-small (z .0));
-        applied = record {
-          before = slotIn work at mostWords;
-          slot = z .1 .0;
-          made = z .0;
-          wide = slot-long work at mostWords (may a b at (length work) h .2);
-          merges = rw (← i, ← j) (z .1 .1);
-          answer-is = told;
-          list-is = refl;
-        };
+        applied = record { made = z .0; merges = rw (← i, ← j) (z .1 .1); answer-is = told };
       }
 
   pub delay-part : (w d : ℕ) (level : Bool) (a : Source) → level ≡ eqb (w % 16) kinds.TON → d ≡ w / 16 % 4294967296
@@ -111,13 +103,8 @@ module _ (sheet work : List ℕ) (at : ℕ) (given : SlotAnswer) (answer : Writt
             after-is = z .1 .1;
             short = rw told (made-small (last .made));
             applied = rw (← i, ← j) (record {
-              too-long = λ l. absurd (let k = leb-true d M s in omega arith);
-              ran = λ k. record {
-                before = slotIn work at mostWords;
-                wide = slot-long work at mostWords (room .2);
-                answer-is = told;
-                list-is = refl;
-              };
+              past-M = λ l. absurd (let k = leb-true d M s in omega arith);
+              ran = λ k. (told, refl);
             });
           }
       go false s =
@@ -127,7 +114,7 @@ module _ (sheet work : List ℕ) (at : ℕ) (given : SlotAnswer) (answer : Writt
             slot = slotIn work at mostWords;
             after-is = z .1 ∙ sym (slot-kept work at mostWords (room .2));
             short = rw told (omega arith);
-            applied = rw (← i, ← j) (record { too-long = λ l. told; ran = λ k. absurd (let l = leb-false d M s in omega arith) });
+            applied = rw (← i, ← j) (record { past-M = λ l. (told, refl); ran = λ k. absurd (let l = leb-false d M s in omega arith) });
           }
 
 -- which operation it is

@@ -13,7 +13,7 @@ use Rattle.signals.specs.declared.Written.{Written}
 use Rattle.signals.specs.declared.Written.the-variants.{Refused}
 use Rattle.building.specs.Slots.{madeAnswer}
 use Rattle.building.specs.declared.Made.{Made}
-use Rattle.sources.specs.Sources.{listAt, withSlot}
+use Rattle.sources.specs.Sources.{listAt, slotIn, withSlot}
 use Rattle.sources.specs.declared.Source.{Source}
 use Rattle.merging.specs.Merging.{Merges, begunIn, mayMerge}
 use Rattle.delaying.specs.Turns.{lastState}
@@ -22,39 +22,38 @@ use Rattle.code_words.specs.CodeWords.{constants}
 use Rattle.applying.specs.PartCalls.{partAnswer}
 use Rattle.applying.specs.Merges.{operationOf, tableFor}
 
--- a merge in a slot that held other words: the numbered answer, and its list at the front of the slot
-pub record MergedTo (kind : ℕ) (a b : List ℕ) (answer : Written) (l : List ℕ) : Type 0 where
-  pub before : List ℕ
-  pub slot : List ℕ
+-- a merge in a slot that held other words: its numbered answer, and the slot after it
+pub record MergedIn (kind : ℕ) (a b before slot : List ℕ) (answer : Written) : Type 0 where
   pub made : Made
-  pub wide : length before ≡ mostWords
   pub merges : Merges (operationOf kind) (tableFor kind) a b slot made (begunIn (operationOf kind) (tableFor kind) a b before)
   pub answer-is : answer ≡ partAnswer (madeAnswer made)
-  pub list-is : l ≡ take (countIn answer) slot
 
--- a delay, whose length is at most M
-pub record DelayRan (level : Bool) (d : ℕ) (a : List ℕ) (answer : Written) (l : List ℕ) : Type 0 where
-  pub before : List ℕ
-  pub wide : length before ≡ mostWords
-  pub answer-is : answer ≡ partAnswer (madeAnswer (lastState level d a before .made))
-  pub list-is : l ≡ take (countIn answer) (lastState level d a before .slot)
-
-pub record DelayedTo (level : Bool) (d : ℕ) (a : List ℕ) (answer : Written) (l : List ℕ) : Type 0 where
-  pub too-long : M < d → answer ≡ Refused 5
-  pub ran : d ≤ M → DelayRan level d a answer l
+-- a delay: where its length is over M, 5, and the slot is as it was
+pub record DelayedInto (level : Bool) (d : ℕ) (a before slot : List ℕ) (answer : Written) : Type 0 where
+  pub past-M : M < d → (answer ≡ Refused 5) × (slot ≡ before)
+  pub ran : d ≤ M → (answer ≡ partAnswer (madeAnswer (lastState level d a before .made))) × (slot ≡ lastState level d a before .slot)
 
 -- NOT or an edge
 abbrev pub edged : ℕ → Bool
 edged k = (eqb k kinds.NOT || eqb k kinds.RISING) || eqb k kinds.FALLING
 
 -- by the kind: of two operands; of one, as a merge with the list that is always down; or a delay
-abbrev pub appliedBy : Bool → Bool → ℕ → List ℕ → List ℕ → Written → List ℕ → Type 0
-appliedBy true edge w a b answer l = MergedTo (w % 16) a b answer l
-appliedBy false true w a b answer l = MergedTo (w % 16) a (0 ∷ []) answer l
-appliedBy false false w a b answer l = DelayedTo (eqb (w % 16) kinds.TON) (w / 16 % 4294967296) a answer l
+abbrev pub appliedInBy : Bool → Bool → ℕ → List ℕ → List ℕ → List ℕ → List ℕ → Written → Type 0
+appliedInBy true edge w a b before slot answer = MergedIn (w % 16) a b before slot answer
+appliedInBy false true w a b before slot answer = MergedIn (w % 16) a (0 ∷ []) before slot answer
+appliedInBy false false w a b before slot answer =
+    DelayedInto (eqb (w % 16) kinds.TON) (w / 16 % 4294967296) a before slot answer
 
-abbrev pub Applied : ℕ → List ℕ → List ℕ → Written → List ℕ → Type 0
-Applied w a b answer l = appliedBy (leb kinds.AND (w % 16)) (edged (w % 16)) w a b answer l
+abbrev pub AppliedIn : ℕ → List ℕ → List ℕ → List ℕ → List ℕ → Written → Type 0
+AppliedIn w a b before slot answer = appliedInBy (leb kinds.AND (w % 16)) (edged (w % 16)) w a b before slot answer
+
+-- in some slot of 256 words: its list is at the slot's front
+pub record Applied (w : ℕ) (a b : List ℕ) (answer : Written) (l : List ℕ) : Type 0 where
+  pub before : List ℕ
+  pub slot : List ℕ
+  pub wide : length before ≡ mostWords
+  pub applied : AppliedIn w a b before slot answer
+  pub list-is : l ≡ take (countIn answer) slot
 
 -- the merge and the delay on lists where they stand, in the slot
 pub record MergePart (kind : ℕ) (sheet work : List ℕ) (a b : Source) (at : ℕ) (answer : Written) (after : List ℕ) : Type 0 where
@@ -62,22 +61,24 @@ pub record MergePart (kind : ℕ) (sheet work : List ℕ) (a b : Source) (at : �
   pub after-is : after ≡ withSlot work at mostWords slot
   pub short : countIn answer ≤ mostWords
   pub applied :
-      MergedTo kind (listAt sheet constants constants work a) (listAt sheet constants constants work b) answer (take (countIn answer) slot)
+      MergedIn kind (listAt sheet constants constants work a) (listAt sheet constants constants work b) (slotIn work at mostWords) slot
+      answer
 
 pub record DelayPart (w : ℕ) (sheet work : List ℕ) (a : Source) (at : ℕ) (answer : Written) (after : List ℕ) : Type 0 where
   pub slot : List ℕ
   pub after-is : after ≡ withSlot work at mostWords slot
   pub short : countIn answer ≤ mostWords
   pub applied :
-      DelayedTo (eqb (w % 16) kinds.TON) (w / 16 % 4294967296) (listAt sheet constants constants work a) answer (take (countIn answer) slot)
+      DelayedInto (eqb (w % 16) kinds.TON) (w / 16 % 4294967296) (listAt sheet constants constants work a) (slotIn work at mostWords) slot
+      answer
 
--- the operation in the slot: its list at the slot's front
+-- the operation in the slot, and the whole work area after it
 pub record PartMade (w : ℕ) (sheet work : List ℕ) (a b : Source) (at : ℕ) (answer : Written) (after : List ℕ) : Type 0 where
   pub slot : List ℕ
   pub after-is : after ≡ withSlot work at mostWords slot
   pub short : countIn answer ≤ mostWords
   pub applied :
-      Applied w (listAt sheet constants constants work a) (listAt sheet constants constants work b) answer (take (countIn answer) slot)
+      AppliedIn w (listAt sheet constants constants work a) (listAt sheet constants constants work b) (slotIn work at mostWords) slot answer
 
 -- The operation on lists where they stand, in the slot of the work area from `at` on: 5 and nothing written where that may not be.
 pub record PartAt (w : ℕ) (sheet work : List ℕ) (a b : Source) (at : ℕ) (answer : Written) (after : List ℕ) : Type 0 where

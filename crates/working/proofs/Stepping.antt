@@ -10,8 +10,9 @@ use borrow.Author.Tests.{le-leb}
 use Rattle.signals.specs.Words.{mostWords}
 use Rattle.signals.specs.Answers.{faultIn, countIn}
 use Rattle.signals.specs.declared.Written.{Written}
-use Rattle.sources.specs.Sources.{withSlot}
+use Rattle.sources.specs.Sources.{slotIn, withSlot}
 use Rattle.sources.specs.declared.Source.{Source}
+use Rattle.sources.proofs.Sourcing.{slot-long}
 use Rattle.merging.specs.Merging.{mayMerge}
 use Rattle.applying.specs.Applied.{PartAt, PartMade}
 use Rattle.working.specs.declared.Next.{Next}
@@ -47,7 +48,13 @@ module _ (w : ℕ) (sheet work : List ℕ) (a b : Source) (at : ℕ) (answer : W
         slot = part .slot;
         wide = slot-wide work (part .slot) at (r .fits) (sym (ap length (part .after-is)) ∙ same);
         after-is = part .after-is;
-        applied = part .applied;
+        applied = record {
+          before = slotIn work at mostWords;
+          slot = part .slot;
+          wide = slot-long work at mostWords (r .fits);
+          applied = part .applied;
+          list-is = refl;
+        };
         fault-is = f;
         short = part .short;
         list-is = l;
