@@ -66,29 +66,79 @@ next-state : (o : Operation) (table : Table) (l m slot part : List ℕ) (made ma
 unfolding pastDate
 next-state o table l m slot part made made′ bit i j d u v s eu ev es em ep = rw (em, ep, es, eu, ev)
 
-begun-is : (o : Operation) (table : Table) (l m slot : List ℕ) (p q : Bool) → p ≡ heldValue l 1 → q ≡ heldValue m 1
-    → (first : Shown) → first ≡ firstShown o table p q → (made : Made) (part now : List ℕ) → Begins (first .after) slot made part
-    → now ≡ part → reached now made (first .carried) 1 1 ≡ begunIn o table l m slot
+-- the state after gap 0
+pub begun-is : (o : Operation) (table : Table) (l m slot : List ℕ) (x y : Cursor) → Reading l x → Reading m y → x .passed ≡ 1
+    → y .passed ≡ 1 → (first : Shown) → first ≡ firstShown o table (valueAfter (x .last)) (valueAfter (y .last))
+    → (made : Made) (part : List ℕ) → Begins (first .after) slot made part
+    → reached part made (first .carried) (x .passed) (y .passed) ≡ begunIn o table l m slot
 unfolding begunIn
-begun-is o table l m slot p q ep eq first ef made part now eb en = rw (en, eb .0, eb .1, ef, ep, eq)
+begun-is o table l m slot x y gx gy one other first ef made part eb =
+    let p = reads-held l x gx ∙ ap (heldValue l) one in
+    let q = reads-held m y gy ∙ ap (heldValue m) other in
+    rw (one, other, eb .0, eb .1, ef, p, q)
 
-module _ (o : Operation) (table : Table) (l m : List ℕ) (work : List ℕ) (at room : ℕ) (start : State) where
-  pub record Looping (now : List ℕ) (x y : Cursor) (made : Made) (bit : Bool) (date : ℕ) : Type 0 where
-    pub slot : List ℕ
-    pub full : length slot ≡ room
-    pub now-is : now ≡ withSlot work at room slot
+-- How far the merge is along both lists: whatever it ends with from here, it ends with from the start.
+module _ (o : Operation) (table : Table) (l m : List ℕ) (start : State) where
+  pub record Along (slot : List ℕ) (x y : Cursor) (made : Made) (bit : Bool) (date : ℕ) : Type 0 where
     pub first : Reading l x
     pub second : Reading m y
     pub date-is : date ≡ min (x .date) (y .date)
     pub on : (end : List ℕ) (last : Made) → Merges o table l m end last (reached slot made bit (x .passed) (y .passed))
         → Merges o table l m end last start
 
-  module _ (fits : at + room ≤ length work) (now : List ℕ) (x y : Cursor) (made : Made) (bit : Bool) (date : ℕ)
-      (g : Looping now x y made bit date) where
-    ahead : date ≡ dateAhead l m (reached (g .slot) made bit (x .passed) (y .passed))
+  module _ (slot : List ℕ) (x y : Cursor) (made : Made) (bit : Bool) (date : ℕ) (g : Along slot x y made bit date) where
+    ahead : date ≡ dateAhead l m (reached slot made bit (x .passed) (y .passed))
     unfolding dateAhead
     ahead = g .date-is ∙ rw (reads-date l x (g .first), reads-date m y (g .second))
 
+    pub along-end : NEVER ≤ date → Merges o table l m slot made start
+    along-end h = g .on slot made (done (rw (sym ahead) h) refl refl)
+
+    module _ (small : date < NEVER) (u v : Passed) (eu : u ≡ pastOn l x date) (ev : v ≡ pastOn m y date) where
+      pub along-falls : length l - u .next .passed + (length m - v .next .passed) < length l - x .passed + (length m - y .passed)
+      unfolding dateAhead
+      along-falls =
+          rw (
+            reads-passed l x (g .first) date small u eu,
+            reads-passed m y (g .second) date small v ev,
+            reads-step l x (g .first) date small u eu,
+            reads-step m y (g .second) date small v ev,
+          )
+          (falls l m (x .passed) (y .passed) date ahead small)
+
+      pub along-turn : (s : Shown)
+          → s ≡ dateShown o table bit (u .step .before) (u .step .at) (u .step .after) (v .step .at) (v .step .after)
+          → (made′ : Made) (slot′ : List ℕ) → Emits made date (s .at) (s .after) slot made′ slot′
+          → (date′ : ℕ) → date′ ≡ min (u .next .date) (v .next .date)
+          → Along slot′ (u .next) (v .next) made′ (s .carried) date′
+      along-turn s es made′ slot′ em date′ ed =
+          record {
+            first = reads-on l x (g .first) date small u eu;
+            second = reads-on m y (g .second) date small v ev;
+            date-is = ed;
+            on = λ end last w. g .on end last (turn (rw (sym ahead) small) (subst (λ (z : State). Merges o table l m end last z) next w));
+          }
+        where
+          next : reached slot′ made′ (s .carried) (u .next .passed) (v .next .passed)
+              ≡ pastDate o table l m (reached slot made bit (x .passed) (y .passed))
+              (dateAhead l m (reached slot made bit (x .passed) (y .passed)))
+          next =
+              ap (λ (i : ℕ). reached slot′ made′ (s .carried) i (v .next .passed)) (reads-passed l x (g .first) date small u eu)
+              ∙ ap (λ (j : ℕ). reached slot′ made′ (s .carried) (u .step .passed) j) (reads-passed m y (g .second) date small v ev)
+              ∙ next-state o table l m slot slot′ made made′ bit (x .passed) (y .passed) date (u .step) (v .step) s
+              (reads-step l x (g .first) date small u eu) (reads-step m y (g .second) date small v ev) es (em .0) (em .1)
+              ∙ ap (λ (d : ℕ). pastDate o table l m (reached slot made bit (x .passed) (y .passed)) d) ahead
+
+-- the loop's slot in the work area
+module _ (o : Operation) (table : Table) (l m : List ℕ) (work : List ℕ) (at room : ℕ) (start : State) where
+  pub record Looping (now : List ℕ) (x y : Cursor) (made : Made) (bit : Bool) (date : ℕ) : Type 0 where
+    pub slot : List ℕ
+    pub full : length slot ≡ room
+    pub now-is : now ≡ withSlot work at room slot
+    pub along : Along o table l m start slot x y made bit date
+
+  module _ (fits : at + room ≤ length work) (now : List ℕ) (x y : Cursor) (made : Made) (bit : Bool) (date : ℕ)
+      (g : Looping now x y made bit date) where
     pub looping-long : length now ≡ length work
     looping-long = ap length (g .now-is) ∙ with-slot-long work at room fits (g .slot) (g .full)
 
@@ -99,20 +149,12 @@ module _ (o : Operation) (table : Table) (l m : List ℕ) (work : List ℕ) (at 
         ap (λ (w : List ℕ). listAt sheet left right w a) (g .now-is)
         ∙ apart-kept work at room fits (g .slot) (g .full) sheet left right a e
 
-    pub looping-end : NEVER ≤ date → (last : Made) → last ≡ made → Merges o table l m (g .slot) last start
-    looping-end h last e = g .on (g .slot) last (done (rw (sym ahead) h) refl (sym e))
+    pub looping-end : NEVER ≤ date → Merges o table l m (g .slot) made start
+    looping-end h = along-end o table l m start (g .slot) x y made bit date (g .along) h
 
     module _ (small : date < NEVER) (u v : Passed) (eu : u ≡ pastOn l x date) (ev : v ≡ pastOn m y date) where
       pub looping-falls : length l - u .next .passed + (length m - v .next .passed) < length l - x .passed + (length m - y .passed)
-      unfolding dateAhead
-      looping-falls =
-          rw (
-            reads-passed l x (g .first) date small u eu,
-            reads-passed m y (g .second) date small v ev,
-            reads-step l x (g .first) date small u eu,
-            reads-step m y (g .second) date small v ev,
-          )
-          (falls l m (x .passed) (y .passed) date ahead small)
+      looping-falls = along-falls o table l m start (g .slot) x y made bit date (g .along) small u v eu ev
 
       pub looping-turn : (s : Shown)
           → s ≡ dateShown o table bit (u .step .before) (u .step .at) (u .step .after) (v .step .at) (v .step .after)
@@ -126,10 +168,8 @@ module _ (o : Operation) (table : Table) (l m : List ℕ) (work : List ℕ) (at 
             full = kept ∙ slot-long now at room here;
             now-is = part-back now at room here part room refl ∙ ap (λ (w : List ℕ). withSlot w at room part) (g .now-is)
                 ∙ slot-again work at room fits (g .slot) (g .full) part;
-            first = reads-on l x (g .first) date small u eu;
-            second = reads-on m y (g .second) date small v ev;
-            date-is = ed;
-            on = λ end last w. g .on end last (turn (rw (sym ahead) small) (subst (λ (z : State). Merges o table l m end last z) next w));
+            along = along-turn o table l m start (g .slot) x y made bit date (g .along) small u v eu ev s es made′ part
+                (em .0, em .1 ∙ ap (λ (w : List ℕ). emittedIn w made date (s .at) (s .after)) whole) date′ ed;
           }
         where
           here : at + room ≤ length now
@@ -138,17 +178,6 @@ module _ (o : Operation) (table : Table) (l m : List ℕ) (work : List ℕ) (at 
           whole : take room (drop at now) ≡ g .slot
           whole =
               ap (λ (w : List ℕ). slotIn w at room) (g .now-is) ∙ slot-back work at room fits (g .slot) (g .full)
-
-          next : reached part made′ (s .carried) (u .next .passed) (v .next .passed)
-              ≡ pastDate o table l m (reached (g .slot) made bit (x .passed) (y .passed))
-              (dateAhead l m (reached (g .slot) made bit (x .passed) (y .passed)))
-          next =
-              ap (λ (i : ℕ). reached part made′ (s .carried) i (v .next .passed)) (reads-passed l x (g .first) date small u eu)
-              ∙ ap (λ (j : ℕ). reached part made′ (s .carried) (u .step .passed) j) (reads-passed m y (g .second) date small v ev)
-              ∙ next-state o table l m (g .slot) part made made′ bit (x .passed) (y .passed) date (u .step) (v .step) s
-              (reads-step l x (g .first) date small u eu) (reads-step m y (g .second) date small v ev) es (em .0)
-              (em .1 ∙ ap (λ (w : List ℕ). emittedIn w made date (s .at) (s .after)) whole)
-              ∙ ap (λ (d : ℕ). pastDate o table l m (reached (g .slot) made bit (x .passed) (y .passed)) d) ahead
 
 -- Where the loop begins, the work area being `work`, and at the call `entry`: it is as long, the state is that after gap 0, and what the
 -- loop builds from there is built from the call's. The lists are there `l′` and `m′`, at the call `l` and `m`.
@@ -188,10 +217,7 @@ module _ (o : Operation) (table : Table) (entry : List ℕ) (at room : ℕ) (hel
             slot = slotIn work at room;
             full = slot-long work at room fits;
             now-is = sym (slot-kept work at room fits);
-            first = rw el gx;
-            second = rw em gy;
-            date-is = ed;
-            on = λ end last z. z;
+            along = record { first = rw el gx; second = rw em gy; date-is = ed; on = λ end last z. z };
           };
           builds = λ after last slot e w. (
             slot,
@@ -212,11 +238,8 @@ module _ (o : Operation) (table : Table) (entry : List ℕ) (at room : ℕ) (hel
         begun-state : reached (slotIn work at room) made (first .carried) (x .passed) (y .passed)
             ≡ begunIn o table l m (slotIn entry at room)
         begun-state =
-            ap (λ (i : ℕ). reached (slotIn work at room) made (first .carried) i (y .passed)) one
-            ∙ ap (λ (j : ℕ). reached (slotIn work at room) made (first .carried) 1 j) other
-            ∙ begun-is o table l m (slotIn entry at room) (valueAfter (x .last)) (valueAfter (y .last))
-            (reads-held l x gx ∙ ap (heldValue l) one) (reads-held m y gy ∙ ap (heldValue m) other) first ef made part
-            (slotIn work at room) eb (slot-back entry at room held part full)
+            ap (λ (w : List ℕ). reached w made (first .carried) (x .passed) (y .passed)) (slot-back entry at room held part full)
+            ∙ begun-is o table l m (slotIn entry at room) x y gx gy one other first ef made part eb
 
 -- the reader of a source that starts
 reads-source : (sheet left right work : List ℕ) → Bytes sheet → Words left → Words right → Words work → (a : Source)

@@ -177,7 +177,7 @@ returns c =
     let begun = c .before .before .before .before .before .before .before .before .before .before in
     let x = begun .before .before .before .before .before .before .before .before .args in
     built-there _ _ _ _ (x .work .now) (x .at) (x .room) _ _ (begins (c .before .before) .builds _ _ (here .2 .slot) (here .2 .now-is)
-    (looping-end _ _ _ _ _ _ _ _ (here .1 .2) _ _ _ _ _ _ (here .2) (c .loop-test .left) _ refl))
+    (looping-end _ _ _ _ _ _ _ _ (here .1 .2) _ _ _ _ _ _ (here .2) (c .loop-test .left)))
 
 pub merge-spec : {M : Type 1} → statement M
 merge-spec =
