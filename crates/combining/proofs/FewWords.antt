@@ -1,7 +1,7 @@
 -- A turn of a merge passes a word or more and puts at most one into the slot: so the answer has fewer words than both lists.
 use Prim.Native.Nat.{ℕ, _+_, _-_, _≤_}
 use native.Mathlib.Omega.{arith}
-use mathlib.Core.Path.{_≡_, refl}
+use mathlib.Core.Path.{refl}
 use mathlib.Core.List.{List}
 use mathlib.Core.Bool.{Bool, true, false, cond}
 use lib.ListN.{length}
@@ -10,7 +10,7 @@ use Rattle.building.specs.Building.{begun, emitted, idle, oneMore, lateWith}
 use Rattle.building.specs.declared.Made.{Made}
 use Rattle.showing.specs.declared.Operation.{Operation}
 use Rattle.merging.specs.Merging.{State, dateAhead, begunIn, pastDate, shownAt, Merges, done, turn, BuiltIn}
-use Rattle.merging.proofs.MergeLoop.{falls}
+use Rattle.merging.proofs.Along.{falls}
 
 emitted-more : (made : Made) (d : ℕ) (at after : Bool) → (emitted made d at after) .count ≤ made .count + 1
 unfolding emitted

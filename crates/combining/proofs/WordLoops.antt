@@ -1,5 +1,5 @@
 -- The loops of two slices in a slot: where they begin, and what they have built at their end.
-use Prim.Native.Nat.{ℕ, _≤_, _<_, min}
+use Prim.Native.Nat.{ℕ, _≤_, min}
 use native.Mathlib.Omega.{arith}
 use mathlib.Core.Path.{_≡_, subst}
 use mathlib.Core.Bool.{Bool}
@@ -17,8 +17,8 @@ use Rattle.showing.specs.declared.Shown.{Shown}
 use Rattle.sources.specs.Sources.{startOf}
 use Rattle.sources.specs.declared.Cursor.{Cursor}
 use Rattle.sources.proofs.Readers.{Reading, reads-start, start-passed}
-use Rattle.merging.specs.Merging.{State, Merges, begunIn, BuiltIn}
-use Rattle.merging.proofs.MergeLoop.{Along, reached, begun-is}
+use Rattle.merging.specs.Merging.{State, Merges, BuiltIn}
+use Rattle.merging.proofs.Along.{Along, reached, begun-is}
 
 module _ (o : Operation) (table : Table) (a b : List ℕ) (wa : Words a) (wb : Words b)
     (short : (length a ≤ mostWords) × (length b ≤ mostWords)) (x y : Cursor) (ex : x ≡ startOf a) (ey : y ≡ startOf b) where

@@ -87,7 +87,7 @@ fn merge_in(
 fn delay_in(level: bool, d: u32, a: &[u32], out: &mut [u32]) -> SlotAnswer {
     let none = [0u8; 1];
     let list = whole(Memory::Left, a);
-    delays::delay_at(level, Length(d), &none[..0], a, a, out, list, 0)
+    delay_parts::delay_at(level, Length(d), &none[..0], a, a, out, list, 0)
 }
 
 fn operation_in(

@@ -8,7 +8,7 @@ use mathlib.Core.Bool.{Bool, true, false, cond, _&&_, _||_}
 use mathlib.Core.List.{List, [], _∷_, _++_, append-assoc}
 use lib.Dec.{leb, ltb, eqb}
 use lib.ListN.{length, take, drop, getD, length-take, length-drop, length-append, take-append-drop, List·getD-eq-default}
-use lib.Seq.{getD-take, getD-drop, drop-drop, take-length, length-take-le, drop-at, take-at, take-append-le, drop-append-le}
+use lib.Seq.{getD-take, getD-drop, drop-drop, length-take-le, drop-at, take-at, take-append-le, drop-append-le}
 use borrow.Author.Tests.{lt-ltb, ltb-true, ltb-false, leb-true, ne-eqb}
 use Rattle.slices.specs.Bytes.{low32, wordsIn, Bytes, Words}
 use Rattle.signals.specs.Words.{dateOf, valueAt, valueAfter}
@@ -97,11 +97,6 @@ first-held (w ∷ ws) = rw (lt-ltb 0 (suc (length ws)) (omega arith))
 -- a source names at most its count of words
 pub list-short : (sheet left right work : List ℕ) (s : Source) → length (listAt sheet left right work s) ≤ s .count
 list-short sheet left right work s = at-most sheet left right work (s .at) (s .count) 0 (s .memory)
-
--- a whole slice as a source
-module _ (sheet left right work : List ℕ) where
-  pub whole-left : listFrom Left sheet left right work 0 (length left) ≡ left
-  whole-left = take-length left
 
 -- the words of a part are those of the whole, or 0
 words-part : (l : List ℕ) (at count : ℕ) → Words l → Words (take count (drop at l))

@@ -5,7 +5,7 @@ use mathlib.Core.Bool.{false}
 use lib.ListN.{length}
 use Rattle.signals.specs.Words.{valueAfter}
 use Rattle.showing.specs.declared.Operation.the-variants.{Connective}
-use Rattle.merging.proofs.MergeLoop.{Along, reached, along-turn, along-falls, along-end, first-cell, date-cells}
+use Rattle.merging.proofs.Along.{Along, reached, along-turn, along-falls, along-end, first-cell, date-cells}
 use Rattle.combining.proofs.WordLoops.{words-start, words-built}
 use borrow.Author.Needs.{needs}
 use Rattle.combining.proofs.join_words.Statement.{statement}

@@ -3,7 +3,7 @@ use Prim.Native.Nat.{_+_, _-_}
 use mathlib.Core.Path.{_≡_, refl, _∙_}
 use lib.ListN.{length}
 use Rattle.signals.specs.Words.{valueAfter}
-use Rattle.merging.proofs.MergeLoop.{Along, reached, along-turn, along-falls, along-end}
+use Rattle.merging.proofs.Along.{Along, reached, along-turn, along-falls, along-end}
 use Rattle.combining.proofs.WordLoops.{words-start, words-built}
 use borrow.Author.Needs.{needs}
 use Rattle.combining.proofs.latch_words.Statement.{statement}

@@ -2,7 +2,7 @@
 use borrow.Author.Needs.{needs}
 use Prim.Native.Nat.{ℕ, _+_, _-_, _≤_}
 use native.Mathlib.Omega.{arith}
-use mathlib.Core.Path.{refl, _∙_, ap}
+use mathlib.Core.Path.{_∙_, ap}
 use mathlib.Core.List.{List, _++_}
 use lib.ListN.{length, take, drop}
 use mathlib.Core.Bool.{false}
@@ -10,7 +10,8 @@ use Rattle.signals.specs.Words.{valueAfter}
 use Rattle.showing.specs.declared.Operation.the-variants.{Connective}
 use Rattle.sources.specs.Sources.{listAt, pastOn, slotIn}
 use Rattle.merging.specs.Merging.{MayMerge}
-use Rattle.merging.proofs.MergeLoop.{Looping, reached, Started, started, may-there, built-there, first-cell, date-cells}
+use Rattle.merging.proofs.Along.{reached, first-cell, date-cells}
+use Rattle.merging.proofs.MergeLoop.{Looping, Started, started, may-there, built-there}
 use Rattle.merging.proofs.MergeLoop.{looping-turn, looping-falls, looping-end, looping-long, looping-still}
 use Rattle.merging.proofs.join.Statement.{statement}
 use Rattle.merging.proofs.join.Tie as tie

@@ -1,6 +1,6 @@
 -- `sources::past_in` passes a word of the date, and reads the next one only then.
 use borrow.Author.Needs.{needs}
-use mathlib.Core.Path.{_≡_, refl, sym, _∙_, ap}
+use mathlib.Core.Path.{sym}
 use Rattle.signals.specs.Words.{valueAt, valueAfter}
 use Rattle.sources.proofs.Going.{taken-is, past-kept}
 use Rattle.sources.proofs.past_in.Statement.{statement}
