@@ -74,7 +74,7 @@ pub extern "C" fn sgl_not(a: &[u32], out: &mut [u32]) -> u32
 pub extern "C" fn sgl_connective(table: u32, a: &[u32], b: &[u32], out: &mut [u32]) -> u32
     ensures { λ r. ⌜ ExportedTwo (connective (tableIn table)) (now (a .entry)) (now (b .entry)) (now (out .entry)) r (now (out .exit)) ⌝ }
 {
-    packing::pack_written(merging::connective(packing::table_in(table), a, b, out))
+    packing::pack_written(combining::connective(packing::table_in(table), a, b, out))
 }
 
 // Rising edges.
@@ -98,7 +98,7 @@ pub extern "C" fn sgl_falling(a: &[u32], out: &mut [u32]) -> u32
 pub extern "C" fn sgl_sr(s: &[u32], r: &[u32], out: &mut [u32]) -> u32
     ensures { λ v. ⌜ ExportedTwo SR (now (s .entry)) (now (r .entry)) (now (out .entry)) v (now (out .exit)) ⌝ }
 {
-    packing::pack_written(merging::sr(s, r, out))
+    packing::pack_written(combining::sr(s, r, out))
 }
 
 // The latch in which reset wins.
@@ -106,7 +106,7 @@ pub extern "C" fn sgl_sr(s: &[u32], r: &[u32], out: &mut [u32]) -> u32
 pub extern "C" fn sgl_rs(s: &[u32], r: &[u32], out: &mut [u32]) -> u32
     ensures { λ v. ⌜ ExportedTwo RS (now (s .entry)) (now (r .entry)) (now (out .entry)) v (now (out .exit)) ⌝ }
 {
-    packing::pack_written(merging::rs(s, r, out))
+    packing::pack_written(combining::rs(s, r, out))
 }
 
 // TON(d,f), the on-delay.

@@ -1,13 +1,11 @@
 -- The scan's loop: its readers go along the lists, and a verdict from here on is one from the start.
-use Prim.Native.Nat.{ℕ, _+_, _-_, _/_, _%_, _≤_, _<_, min}
+use Prim.Native.Nat.{ℕ, _+_, _-_, _≤_, _<_, min}
 use native.Mathlib.Omega.{arith}
-use native.Mathlib.Nat.{mod-eq-of-lt}
-use mathlib.Core.Path.{_≡_, sym, subst, _∙_, ap}
+use mathlib.Core.Path.{_≡_, sym, subst, _∙_}
 use mathlib.Core.Logic.{⊎-elim}
 use mathlib.Core.Bool.{Bool, true, false, cond}
 use mathlib.Core.List.{List}
-use lib.Dec.{eqb}
-use lib.ListN.{length, getD}
+use lib.ListN.{length}
 use Rattle.slices.specs.Bytes.{Words}
 use Rattle.signals.specs.Words.{valueAfter}
 use Rattle.signals.specs.Passing.{heldValue, isNext, atDate, passedDate}
@@ -15,10 +13,9 @@ use Rattle.signals.specs.declared.Verdict.{Verdict}
 use Rattle.signals.specs.declared.Verdict.the-variants.{Holds, FailsAt, FailsAfter}
 use Rattle.reading.specs.Reading.{NEVER, nextDate, stepPast}
 use Rattle.reading.proofs.Counting.{next-left, passed-next}
-use Rattle.sources.specs.Sources.{nextWord, cursorAt, startOf, pastOn}
+use Rattle.sources.specs.Sources.{cursorAt, startOf, pastOn}
 use Rattle.sources.specs.declared.Cursor.{Cursor}
 use Rattle.sources.specs.declared.Passed.{Passed}
-use Rattle.sources.proofs.SourceWords.{word-left, no-word-left}
 use Rattle.sources.proofs.Going.{On, on-start, on-date, on-held, on-step, on-next}
 use Rattle.comparing.specs.Finding.{failsBy, nextOf, Quiet, Finds, Found, inGap, ended, atInstant, turn}
 use Rattle.comparing.proofs.Watching.{one-of}
@@ -140,24 +137,3 @@ module _ {both : Bool} {a b : List ℕ} {last : ℕ} {x y : Cursor} {v : Bool} (
           (λ n. omega (arith, passed-one a (x .passed) d small n, passed-le b (y .passed) d))
           (λ n. omega (arith, passed-one b (y .passed) d small n, passed-le a (x .passed) d))
           (one-of a b (x .passed) (y .passed) d next-is))
-
--- the readers of a slice, by the tests that the code makes
-module _ (l : List ℕ) where
-  pub reader-left : (passed last : ℕ) → passed < length l → getD l passed 0 < 4294967296
-      → _≡_ {A = Cursor} (record { word = getD l passed 0; date = getD l passed 0 / 4; last = last; passed = passed })
-      (cursorAt l passed last)
-  unfolding cursorAt
-  reader-left passed last h w =
-      let d : getD l passed 0 / 4 < 4294967296 = omega arith in
-      rw (word-left l passed h, mod-eq-of-lt w, mod-eq-of-lt d)
-
-  pub reader-none : (passed last : ℕ) → length l ≤ passed
-      → _≡_ {A = Cursor} (record { word = 4294967292; date = NEVER; last = last; passed = passed }) (cursorAt l passed last)
-  unfolding cursorAt
-  reader-none passed last h = rw (no-word-left l passed h)
-
-  pub first-left : (r : Cursor) → 0 < length l → r ≡ cursorAt l 1 (getD l 0 0) → r ≡ startOf l
-  first-left r h e = e ∙ ap (cursorAt l 1) (sym (word-left l 0 h))
-
-  pub first-none : (r : Cursor) → length l ≤ 0 → r ≡ cursorAt l 1 17179869180 → r ≡ startOf l
-  first-none r h e = e ∙ ap (cursorAt l 1) (sym (no-word-left l 0 h))

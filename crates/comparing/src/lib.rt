@@ -3,20 +3,18 @@ ghost use mathlib.Core.Path.{_≡_};
 ghost use mathlib.Core.Bool.{false};
 ghost use Prim.Native.Nat.{min};
 ghost use Rattle.signals.specs.Words.{pairFault};
-ghost use Rattle.sources.specs.Sources.{cursorAt, startOf, pastOn};
 ghost use Rattle.questions.specs.Questions.{equalOf, impliesOf};
 ghost use Rattle.comparing.specs.Finding.{failsBy, Found, FoundAt};
 use lists::pair_fault;
 use reading::NEVER;
-use reading::Step;
 use signals::Date;
 use signals::Told;
 use signals::Verdict;
-use sources::Cursor;
-use sources::Passed;
 use sources::Source;
 use sources::past;
+use sources::past_in;
 use sources::start;
+use sources::start_in;
 
 // p to q fails: p up and q down; both ways, also q up and p down.
 fn fails_by(both: bool, p: bool, q: bool) -> bool
@@ -78,70 +76,6 @@ pub fn implies_at(
     ensures { λ r. ⌜ FoundAt false (now (sheet .entry)) (now (left .entry)) (now (right .entry)) (now (work .entry)) f g r ⌝ }
 {
     scan(false, sheet, left, right, work, f, g)
-}
-
-// The reader of a list of words of which so many are passed, the last of them given.
-fn reader_in(words: &[u32], passed: usize, last: u64) -> Cursor
-    ensures { λ r. ⌜ r ≡ cursorAt (now (words .entry)) passed last ⌝ }
-{
-    if passed < words.len() {
-        let word = words[passed];
-        return Cursor {
-            word,
-            date: word / 4,
-            last,
-            passed,
-        };
-    }
-    Cursor {
-        word: 4294967292,
-        date: NEVER,
-        last,
-        passed,
-    }
-}
-
-// The reader past the first word.
-fn start_in(words: &[u32]) -> Cursor
-    ensures { λ r. ⌜ r ≡ startOf (now (words .entry)) ⌝ }
-{
-    if 0 < words.len() {
-        return reader_in(words, 1, words[0] as u64);
-    }
-    reader_in(words, 1, 17179869180)
-}
-
-// Past a date: a word of that date is passed, and only then the next one is read.
-fn past_in(words: &[u32], at: Cursor, date: u32) -> Passed
-    ensures { λ r. ⌜ r ≡ pastOn (now (words .entry)) at date ⌝ }
-{
-    let held = at.last % 2 == 1;
-    if at.date == date {
-        let passed = at.passed % 4294967296 + 1;
-        return Passed {
-            step: Step {
-                before: held,
-                at: at.word / 2 % 2 == 1,
-                after: at.word % 2 == 1,
-                passed,
-            },
-            next: reader_in(words, passed, at.word as u64),
-        };
-    }
-    Passed {
-        step: Step {
-            before: held,
-            at: held,
-            after: held,
-            passed: at.passed,
-        },
-        next: Cursor {
-            word: at.word,
-            date: at.date,
-            last: at.last,
-            passed: at.passed,
-        },
-    }
 }
 
 // The same scan along two accepted lists, which are the whole of the slices lent: nothing is to be chosen where a word is read.

@@ -54,11 +54,11 @@ fn operation(
         7 => edges::not(a, out),
         8 => edges::rising(a, out),
         9 => edges::falling(a, out),
-        10 => merging::sr(a, b, out),
-        11 => merging::rs(a, b, out),
+        10 => combining::sr(a, b, out),
+        11 => combining::rs(a, b, out),
         12 => delays::ton(Length(d), b, out),
         13 => delays::tof(Length(d), b, out),
-        _ => merging::connective(t, b, c, out),
+        _ => combining::connective(t, b, c, out),
     }
 }
 
@@ -87,7 +87,7 @@ fn merge_in(
 fn delay_in(level: bool, d: u32, a: &[u32], out: &mut [u32]) -> SlotAnswer {
     let none = [0u8; 1];
     let list = whole(Memory::Left, a);
-    delays::delay_at(level, Length(d), &none[..0], a, a, out, list, 0)
+    delay_parts::delay_at(level, Length(d), &none[..0], a, a, out, list, 0)
 }
 
 fn operation_in(

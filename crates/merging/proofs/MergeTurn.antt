@@ -9,7 +9,7 @@ use lib.Dec.{ltb}
 use lib.ListN.{length, getD, set}
 use borrow.Author.Tests.{lt-ltb, le-ltb, ltb-true, ltb-false, eq-eqb}
 use Rattle.signals.specs.Signal.{Signal, Table, num}
-use Rattle.signals.specs.Words.{dateOf, signalOf, lastDate, lastFrom, listOf, headValue, mostWords}
+use Rattle.signals.specs.Words.{dateOf, signalOf, lastDate, lastFrom, listOf, headValue}
 use Rattle.signals.specs.Normal.{Normal, Accepted, Rising}
 use Rattle.signals.specs.Passing.{heldValue, isNext, atDate, afterDate, passedDate}
 use Rattle.signals.proofs.Operand.{At, Passed, at-pass, at-end, next-later, value-held}
@@ -192,7 +192,3 @@ module _ (o : Operation) (table : Table) (a b : List ℕ) (n : ℕ) (old : List 
       (still-for-good o table (signalOf a) (signalOf b) k (heldValue a i) (heldValue b j)
       (at-end (signalOf a) a i k (m .left) (omega (arith, m .left .within, m .right .within)))
       (at-end (signalOf b) b j k (m .right) (omega (arith, m .left .within, m .right .within))))
-
--- an accepted list has at most 256 words
-pub short : (l : List ℕ) → Accepted l → length l ≤ mostWords
-short l h = accepted-normal l .0 h .1

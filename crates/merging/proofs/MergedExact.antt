@@ -1,12 +1,10 @@
 -- The merge of two accepted lists builds the exact answer of its operation.
-use Prim.Native.Nat.{ℕ, _+_, _-_, _≤_, _<_, min, max}
+use Prim.Native.Nat.{ℕ, _+_, _≤_, _<_, min, max}
 use native.Mathlib.Omega.{arith}
-use mathlib.Core.Path.{_≡_, refl, _∙_, ap}
-use mathlib.Core.List.{List, _++_, append-nil}
-use mathlib.Core.Bool.{Bool, true, false, cond}
+use mathlib.Core.Path.{_≡_, refl}
+use mathlib.Core.List.{List}
 use mathlib.Core.Logic.{_⊎_, inl, inr}
-use lib.ListN.{length, drop-of-length-le}
-use lib.Seq.{take-length}
+use lib.ListN.{length}
 use Rattle.slices.specs.Bytes.{Words}
 use Rattle.signals.specs.Moment.{M}
 use Rattle.signals.specs.Signal.{Table}
@@ -14,14 +12,11 @@ use Rattle.signals.specs.Words.{listFault, lastDate, signalOf, listOf}
 use Rattle.reading.specs.Reading.{NEVER, nextDate}
 use Rattle.operations.specs.Calls.{exactOfTwo}
 use Rattle.operations.proofs.NeverMet.{last-32}
-use Rattle.building.specs.Building.{begun, emitted, idle, oneMore, lateWith}
 use Rattle.building.proofs.Built.{Built}
 use Rattle.building.specs.declared.Made.{Made}
 use Rattle.showing.specs.Showing.{merged}
 use Rattle.showing.specs.declared.Operation.{Operation}
-use Rattle.sources.specs.Sources.{slotIn, withSlot}
-use Rattle.merging.specs.Merging.{State, dateAhead, begunIn, pastDate, shownAt, Merges, done, turn, BuiltFrom}
-use Rattle.merging.proofs.MergeLoop.{falls}
+use Rattle.merging.specs.Merging.{State, dateAhead, begunIn, pastDate, Merges, done, turn}
 use Rattle.merging.proofs.MergeTurn.{Merging, Dates, accepted-dates, dates-more, next-within, next-none, left-or-none}
 use Rattle.merging.proofs.MergeTurn.{merge-begin, merge-turn, merge-done}
 
@@ -75,45 +70,3 @@ module _ (o : Operation) (table : Table) (a b : List ℕ) (ha : listFault a ≡ 
       → Built (exactOfTwo (merged o table) a b) old slot made
   unfolding exactOfTwo begunIn n
   merged-exact slot made w = from-here slot made (begunIn o table a b old) 0 (merge-begin o table a b n old ha hb) w
-
--- a turn passes a word or more and puts at most one into the slot: so the answer has fewer words than both lists
-emitted-more : (made : Made) (d : ℕ) (at after : Bool) → (emitted made d at after) .count ≤ made .count + 1
-unfolding emitted
-emitted-more made d at after = go (idle (made .value) at after)
-  where
-    go : (t : Bool) → (cond t made (record { value = after; count = oneMore (made .count); late = lateWith (made .late) d })) .count
-        ≤ made .count + 1
-    go true = omega arith
-    go false = omega arith
-
-more-words : (o : Operation) (table : Table) (l m slot : List ℕ) (made : Made) (s : State) → Merges o table l m slot made s
-    → made .count ≤ s .made .count + (length l - s .first + (length m - s .second))
-unfolding pastDate dateAhead
-more-words o table l m slot made s (done h e f) = rw (← f) (omega arith)
-more-words o table l m slot made s (turn h w) =
-    omega (
-      arith,
-      more-words o table l m slot made (pastDate o table l m s (dateAhead l m s)) w,
-      falls l m (s .first) (s .second) (dateAhead l m s) refl h,
-      emitted-more (s .made) (dateAhead l m s) ((shownAt o table l m s (dateAhead l m s)) .at)
-          ((shownAt o table l m s (dateAhead l m s)) .after),
-    )
-
-pub few-words : (o : Operation) (table : Table) (l m work : List ℕ) (at room : ℕ) (made : Made) (after : List ℕ)
-    → BuiltFrom o table l m work at room made after → made .count ≤ 1 + (length l - 1 + (length m - 1))
-unfolding begunIn begun
-few-words o table l m work at room made after (slot, w, e) =
-    more-words o table l m slot made (begunIn o table l m (slotIn work at room)) w
-
--- two accepted lists, in a slot of their own
-pub merged-slices : (o : Operation) (table : Table) (a b slot : List ℕ) (made : Made) (after : List ℕ)
-    → BuiltFrom o table a b slot 0 (length slot) made after → listFault a ≡ 0 → listFault b ≡ 0 → Words a → Words b
-    → Built (exactOfTwo (merged o table) a b) slot after made
-merged-slices o table a b slot made after (end, w, e) ha hb wa wb =
-    rw (e ∙ only, ← whole) (merged-exact o table a b ha hb wa wb (slotIn slot 0 (length slot)) end made w)
-  where
-    whole : slotIn slot 0 (length slot) ≡ slot
-    whole = take-length slot
-
-    only : withSlot slot 0 (length slot) end ≡ end
-    only = ap (λ (l : List ℕ). end ++ l) (drop-of-length-le slot {i = 0 + length slot} (omega arith)) ∙ append-nil end

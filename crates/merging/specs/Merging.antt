@@ -1,4 +1,4 @@
--- Mirrored: the merge of two lists date by date, for every two lists, and its answer in a slot of the work area.
+-- Mirrored: the merge of two lists date by date, for every two lists, and its answer in a slot, also of the work area.
 use Prim.Native.Nat.{ℕ, _+_, _≤_, _<_, min}
 use mathlib.Core.Path.{_≡_}
 use mathlib.Core.Bool.{Bool, true, false, _&&_}
@@ -65,11 +65,14 @@ pub data Merges (o : Operation) (table : Table) (a b slot : List ℕ) (made : Ma
   turn : {s : State} → dateAhead a b s < NEVER → Merges o table a b slot made (pastDate o table a b s (dateAhead a b s)) →
       Merges o table a b slot made s
 
--- The merge of two lists in the slot of `room` words from `at` on: what is built, and the work area after it.
+-- The merge of two lists in a slot: what is built, and the slot after it.
+abbrev pub BuiltIn : Operation → Table → List ℕ → List ℕ → List ℕ → Made → List ℕ → Type 0
+BuiltIn o table l m slot made after = Merges o table l m after made (begunIn o table l m slot)
+
+-- in the slot of `room` words of the work area from `at` on: what is built, and the work area after it
 abbrev pub BuiltFrom : Operation → Table → List ℕ → List ℕ → List ℕ → ℕ → ℕ → Made → List ℕ → Type 0
 BuiltFrom o table l m work at room made after =
-    (slot : List ℕ) × Merges o table l m slot made (begunIn o table l m (slotIn work at room))
-    × (after ≡ withSlot work at room slot)
+    (slot : List ℕ) × BuiltIn o table l m (slotIn work at room) made slot × (after ≡ withSlot work at room slot)
 
 -- of two sources
 abbrev pub BuiltAt : Operation → Table → List ℕ → List ℕ → List ℕ → List ℕ → Source → Source → ℕ → ℕ → Made → List ℕ → Type 0

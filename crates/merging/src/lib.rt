@@ -1,21 +1,15 @@
-// The merge of two lists, and what it makes: connectives and latches; of a list and one that is always down, NOT and edges.
+// The merge of two lists where they stand: connectives and latches; of a list and one that is always down, NOT and edges.
 ghost use mathlib.Core.Path.{_≡_};
-ghost use Prim.Native.Nat.{min, _≤_};
+ghost use Prim.Native.Nat.{min};
 ghost use lib.ListN.{length};
-ghost use Rattle.signals.specs.Signal.{connective, SR, RS};
-ghost use Rattle.signals.specs.Words.{mostWords};
-ghost use Rattle.operations.specs.Calls.{CallOfTwo};
-ghost use Rattle.showing.specs.Showing.{merged};
 ghost use Rattle.showing.specs.declared.Operation.the-variants.{Connective};
-ghost use Rattle.merging.specs.Merging.{MayMerge, BuiltFrom, BuiltAt, MergedAt};
+ghost use Rattle.merging.specs.Merging.{MayMerge, BuiltAt, MergedAt};
 use building::Made;
 use building::SlotAnswer;
 use building::WORDS;
 use reading::NEVER;
 use showing::Operation;
 use signals::Date;
-use signals::Written;
-use sources::Memory;
 use sources::Source;
 
 // The earlier of two dates.
@@ -164,82 +158,4 @@ pub fn merge_at(
         }
     }
     SlotAnswer::NotBegun
-}
-
-// The merge of two slices in a slot.
-fn merge_slices(
-    operation: Operation,
-    table: [[bool; 2]; 2],
-    a: &[u32],
-    b: &[u32],
-    slot: &mut [u32],
-) -> Made
-    requires { ⌜ (length (now a) ≤ mostWords) × (length (now b) ≤ mostWords) ⌝ }
-    ensures { λ r.
-        ⌜ BuiltFrom operation table (now (a .entry)) (now (b .entry)) (now (slot .entry)) 0 (length (now (slot .entry))) r
-        (now (slot .exit)) ⌝ }
-{
-    let room = slot.len();
-    let first = Source {
-        memory: Memory::Left,
-        at: 0,
-        count: a.len() as u32,
-    };
-    let second = Source {
-        memory: Memory::Right,
-        at: 0,
-        count: b.len() as u32,
-    };
-    made_at(operation, table, b"", a, b, slot, first, second, 0, room)
-}
-
-// The words of a slot in which short lists are merged: fewer are cleared for them.
-const SHORT: usize = 32;
-
-// A merge of two lists that are judged first, its answer delivered to an output. It has fewer words than both lists together.
-fn operate(
-    operation: Operation,
-    table: [[bool; 2]; 2],
-    a: &[u32],
-    b: &[u32],
-    out: &mut [u32],
-) -> Written
-    ensures { λ r. ⌜ CallOfTwo (merged operation table) (now (a .entry)) (now (b .entry)) (now (out .entry)) r (now (out .exit)) ⌝ }
-{
-    let fault = lists::pair_fault(a, b);
-    if fault != 0 {
-        return Written::Refused(fault);
-    }
-    if a.len() + b.len() <= SHORT {
-        let mut slot = [0u32; SHORT];
-        let made = merge_slices(operation, table, a, b, &mut slot);
-        return building::deliver(&slot, made, out);
-    }
-    let mut slot = [0u32; WORDS];
-    let made = merge_slices(operation, table, a, b, &mut slot);
-    building::deliver(&slot, made, out)
-}
-
-// The table given where the operation reads none.
-const UNREAD: [[bool; 2]; 2] = [[true, true], [false, false]];
-
-// A connective by its table, row by the first operand, column by the second: faults list, list, 5, 7.
-pub fn connective(table: [[bool; 2]; 2], a: &[u32], b: &[u32], out: &mut [u32]) -> Written
-    ensures { λ r. ⌜ CallOfTwo (connective table) (now (a .entry)) (now (b .entry)) (now (out .entry)) r (now (out .exit)) ⌝ }
-{
-    operate(Operation::Connective, table, a, b, out)
-}
-
-// The latch in which set wins: faults list, list, 5, 7.
-pub fn sr(s: &[u32], r: &[u32], out: &mut [u32]) -> Written
-    ensures { λ v. ⌜ CallOfTwo SR (now (s .entry)) (now (r .entry)) (now (out .entry)) v (now (out .exit)) ⌝ }
-{
-    operate(Operation::SetWins, UNREAD, s, r, out)
-}
-
-// The latch in which reset wins: faults list, list, 5, 7.
-pub fn rs(s: &[u32], r: &[u32], out: &mut [u32]) -> Written
-    ensures { λ v. ⌜ CallOfTwo RS (now (s .entry)) (now (r .entry)) (now (out .entry)) v (now (out .exit)) ⌝ }
-{
-    operate(Operation::ResetWins, UNREAD, s, r, out)
 }

@@ -3,4 +3,5 @@ pub mod SourceWords
 pub mod Sourcing
 pub mod Going
 pub mod Readers
+mod SliceReaders
 mod Lengths

@@ -3,6 +3,7 @@ ghost use mathlib.Core.Path.{_≡_};
 ghost use Prim.Native.Nat.{_<_, _-_, min};
 ghost use lib.ListN.{length};
 ghost use Rattle.sources.specs.Sources.{nextWord, sheetWord, listAt, cursorAt, startOf, pastOn, apartFrom};
+use reading::NEVER;
 use reading::Step;
 use signals::Date;
 
@@ -169,6 +170,72 @@ pub fn past(
             passed: at.passed,
         },
         next: at,
+    }
+}
+
+// The reader of a list that is the whole of a slice, so many of its words passed, the last of them given: nothing is to be chosen where a
+// word is read.
+pub fn reader_in(words: &[u32], passed: usize, last: u64) -> Cursor
+    ensures { λ r. ⌜ r ≡ cursorAt (now (words .entry)) passed last ⌝ }
+{
+    if passed < words.len() {
+        let word = words[passed];
+        return Cursor {
+            word,
+            date: word / 4,
+            last,
+            passed,
+        };
+    }
+    Cursor {
+        word: 4294967292,
+        date: NEVER,
+        last,
+        passed,
+    }
+}
+
+// That past the first word of a slice.
+pub fn start_in(words: &[u32]) -> Cursor
+    ensures { λ r. ⌜ r ≡ startOf (now (words .entry)) ⌝ }
+{
+    if 0 < words.len() {
+        return reader_in(words, 1, words[0] as u64);
+    }
+    reader_in(words, 1, 17179869180)
+}
+
+// Past a date in a slice: a word of that date is passed, and only then the next one is read.
+pub fn past_in(words: &[u32], at: Cursor, date: u32) -> Passed
+    ensures { λ r. ⌜ r ≡ pastOn (now (words .entry)) at date ⌝ }
+{
+    let held = at.last % 2 == 1;
+    if at.date == date {
+        let word = at.word;
+        let count = at.passed % 4294967296 + 1;
+        return Passed {
+            step: Step {
+                before: held,
+                at: word / 2 % 2 == 1,
+                after: word % 2 == 1,
+                passed: count,
+            },
+            next: reader_in(words, count, word as u64),
+        };
+    }
+    Passed {
+        step: Step {
+            before: held,
+            at: held,
+            after: held,
+            passed: at.passed,
+        },
+        next: Cursor {
+            word: at.word,
+            date: at.date,
+            last: at.last,
+            passed: at.passed,
+        },
     }
 }
 

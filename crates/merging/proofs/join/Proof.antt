@@ -2,7 +2,7 @@
 use borrow.Author.Needs.{needs}
 use Prim.Native.Nat.{ℕ, _+_, _-_, _≤_}
 use native.Mathlib.Omega.{arith}
-use mathlib.Core.Path.{refl, _∙_, ap}
+use mathlib.Core.Path.{_∙_, ap}
 use mathlib.Core.List.{List, _++_}
 use lib.ListN.{length, take, drop}
 use mathlib.Core.Bool.{false}
@@ -10,7 +10,8 @@ use Rattle.signals.specs.Words.{valueAfter}
 use Rattle.showing.specs.declared.Operation.the-variants.{Connective}
 use Rattle.sources.specs.Sources.{listAt, pastOn, slotIn}
 use Rattle.merging.specs.Merging.{MayMerge}
-use Rattle.merging.proofs.MergeLoop.{Looping, reached, Started, started, may-there, built-there, first-cell, date-cells}
+use Rattle.merging.proofs.Along.{reached, first-cell, date-cells}
+use Rattle.merging.proofs.MergeLoop.{Looping, Started, started, may-there, built-there}
 use Rattle.merging.proofs.MergeLoop.{looping-turn, looping-falls, looping-end, looping-long, looping-still}
 use Rattle.merging.proofs.join.Statement.{statement}
 use Rattle.merging.proofs.join.Tie as tie
@@ -183,7 +184,7 @@ returns c =
     let begun = c .before .before .before .before .before .before .before .before .before .before in
     let x = begun .before .before .before .before .before .before .before .before .args in
     built-there _ _ _ _ (x .work .now) (x .at) (x .room) _ _ (begins (c .before .before) .builds _ _ (here .2 .slot) (here .2 .now-is)
-    (looping-end _ _ _ _ _ _ _ _ (here .1 .2) _ _ _ _ _ _ (here .2) (c .loop-test .left) _ refl))
+    (looping-end _ _ _ _ _ _ _ _ (here .1 .2) _ _ _ _ _ _ (here .2) (c .loop-test .left)))
 
 pub join-spec : {M : Type 1} → statement M
 join-spec =

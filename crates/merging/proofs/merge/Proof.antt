@@ -2,13 +2,14 @@
 use borrow.Author.Needs.{needs}
 use Prim.Native.Nat.{ℕ, _+_, _-_, _≤_}
 use native.Mathlib.Omega.{arith}
-use mathlib.Core.Path.{refl, _∙_, ap}
+use mathlib.Core.Path.{_∙_, ap}
 use mathlib.Core.List.{List, _++_}
 use lib.ListN.{length, take, drop}
 use Rattle.signals.specs.Words.{valueAfter}
 use Rattle.sources.specs.Sources.{listAt, pastOn, slotIn}
 use Rattle.merging.specs.Merging.{MayMerge}
-use Rattle.merging.proofs.MergeLoop.{Looping, reached, Started, started, may-there, built-there}
+use Rattle.merging.proofs.Along.{reached}
+use Rattle.merging.proofs.MergeLoop.{Looping, Started, started, may-there, built-there}
 use Rattle.merging.proofs.MergeLoop.{looping-turn, looping-falls, looping-end, looping-long, looping-still}
 use Rattle.merging.proofs.merge.Statement.{statement}
 use Rattle.merging.proofs.merge.Tie as tie
@@ -177,7 +178,7 @@ returns c =
     let begun = c .before .before .before .before .before .before .before .before .before .before in
     let x = begun .before .before .before .before .before .before .before .before .args in
     built-there _ _ _ _ (x .work .now) (x .at) (x .room) _ _ (begins (c .before .before) .builds _ _ (here .2 .slot) (here .2 .now-is)
-    (looping-end _ _ _ _ _ _ _ _ (here .1 .2) _ _ _ _ _ _ (here .2) (c .loop-test .left) _ refl))
+    (looping-end _ _ _ _ _ _ _ _ (here .1 .2) _ _ _ _ _ _ (here .2) (c .loop-test .left)))
 
 pub merge-spec : {M : Type 1} → statement M
 merge-spec =

@@ -1,7 +1,7 @@
--- `merging::rs` is the merge of its operation.
+-- `combining::rs` is the merge of its operation.
 use borrow.Author.Needs.{needs}
-use Rattle.merging.proofs.rs.Statement.{statement}
-use Rattle.merging.proofs.rs.Tie as tie
+use Rattle.combining.proofs.rs.Statement.{statement}
+use Rattle.combining.proofs.rs.Tie as tie
 
 operate-requires : tie.Need-operate-requires
 operate-requires c κs = search needs

@@ -1,9 +1,9 @@
--- `comparing::start_in` meets its contract.
+-- `sources::start_in` meets its contract.
 use borrow.Author.Needs.{needs}
 use native.Mathlib.Omega.{arith}
-use Rattle.comparing.proofs.Scanning.{first-left, first-none}
-use Rattle.comparing.proofs.start_in.Statement.{statement}
-use Rattle.comparing.proofs.start_in.Tie as tie
+use Rattle.sources.proofs.SliceReaders.{first-left, first-none}
+use Rattle.sources.proofs.start_in.Statement.{statement}
+use Rattle.sources.proofs.start_in.Tie as tie
 
 shared-slice-read-reader-in : tie.Need-shared-slice-read-reader-in
 shared-slice-read-reader-in c = search needs

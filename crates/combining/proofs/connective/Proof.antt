@@ -1,7 +1,7 @@
--- `merging::connective` is the merge of its operation.
+-- `combining::connective` is the merge of its operation.
 use borrow.Author.Needs.{needs}
-use Rattle.merging.proofs.connective.Statement.{statement}
-use Rattle.merging.proofs.connective.Tie as tie
+use Rattle.combining.proofs.connective.Statement.{statement}
+use Rattle.combining.proofs.connective.Tie as tie
 
 operate-requires : tie.Need-operate-requires
 operate-requires c κs = search needs

@@ -1,8 +1,8 @@
--- `comparing::reader_in` meets its contract.
+-- `sources::reader_in` meets its contract.
 use borrow.Author.Needs.{needs}
-use Rattle.comparing.proofs.Scanning.{reader-left, reader-none}
-use Rattle.comparing.proofs.reader_in.Statement.{statement}
-use Rattle.comparing.proofs.reader_in.Tie as tie
+use Rattle.sources.proofs.SliceReaders.{reader-left, reader-none}
+use Rattle.sources.proofs.reader_in.Statement.{statement}
+use Rattle.sources.proofs.reader_in.Tie as tie
 
 mul-word : tie.Need-mul-word
 mul-word c = search needs

@@ -1,15 +1,16 @@
--- `merging::operate` meets its contract: the lists are judged, then the merge's answer is delivered from a slot that holds it.
+-- `combining::operate` meets its contract: the lists are judged, then the merge's answer is delivered from a slot that holds it.
 use native.Mathlib.Omega.{arith}
 use mathlib.Core.Path.{sym, _∙_}
 use lib.ListN.{replicate}
+use Rattle.signals.proofs.Normal.{accepted-normal}
 use Rattle.operations.specs.Calls.{faultOfTwo}
 use Rattle.operations.proofs.JudgedCalls.{refused, passes-on, pair-none}
 use Rattle.building.proofs.Delivering.{delivered}
-use Rattle.merging.proofs.MergeTurn.{short}
-use Rattle.merging.proofs.MergedExact.{merged-slices, few-words}
+use Rattle.merging.proofs.MergedExact.{merged-exact}
+use Rattle.combining.proofs.FewWords.{few-words}
 use borrow.Author.Needs.{needs}
-use Rattle.merging.proofs.operate.Statement.{statement}
-use Rattle.merging.proofs.operate.Tie as tie
+use Rattle.combining.proofs.operate.Statement.{statement}
+use Rattle.combining.proofs.operate.Tie as tie
 
 pair-fault-requires : tie.Need-pair-fault-requires
 pair-fault-requires c κs = search needs
@@ -21,11 +22,11 @@ returns c = refused _ _ _ _ _ (c .before .pair-fault .ensures) (c .if1 .taken)
 add-if2 : tie.Need-add-if2
 add-if2 c = search needs
 
-slice-aggregate-merge-slices : tie.Need-slice-aggregate-merge-slices
-slice-aggregate-merge-slices c = search needs
+slice-aggregate-made-in : tie.Need-slice-aggregate-made-in
+slice-aggregate-made-in c = search needs
 
-merge-slices-requires : tie.Need-merge-slices-requires
-merge-slices-requires c κs = search needs
+made-in-requires : tie.Need-made-in-requires
+made-in-requires c κs = search needs
 
 slice-aggregate-deliver : tie.Need-slice-aggregate-deliver
 slice-aggregate-deliver c = search needs
@@ -47,22 +48,22 @@ returns-2 c =
     let none = sym (judged .before .pair-fault .ensures) ∙ judged .if1 .left in
     let ok = pair-none _ _ none in
     let built =
-    merged-slices (x .operation) (x .table) (x .a .now) (x .b .now) (replicate 32 0) _ _ (made .merge-slices .ensures) (ok .0) (ok .1)
+    merged-exact (x .operation) (x .table) (x .a .now) (x .b .now) (ok .0) (ok .1)
     (λ i. judged .before .before .before .before .shared-slice-known .given i .fits)
-    (λ i. judged .before .before .before .shared-slice-known2 .given i .fits) in
-    let few = few-words _ _ (x .a .now) (x .b .now) (replicate 32 0) 0 32 _ _ (made .merge-slices .ensures) in
+    (λ i. judged .before .before .before .shared-slice-known2 .given i .fits) (replicate 32 0) _ _ (made .made-in .ensures) in
+    let few = few-words _ _ (x .a .now) (x .b .now) (replicate 32 0) _ _ (made .made-in .ensures) in
     passes-on _ _ _ _ _ _ none
     (delivered _ _ _ _ built (λ h. omega (arith, built .count-is, few, fits .if2 .taken)) (omega arith) (x .out .now) _ _
     (delivers .deliver .ensures))
 
-slice-aggregate-merge-slices-2 : tie.Need-slice-aggregate-merge-slices-2
-slice-aggregate-merge-slices-2 c = search needs
+slice-aggregate-made-in-2 : tie.Need-slice-aggregate-made-in-2
+slice-aggregate-made-in-2 c = search needs
 
-merge-slices-requires-2 : tie.Need-merge-slices-requires-2
-merge-slices-requires-2 c κs =
+made-in-requires-2 : tie.Need-made-in-requires-2
+made-in-requires-2 c κs =
     let judged = c .before .before in
     let ok = pair-none _ _ (sym (judged .before .pair-fault .ensures) ∙ judged .if1 .left) in
-    (short _ (ok .0), short _ (ok .1))
+    (accepted-normal _ .0 (ok .0) .1, accepted-normal _ .0 (ok .1) .1)
 
 slice-aggregate-deliver-2 : tie.Need-slice-aggregate-deliver-2
 slice-aggregate-deliver-2 c = search needs
@@ -83,9 +84,9 @@ returns-3 c =
     let none = sym (judged .before .pair-fault .ensures) ∙ judged .if1 .left in
     let ok = pair-none _ _ none in
     let built =
-    merged-slices (x .operation) (x .table) (x .a .now) (x .b .now) (replicate 256 0) _ _ (made .merge-slices2 .ensures) (ok .0) (ok .1)
+    merged-exact (x .operation) (x .table) (x .a .now) (x .b .now) (ok .0) (ok .1)
     (λ i. judged .before .before .before .before .shared-slice-known .given i .fits)
-    (λ i. judged .before .before .before .shared-slice-known2 .given i .fits) in
+    (λ i. judged .before .before .before .shared-slice-known2 .given i .fits) (replicate 256 0) _ _ (made .made-in2 .ensures) in
     passes-on _ _ _ _ _ _ none
     (delivered _ _ _ _ built (λ h. omega arith) (omega arith) (x .out .now) _ _ (delivers .deliver2 .ensures))
 
@@ -96,14 +97,14 @@ operate-spec =
     pair-fault-requires
     returns
     add-if2
-    slice-aggregate-merge-slices
-    merge-slices-requires
+    slice-aggregate-made-in
+    made-in-requires
     slice-aggregate-deliver
     deliver-requires
     same-length
     returns-2
-    slice-aggregate-merge-slices-2
-    merge-slices-requires-2
+    slice-aggregate-made-in-2
+    made-in-requires-2
     slice-aggregate-deliver-2
     deliver-requires-2
     same-length-2

@@ -1,0 +1,3 @@
+-- The calls of two lists.
+mod FewWords
+mod WordLoops
