@@ -1,6 +1,6 @@
 // Connectives and latches: operations of two lists.
 ghost use mathlib.Core.Path.{_≡_};
-ghost use Prim.Native.Nat.{min, _≤_};
+ghost use Prim.Native.Nat.{_≤_};
 ghost use lib.ListN.{length};
 ghost use Rattle.signals.specs.Signal.{connective, SR, RS};
 ghost use Rattle.signals.specs.Words.{mostWords};
@@ -14,13 +14,6 @@ use reading::NEVER;
 use showing::Operation;
 use signals::Date;
 use signals::Written;
-
-// The earlier of two dates.
-fn earlier(x: u32, y: u32) -> u32
-    ensures { λ r. ⌜ r ≡ min x y ⌝ }
-{
-    if x < y { x } else { y }
-}
 
 // The merge of two slices, built in a slot: date by date, what the latch makes of both.
 fn latch_words(
@@ -38,7 +31,7 @@ fn latch_words(
     let first = showing::first_shown(operation, table, x.last % 2 == 1, y.last % 2 == 1);
     let mut made = building::begin(slot, first.after);
     let mut carried = first.carried;
-    let mut date = earlier(x.date, y.date);
+    let mut date = words::earlier(x.date, y.date);
     while date < NEVER {
         let u = sources::past_in(a, x, date);
         let v = sources::past_in(b, y, date);
@@ -47,7 +40,7 @@ fn latch_words(
         carried = shown.carried;
         x = u.next;
         y = v.next;
-        date = earlier(x.date, y.date);
+        date = words::earlier(x.date, y.date);
     }
     made
 }
@@ -61,7 +54,7 @@ fn join_words(table: [[bool; 2]; 2], a: &[u32], b: &[u32], slot: &mut [u32]) -> 
     let mut y = sources::start_in(b);
     let first = showing::cell_of(table, x.last % 2 == 1, y.last % 2 == 1);
     let mut made = building::begin(slot, first);
-    let mut date = earlier(x.date, y.date);
+    let mut date = words::earlier(x.date, y.date);
     while date < NEVER {
         let u = sources::past_in(a, x, date);
         let v = sources::past_in(b, y, date);
@@ -70,7 +63,7 @@ fn join_words(table: [[bool; 2]; 2], a: &[u32], b: &[u32], slot: &mut [u32]) -> 
         made = building::emit(slot, made, Date(date), value, after);
         x = u.next;
         y = v.next;
-        date = earlier(x.date, y.date);
+        date = words::earlier(x.date, y.date);
     }
     made
 }

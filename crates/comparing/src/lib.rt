@@ -1,7 +1,6 @@
 // Two lists compared: equality and implication, by one scan along both.
 ghost use mathlib.Core.Path.{_≡_};
 ghost use mathlib.Core.Bool.{false};
-ghost use Prim.Native.Nat.{min};
 ghost use Rattle.signals.specs.Words.{pairFault};
 ghost use Rattle.questions.specs.Questions.{equalOf, impliesOf};
 ghost use Rattle.comparing.specs.Finding.{failsBy, Found, FoundAt};
@@ -23,13 +22,6 @@ fn fails_by(both: bool, p: bool, q: bool) -> bool
     (p != q) & (p | both)
 }
 
-// The earlier of two dates.
-fn earlier_date(x: u32, y: u32) -> u32
-    ensures { λ r. ⌜ r ≡ min x y ⌝ }
-{
-    if x < y { x } else { y }
-}
-
 // The first moment at which f to g fails, of gap 0, then of each date its instant and the gap after it: values change nowhere else.
 fn scan(
     both: bool,
@@ -49,7 +41,7 @@ fn scan(
         if fails_by(both, a.last % 2 == 1, b.last % 2 == 1) {
             return Verdict::FailsAfter(last);
         }
-        let date = earlier_date(a.date, b.date);
+        let date = words::earlier(a.date, b.date);
         if NEVER <= date {
             return Verdict::Holds;
         }
@@ -90,7 +82,7 @@ fn scan_pair(both: bool, f: &[u32], g: &[u32]) -> Verdict
         if fails_by(both, x.last % 2 == 1, y.last % 2 == 1) {
             return Verdict::FailsAfter(last);
         }
-        let date = earlier_date(x.date, y.date);
+        let date = words::earlier(x.date, y.date);
         if NEVER <= date {
             return Verdict::Holds;
         }

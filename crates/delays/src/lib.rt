@@ -14,7 +14,7 @@ use signals::M;
 use signals::Written;
 
 // The delay of one level of a list, built in a slot of any length. The loop has the body of the one in
-// `delay_parts` once more: as a function called in both, it would be put into neither, at twice the time.
+// `delay_parts` once more: as a function called in both, it would be put into neither, and a trial took three times as long.
 fn delay_words(level: bool, d: Length, f: &[u32], slot: &mut [u32]) -> Made
     requires { ⌜ 1 ≤ length (now f) ⌝ }
     ensures { λ r. ⌜ Ends (lastState level (d .0) (now (f .entry)) (now (slot .entry))) r (now (slot .exit)) ⌝ }

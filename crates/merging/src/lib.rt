@@ -1,6 +1,5 @@
 // The merge of two lists where they stand: connectives and latches; of a list and one that is always down, NOT and edges.
 ghost use mathlib.Core.Path.{_≡_};
-ghost use Prim.Native.Nat.{min};
 ghost use lib.ListN.{length};
 ghost use Rattle.showing.specs.declared.Operation.the-variants.{Connective};
 ghost use Rattle.merging.specs.Merging.{MayMerge, BuiltAt, MergedAt};
@@ -11,13 +10,6 @@ use reading::NEVER;
 use showing::Operation;
 use signals::Date;
 use sources::Source;
-
-// The earlier of two dates.
-fn earlier(x: u32, y: u32) -> u32
-    ensures { λ r. ⌜ r ≡ min x y ⌝ }
-{
-    if x < y { x } else { y }
-}
 
 // The merge of two lists, built in the slot that begins at a place of the work area and has so many words: date by date, what the
 // operation makes of both. The next words are read before the answer's is stored.
@@ -44,7 +36,7 @@ fn merge(
     let first = showing::first_shown(operation, table, x.last % 2 == 1, y.last % 2 == 1);
     let mut made = building::begin(&mut work[at..end], first.after);
     let mut carried = first.carried;
-    let mut date = earlier(x.date, y.date);
+    let mut date = words::earlier(x.date, y.date);
     while date < NEVER {
         let on = Date(date);
         let u = sources::past(sheet, left, right, work, a, x, on);
@@ -54,7 +46,7 @@ fn merge(
         carried = shown.carried;
         x = u.next;
         y = v.next;
-        date = earlier(x.date, y.date);
+        date = words::earlier(x.date, y.date);
     }
     made
 }
@@ -81,7 +73,7 @@ fn join(
     let mut y = sources::start(sheet, left, right, work, b);
     let first = showing::cell_of(table, x.last % 2 == 1, y.last % 2 == 1);
     let mut made = building::begin(&mut work[at..end], first);
-    let mut date = earlier(x.date, y.date);
+    let mut date = words::earlier(x.date, y.date);
     while date < NEVER {
         let on = Date(date);
         let u = sources::past(sheet, left, right, work, a, x, on);
@@ -91,7 +83,7 @@ fn join(
         made = building::emit(&mut work[at..end], made, on, value, after);
         x = u.next;
         y = v.next;
-        date = earlier(x.date, y.date);
+        date = words::earlier(x.date, y.date);
     }
     made
 }

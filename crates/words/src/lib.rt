@@ -47,11 +47,11 @@ pub fn changes_nothing(before: bool, w: u32) -> bool
     if before { w % 4 == 3 } else { w % 4 == 0 }
 }
 
-// The earlier of two dates.
-pub fn earlier(a: Date, b: Date) -> Date
-    ensures { λ r. ⌜ r .0 ≡ min (a .0) (b .0) ⌝ }
+// The earlier of two dates, or NEVER where both are: the loops keep them as numbers.
+pub fn earlier(a: u32, b: u32) -> u32
+    ensures { λ r. ⌜ r ≡ min a b ⌝ }
 {
-    if a.0 < b.0 { a } else { b }
+    if a < b { a } else { b }
 }
 
 // A value as the index of its row or column in a table: 0 for down, 1 for up.

@@ -49,15 +49,15 @@ returns : tie.Need-returns Inv-loop μ-loop
 unfolding valueAfter
 returns c = gap-found (c .before .before .before .before .loop .inv) (sym (c .before .fails-by .ensures)) (c .if1 .taken)
 
-earlier-date-requires : tie.Need-earlier-date-requires Inv-loop μ-loop
-earlier-date-requires c κs = search needs
+earlier-requires : tie.Need-earlier-requires Inv-loop μ-loop
+earlier-requires c κs = search needs
 
 returns-2 : tie.Need-returns-2 Inv-loop μ-loop
 unfolding valueAfter
 returns-2 c =
     let d = c .before in
     none-found (d .before .before .before .before .before .loop .inv) (sym (d .before .before .fails-by .ensures))
-    (d .before .if1 .left) _ (d .earlier-date .ensures) (c .if2 .taken)
+    (d .before .if1 .left) _ (d .earlier .ensures) (c .if2 .taken)
 
 past-requires : tie.Need-past-requires Inv-loop μ-loop
 past-requires c κs = search needs
@@ -74,7 +74,7 @@ returns-3 c =
     let t = c .before .before in
     let d = t .before .before .before in
     instant-found (d .before .before .before .before .before .loop .inv) (sym (d .before .before .fails-by .ensures))
-    (d .before .if1 .left) _ (d .earlier-date .ensures)
+    (d .before .if1 .left) _ (d .earlier .ensures)
     _ _ (t .before .before .if2 .left) (t .before .past .ensures) (t .past2 .ensures)
     (sym (c .before .fails-by2 .ensures) ∙ c .if3 .taken)
 
@@ -84,7 +84,7 @@ loop-less c =
     let t = c .before .before .before .before in
     let d = t .before .before .before in
     falls (d .before .before .before .before .before .loop .inv) (sym (d .before .before .fails-by .ensures))
-    (d .before .if1 .left) _ (d .earlier-date .ensures)
+    (d .before .if1 .left) _ (d .earlier .ensures)
     _ _ (t .before .before .if2 .left) (t .before .past .ensures) (t .past2 .ensures)
 
 loop-again : tie.Need-loop-again Inv-loop μ-loop
@@ -93,7 +93,7 @@ loop-again c =
     let t = c .before .before .before .before in
     let d = t .before .before .before in
     scan-on (d .before .before .before .before .before .loop .inv) (sym (d .before .before .fails-by .ensures))
-    (d .before .if1 .left) _ (d .earlier-date .ensures)
+    (d .before .if1 .left) _ (d .earlier .ensures)
     _ _ (t .before .before .if2 .left) (t .before .past .ensures) (t .past2 .ensures)
     (sym (c .before .before .before .fails-by2 .ensures) ∙ c .before .before .if3 .left)
 
@@ -108,7 +108,7 @@ scan-spec =
     loop-holds
     fails-by-requires
     returns
-    earlier-date-requires
+    earlier-requires
     returns-2
     past-requires
     past-requires-2

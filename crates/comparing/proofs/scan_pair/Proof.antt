@@ -39,15 +39,15 @@ returns : tie.Need-returns Inv-loop μ-loop
 unfolding valueAfter
 returns c = gap-found (c .before .before .before .before .loop .inv) (sym (c .before .fails-by .ensures)) (c .if1 .taken)
 
-earlier-date-requires : tie.Need-earlier-date-requires Inv-loop μ-loop
-earlier-date-requires c κs = search needs
+earlier-requires : tie.Need-earlier-requires Inv-loop μ-loop
+earlier-requires c κs = search needs
 
 returns-2 : tie.Need-returns-2 Inv-loop μ-loop
 unfolding valueAfter
 returns-2 c =
     let d = c .before in
     none-found (d .before .before .before .before .before .loop .inv) (sym (d .before .before .fails-by .ensures))
-    (d .before .if1 .left) _ (d .earlier-date .ensures) (c .if2 .taken)
+    (d .before .if1 .left) _ (d .earlier .ensures) (c .if2 .taken)
 
 past-in-requires : tie.Need-past-in-requires Inv-loop μ-loop
 past-in-requires c κs = search needs
@@ -64,7 +64,7 @@ returns-3 c =
     let t = c .before .before in
     let d = t .before .before .before in
     instant-found (d .before .before .before .before .before .loop .inv) (sym (d .before .before .fails-by .ensures))
-    (d .before .if1 .left) _ (d .earlier-date .ensures)
+    (d .before .if1 .left) _ (d .earlier .ensures)
     _ _ (t .before .before .if2 .left) (t .before .past-in .ensures) (t .past-in2 .ensures)
     (sym (c .before .fails-by2 .ensures) ∙ c .if3 .taken)
 
@@ -74,7 +74,7 @@ loop-less c =
     let t = c .before .before .before .before in
     let d = t .before .before .before in
     falls (d .before .before .before .before .before .loop .inv) (sym (d .before .before .fails-by .ensures))
-    (d .before .if1 .left) _ (d .earlier-date .ensures)
+    (d .before .if1 .left) _ (d .earlier .ensures)
     _ _ (t .before .before .if2 .left) (t .before .past-in .ensures) (t .past-in2 .ensures)
 
 loop-again : tie.Need-loop-again Inv-loop μ-loop
@@ -83,7 +83,7 @@ loop-again c =
     let t = c .before .before .before .before in
     let d = t .before .before .before in
     scan-on (d .before .before .before .before .before .loop .inv) (sym (d .before .before .fails-by .ensures))
-    (d .before .if1 .left) _ (d .earlier-date .ensures)
+    (d .before .if1 .left) _ (d .earlier .ensures)
     _ _ (t .before .before .if2 .left) (t .before .past-in .ensures) (t .past-in2 .ensures)
     (sym (c .before .before .before .fails-by2 .ensures) ∙ c .before .before .if3 .left)
 
@@ -98,7 +98,7 @@ scan-pair-spec =
     loop-holds
     fails-by-requires
     returns
-    earlier-date-requires
+    earlier-requires
     returns-2
     past-in-requires
     past-in-requires-2
