@@ -1,10 +1,10 @@
--- Believed: Document 01, "Operations", over moments, as definitions that compute.
+-- Believed: Document 01, "Operations", over moments, as definitions that compute; and TP, document 02's request 1.
 use Prim.Native.Nat.{ℕ, zero, suc, _+_, _*_, _-_, _≤_}
 use mathlib.Core.Bool.{Bool, true, false, not, cond, _&&_, _||_}
 use mathlib.Core.List.{List, [], _∷_}
-use lib.Dec.{leb, eqb}
+use lib.Dec.{leb, ltb, eqb}
 use lib.ListN.{getD}
-use Rattle.signals.specs.Moment.{isGap, justBefore, opens, inOpen, inClosed, started, fromTo}
+use Rattle.signals.specs.Moment.{instant, isGap, tick, justBefore, opens, inOpen, inClosed, started, fromTo}
 
 -- A signal is up (true) or down (false) at each moment.
 abbrev pub Signal : Type 0
@@ -77,6 +77,22 @@ TON d f t = started d t && every (λ t1. implied (fromTo d t t1) (f t1)) t
 -- TOF(d,f): f is up at some t1 > 0 with t-d ≤ t1 ≤ t.
 unfoldable pub TOF : ℕ → Signal → Signal
 TOF d f t = some (λ t1. fromTo d t t1 && f t1) t
+
+-- TP: a pulse that started at one of these dates, b, is still running at date k: k < b+d
+unfoldable pub running : ℕ → List ℕ → ℕ → Bool
+running d [] k = false
+running d (b ∷ bs) k = ltb k (b + d) || running d bs k
+
+-- The dates up to k at which a pulse starts, the last first: a rising instant of f starts one, unless it comes before the end of a pulse
+-- that started earlier.
+unfoldable pub starts : ℕ → Signal → ℕ → List ℕ
+starts d f zero = []
+starts d f (suc k) =
+    cond (rising f (instant (suc k)) && not (running d (starts d f k) (suc k))) (suc k ∷ starts d f k) (starts d f k)
+
+-- TP(d,f): up from each start a inclusive to a+d exclusive.
+unfoldable pub TP : ℕ → Signal → Signal
+TP d f t = running d (starts d f (tick t)) (tick t)
 
 -- f to g is refuted at t: f is up and g is down
 unfoldable pub refuted : Signal → Signal → Signal
