@@ -1,3 +1,2 @@
 -- A delay in a slot of the work area, its operand read where it stands.
-pub mod DelayBegins
 pub mod DelayRun

@@ -5,15 +5,15 @@ ghost use Prim.Native.Nat.{_+_, _≤_};
 ghost use lib.ListN.{length, drop};
 ghost use Rattle.signals.specs.Words.{mostWords};
 ghost use Rattle.sources.specs.Sources.{listAt, apartFrom, slotIn};
+ghost use Rattle.lent_slots.specs.Lent.{EndsIn, BuiltAt};
 ghost use Rattle.delaying.specs.Turns.{stateOf, pastWord, pastWords};
-ghost use Rattle.delay_parts.specs.DelayAt.{EndsIn, DelayedIn, mayDelay, DelayedAt};
+ghost use Rattle.delay_parts.specs.DelayAt.{ended, delayEngine};
 use building::Made;
 use building::SlotAnswer;
 use building::WORDS;
 use delaying::Going;
 use signals::Date;
 use signals::Length;
-use signals::M;
 use sources::Source;
 use timing::Timer;
 
@@ -51,9 +51,9 @@ fn pass_words(
 ) -> Made
     requires { ⌜ (at + mostWords ≤ length (now work)) × (apartFrom f at mostWords ≡ true) ⌝ }
     ensures { λ r.
-        ⌜ EndsIn (pastWords level (d .0)
+        ⌜ EndsIn (ended (pastWords level (d .0)
         (drop 1 (listAt (now (sheet .entry)) (now (left .entry)) (now (right .entry)) (now (work .entry)) f))
-        (stateOf first begun (slotIn (now (work .entry)) at mostWords))) (now (work .entry)) at mostWords r (now (work .exit)) ⌝ }
+        (stateOf first begun (slotIn (now (work .entry)) at mostWords)))) (now (work .entry)) at mostWords r (now (work .exit)) ⌝ }
 {
     let end = at + WORDS;
     let mut timer = first;
@@ -83,8 +83,9 @@ fn run(
     at: usize,
 ) -> Made
     requires { ⌜ (at + mostWords ≤ length (now work)) × (apartFrom f at mostWords ≡ true) ⌝ }
-    ensures { λ r. ⌜ DelayedIn level (d .0) (listAt (now (sheet .entry)) (now (left .entry)) (now (right .entry)) (now (work .entry)) f)
-        (now (work .entry)) at mostWords r (now (work .exit)) ⌝ }
+    ensures { λ r.
+        ⌜ EndsIn (delayEngine level (d .0) (listAt (now (sheet .entry)) (now (left .entry)) (now (right .entry)) (now (work .entry)) f)
+        (slotIn (now (work .entry)) at mostWords)) (now (work .entry)) at mostWords r (now (work .exit)) ⌝ }
 {
     let end = at + WORDS;
     let word = sources::next_word(sheet, left, right, work, f, 0);
@@ -93,20 +94,6 @@ fn run(
     let shown = timing::on_level(level, timer.level);
     let made = building::begin(&mut work[at..end], shown);
     pass_words(level, d, sheet, left, right, work, f, at, timer, made)
-}
-
-// Whether a delay begins: its length is at most M, and the slot is in the work area, apart from the operand.
-fn begins(d: Length, f: Source, at: u32, room: usize) -> bool
-    ensures { λ r. ⌜ r ≡ mayDelay (d .0) f at room ⌝ }
-{
-    let length = d.0;
-    if M < length {
-        return false;
-    }
-    if room < at as usize + WORDS {
-        return false;
-    }
-    sources::apart(f, at, WORDS as u32)
 }
 
 // The delay of one level of a list that stands anywhere, in a slot of the work area: no entry point, since the slot is scratch.
@@ -120,10 +107,10 @@ pub fn delay_at(
     f: Source,
     at: u32,
 ) -> SlotAnswer
-    ensures { λ r. ⌜ DelayedAt level (d .0) (now (sheet .entry)) (now (left .entry)) (now (right .entry)) (now (work .entry)) f at r
-        (now (work .exit)) ⌝ }
+    ensures { λ r. ⌜ BuiltAt (delayEngine level (d .0)) (d .0) (now (sheet .entry)) (now (left .entry)) (now (right .entry))
+        (now (work .entry)) f at r (now (work .exit)) ⌝ }
 {
-    if begins(d, f, at, work.len()) {
+    if lent_slots::begins(d, f, at, work.len()) {
         let made = run(level, d, sheet, left, right, work, f, at as usize);
         return building::finish(made);
     }

@@ -14,7 +14,7 @@ use Rattle.signals.specs.Normal.{Rising}
 use Rattle.signals.specs.Quantified.{Up, Down}
 use Rattle.signals.proofs.Truth.{not-both}
 use Rattle.signals.proofs.Operand.{At, next-later, words-left}
-use Rattle.signals.proofs.Normal.{last-le}
+use Rattle.signals.proofs.Normal.{next-within}
 use Rattle.reading.specs.Reading.{NEVER, nextDate}
 use Rattle.timing.specs.declared.Timer.{Timer}
 use Rattle.timing.proofs.DelayTiming.{momentOf, Timed, timed-ahead}
@@ -35,25 +35,6 @@ module _ (next : ℕ) (s : Timer) where
   pub upcoming-none : s .waiting ≡ false → upcomingDate next s ≡ next
   unfolding upcomingDate
   upcoming-none w = rw w
-
--- the next word's date is at most the last
-last-drop : (x y j : ℕ) (ws : List ℕ) → j < length ws → lastFrom x ws ≡ lastFrom y (drop j ws)
-unfolding lastFrom
-last-drop x y j [] h = absurd (omega arith)
-last-drop x y zero (w ∷ ws) h = refl
-last-drop x y (suc j) (w ∷ ws) h = last-drop (dateOf w) y j ws (omega arith)
-
-pub next-within : (f : Signal) (l : List ℕ) (p k : ℕ) → At f l p k → p < length l → dateOf (getD l p 0) ≤ lastDate l
-unfolding lastDate lastFrom
-next-within f [] p k a h = absurd (omega arith)
-next-within f (x ∷ ws) zero k a h = absurd (omega (arith, a .one))
-next-within f (x ∷ ws) (suc j) k a h =
-    let left : drop j ws ≡ getD (x ∷ ws) (suc j) 0 ∷ drop (suc j + 1) (x ∷ ws) = words-left (x ∷ ws) (suc j) h in
-    let rises : Rising k (getD (x ∷ ws) (suc j) 0 ∷ drop (suc j + 1) (x ∷ ws)) =
-    subst (λ (r : List ℕ). Rising k r) left (a .ahead .rises) in
-    let e : lastFrom 0 ws ≡ lastFrom k (getD (x ∷ ws) (suc j) 0 ∷ drop (suc j + 1) (x ∷ ws)) =
-    last-drop 0 k j ws (omega arith) ∙ ap (lastFrom k) left in
-    omega (arith, e, last-le (dateOf (getD (x ∷ ws) (suc j) 0)) (drop (suc j + 1) (x ∷ ws)) (rises .1))
 
 pub next-in : (l : List ℕ) (p : ℕ) → p < length l → nextDate l p ≡ dateOf (getD l p 0)
 unfolding nextDate

@@ -3,12 +3,12 @@ use Prim.Native.Nat.{ℕ, zero, suc, _+_, _-_, _≤_, _<_, max}
 use mathlib.Core.Bool.{Bool, true, false, cond, Bool·beq, _&&_, false≢true}
 use mathlib.Core.List.{List, [], _∷_}
 use mathlib.Core.Logic.{_↔_}
-use mathlib.Core.Path.{_≡_, refl, sym, _∙_, ap}
+use mathlib.Core.Path.{_≡_, refl, sym, _∙_, ap, subst}
 use native.Mathlib.Omega.{arith}
 use native.Mathlib.Decide.{ℕ-discrete}
 use lib.Dec.{leb, ltb}
 use borrow.Author.Tests.{lt-leb, leb-false, ltb-true, ltb-false}
-use lib.ListN.{length, getD}
+use lib.ListN.{length, getD, drop}
 use Rattle.signals.specs.Moment.{gap, instant}
 use Rattle.signals.specs.Signal.{Signal}
 use Rattle.signals.specs.Words.{word, dateOf, valueAt, valueAfter, headValue, changesNothing, wordsFault, listFault, valueFrom}
@@ -18,7 +18,7 @@ use Rattle.signals.specs.Settled.{SettledFrom, entry}
 use Rattle.signals.specs.Normal.{Normal, Accepted, Rising, DatesRise, AcceptedNormal, Unique, UniqueAccepted, ListOfSignal, ReadBack}
 use Rattle.signals.proofs.WordFacts.{dateOf-word, valueAt-word, valueAfter-word, word-of, num-le, headValue-num, num-headValue}
 use Rattle.signals.proofs.Scan.{scan-to, scan-settled, listOf-more, listOf-ext}
-use Rattle.signals.proofs.Operand.{Ahead, At, at-start, pass-word, words-rise, value-none, value-before, value-at, value-after}
+use Rattle.signals.proofs.Operand.{Ahead, At, at-start, words-left, pass-word, words-rise, value-none, value-before, value-at, value-after}
 use Rattle.signals.proofs.Operand.{value-held}
 
 -- the last date lies at or above the date before
@@ -230,3 +230,22 @@ pub lastDate-bound : (b : ℕ) (l : List ℕ) → ((i : ℕ) → i < length l �
 unfolding lastDate
 lastDate-bound b [] h = omega arith
 lastDate-bound b (w ∷ ws) h = last-bound 0 b ws (omega arith) (λ i l. h (suc i) (omega arith))
+
+-- the next word's date is at most the last
+last-drop : (x y j : ℕ) (ws : List ℕ) → j < length ws → lastFrom x ws ≡ lastFrom y (drop j ws)
+unfolding lastFrom
+last-drop x y j [] h = absurd (omega arith)
+last-drop x y zero (w ∷ ws) h = refl
+last-drop x y (suc j) (w ∷ ws) h = last-drop (dateOf w) y j ws (omega arith)
+
+pub next-within : (f : Signal) (l : List ℕ) (p k : ℕ) → At f l p k → p < length l → dateOf (getD l p 0) ≤ lastDate l
+unfolding lastDate lastFrom
+next-within f [] p k a h = absurd (omega arith)
+next-within f (x ∷ ws) zero k a h = absurd (omega (arith, a .one))
+next-within f (x ∷ ws) (suc j) k a h =
+    let left : drop j ws ≡ getD (x ∷ ws) (suc j) 0 ∷ drop (suc j + 1) (x ∷ ws) = words-left (x ∷ ws) (suc j) h in
+    let rises : Rising k (getD (x ∷ ws) (suc j) 0 ∷ drop (suc j + 1) (x ∷ ws)) =
+    subst (λ (r : List ℕ). Rising k r) left (a .ahead .rises) in
+    let e : lastFrom 0 ws ≡ lastFrom k (getD (x ∷ ws) (suc j) 0 ∷ drop (suc j + 1) (x ∷ ws)) =
+    last-drop 0 k j ws (omega arith) ∙ ap (lastFrom k) left in
+    omega (arith, e, last-le (dateOf (getD (x ∷ ws) (suc j) 0)) (drop (suc j + 1) (x ∷ ws)) (rises .1))

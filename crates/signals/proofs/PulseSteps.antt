@@ -68,7 +68,7 @@ left-is d f (suc k) =
     (λ u. leb-true (ticksLeft d f k) 1 (and-right (rising f (instant (suc k))) (leb (ticksLeft d f k) 1) u)))
 
 -- a moment shows whether its tick has one left
-shown : (d : ℕ) (f : Signal) (t : ℕ) → TP d f t ≡ ltb 0 (ticksLeft d f (tick t))
+pub shown : (d : ℕ) (f : Signal) (t : ℕ) → TP d f t ≡ ltb 0 (ticksLeft d f (tick t))
 unfolding TP
 shown d f t =
     runs-on d (tick t) (ticksLeft d f (tick t)) (starts d f (tick t)) (tick t) (left-is d f (tick t)) (omega arith)

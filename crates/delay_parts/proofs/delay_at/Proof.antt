@@ -1,6 +1,6 @@
 -- `delay_parts::delay_at` meets its contract: it begins where it may, and then the engine builds its answer in the slot.
 use mathlib.Core.Path.{sym, _∙_}
-use Rattle.delay_parts.proofs.DelayBegins.{may-all, at-rest, at-work}
+use Rattle.lent_slots.proofs.MayBuild.{may-all, at-rest, at-work}
 use borrow.Author.Needs.{needs}
 use Rattle.delay_parts.proofs.delay_at.Statement.{statement}
 use Rattle.delay_parts.proofs.delay_at.Tie as tie

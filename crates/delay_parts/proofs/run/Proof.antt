@@ -5,7 +5,9 @@ use mathlib.Core.Path.{_≡_, _∙_}
 use mathlib.Core.List.{_++_}
 use lib.ListN.{length, take, drop}
 use Rattle.signals.specs.Words.{mostWords, valueAfter}
-use Rattle.delay_parts.proofs.DelayRun.{first-length, begun-run}
+use Rattle.lent_slots.proofs.LentRuns.{first-length}
+use Rattle.delaying.specs.Turns.{pastWord}
+use Rattle.delay_parts.proofs.DelayRun.{begun-delay}
 use borrow.Author.Needs.{needs}
 use Rattle.delay_parts.proofs.run.Statement.{statement}
 use Rattle.delay_parts.proofs.run.Tie as tie
@@ -51,8 +53,8 @@ long : (c : tie.After-begin)
 long c =
     let s = start (c .before .before .before .before .before .before .before) in
     let x = s .args in
-    first-length (x .level) (x .d .0) (x .sheet .now) (x .left .now) (x .right .now) (x .work .now) (x .f) (x .at) mostWords (s .pre .0)
-    (s .pre .1) (c .begin .last .0) (c .before .before .on-level2 .result) (c .begin .ensures .1)
+    first-length (pastWord (x .level) (x .d .0)) (x .sheet .now) (x .left .now) (x .right .now) (x .work .now) (x .f) (x .at) mostWords
+    (s .pre .0) (s .pre .1) (c .begin .last .0) (c .before .before .on-level2 .result) (c .begin .ensures .1)
 
 pass-words-requires : tie.Need-pass-words-requires
 pass-words-requires c κs =
@@ -71,7 +73,7 @@ returns c =
     let value = shown .before .before in
     let s = start (value .before .before .before) in
     let x = s .args in
-    begun-run (x .level) (x .d .0) (x .sheet .now) (x .left .now) (x .right .now) (x .work .now) (x .f) (x .at) mostWords (s .pre .0)
+    begun-delay (x .level) (x .d .0) (x .sheet .now) (x .left .now) (x .right .now) (x .work .now) (x .f) (x .at) mostWords (s .pre .0)
     (s .pre .1) (begun .begin .last .0) (shown .on-level2 .result) (begun .begin .ensures .1) _
     (value .before .next-word .ensures) _ (value .on-level .ensures) _ (shown .before .first .ensures)
     (shown .on-level2 .ensures) _ (begun .begin .ensures .0) _ _ (c .before .before .pass-words .ensures)

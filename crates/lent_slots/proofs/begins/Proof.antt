@@ -1,9 +1,9 @@
--- `delay_parts::begins` tests the length, then the slot, then the operand.
+-- `lent_slots::begins` tests the length, then the slot, then the operand.
 use mathlib.Core.Path.{_∙_}
-use Rattle.delay_parts.proofs.DelayBegins.{too-long, no-room, apart-or-not}
+use Rattle.lent_slots.proofs.MayBuild.{too-long, no-room, apart-or-not}
 use borrow.Author.Needs.{needs}
-use Rattle.delay_parts.proofs.begins.Statement.{statement}
-use Rattle.delay_parts.proofs.begins.Tie as tie
+use Rattle.lent_slots.proofs.begins.Statement.{statement}
+use Rattle.lent_slots.proofs.begins.Tie as tie
 
 returns : tie.Need-returns
 returns c = too-long _ _ _ _ (c .if1 .taken)

@@ -1,0 +1,3 @@
+-- Whether an engine begins, and what its loop keeps.
+pub mod MayBuild
+pub mod LentRuns

@@ -1,0 +1,2 @@
+-- Definitions that mirror how a pulse timer is built.
+pub mod Turns
