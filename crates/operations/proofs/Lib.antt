@@ -4,3 +4,4 @@ pub mod CallFaults
 pub mod LateWords
 pub mod NeverMet
 pub mod OperationsGive
+pub mod DelayJudged

@@ -15,7 +15,7 @@ pub struct Timer {
 }
 
 // The date of a sum, past M too.
-fn date_in(sum: Sum) -> Date
+pub fn date_in(sum: Sum) -> Date
     ensures { λ r. ⌜ r .0 ≡ dateIn sum ⌝ }
 {
     match sum {

@@ -4,7 +4,7 @@ use mathlib.Core.Path.{refl, sym, _∙_}
 use lib.ListN.{replicate}
 use Rattle.signals.proofs.Normal.{accepted-normal, accepted-start}
 use Rattle.operations.proofs.JudgedCalls.{refused, passes-on}
-use Rattle.delays.proofs.DelayJudged.{fault-order, list-first, length-next, neither}
+use Rattle.operations.proofs.DelayJudged.{fault-order, list-first, length-next, neither}
 use Rattle.delaying.proofs.FewWords.{short-answer}
 use Rattle.delaying.proofs.DelayedExact.{delay-answers}
 use borrow.Author.Needs.{needs}

@@ -1,2 +1,0 @@
--- The calls of the delays.
-pub mod DelayJudged
