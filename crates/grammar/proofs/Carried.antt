@@ -8,23 +8,20 @@ use lib.ListN.{length, drop}
 use borrow.Author.Tests.{leb-true}
 use Rattle.names.specs.Names.{digit, letter, nameByte}
 use Rattle.grammar.specs.Kinds as kinds
-use Rattle.grammar.specs.Formula.{Kind, plainKinds}
+use Rattle.grammar.specs.Formula.{Kind, plainKinds, isTimer}
 use Rattle.grammar.specs.Reader.{State, Emission, run, next, bad, stepped, expect, put, passLength, valueBetween, prefixKind, starts}
 use Rattle.grammar.specs.Reader.{blockKind, blockBytes, blockAt, leafAt, timed, sumAt, sumsAt, productAt, productsAt, factorAt}
 use Rattle.grammar.specs.Reader.{latchAt, timerAt, readText, start}
 use Rattle.grammar.proofs.Bytes.{never, by-cond}
 use Rattle.grammar.proofs.Standing.{state-eq}
 
--- the kinds that are a part by themselves, and those of timers
+-- the kinds that are a part by themselves
 abbrev pub isIn : List Kind → ℕ → Bool
 isIn [] k = false
 isIn (e ∷ es) k = eqb k (e .number) || isIn es k
 
 abbrev pub isPlain : ℕ → Bool
 isPlain k = isIn plainKinds k
-
-abbrev pub isTimer : ℕ → Bool
-isTimer k = eqb k kinds.TON || eqb k kinds.TOF
 
 pub record Carries {X Y : Type 0} (E : Emission X) (E2 : Emission Y) (f : X → Y) (g : ℕ → ℕ) : Type 0 where
   pub plain : (k : ℕ) → isPlain k ≡ true → f (E .plain k) ≡ E2 .plain k
@@ -142,7 +139,9 @@ module _ {X Y : Type 0} (E : Emission X) (E2 : Emission Y) (f : X → Y) (g : �
       (λ e. record { timer = λ p q. refl; latch = λ p q. never (sym q) })
       (λ e. by-cond BlockKind (starts (84 ∷ 79 ∷ 70 ∷ 40 ∷ []) (drop (s .at) text))
       (λ e. record { timer = λ p q. refl; latch = λ p q. never (sym q) })
-      (λ e. record { timer = λ p q. never p; latch = λ p q. never p })))))
+      (λ e. by-cond BlockKind (starts (84 ∷ 80 ∷ 40 ∷ []) (drop (s .at) text))
+      (λ e. record { timer = λ p q. refl; latch = λ p q. never (sym q) })
+      (λ e. record { timer = λ p q. never p; latch = λ p q. never p }))))))
       (λ e. record { timer = λ p q. never p; latch = λ p q. never p })
 
   factor-more : (n : ℕ) → Same n → (deep : ℕ) (s : State X) →

@@ -7,7 +7,7 @@ use mathlib.Core.List.{List, [], _∷_, _++_, append-assoc}
 use lib.Dec.{ltb, eqb}
 use lib.ListN.{length, drop}
 use borrow.Author.Tests.{eqb-true}
-use Rattle.grammar.specs.Tree.{Tree, Unary, Binary, unary, binary, invert, rise, fall, ton, tof, and, or, sr, rs}
+use Rattle.grammar.specs.Tree.{Tree, Unary, Binary, unary, binary, invert, rise, fall, ton, tof, tp, and, or, sr, rs}
 use Rattle.grammar.specs.Code.{Part, operand, one, two, ticksOf}
 use Rattle.names.specs.Names.{allOf}
 use Rattle.texts.specs.Lengths.{isLength, value}
@@ -248,7 +248,10 @@ module _ (text : List ℕ) where
       (λ e3. by-cond (BlockFinds n deep s) (starts (84 ∷ 79 ∷ 70 ∷ 40 ∷ []) (drop (s .at) text))
       (λ e pos. timer-word (84 ∷ 79 ∷ 70 ∷ 40 ∷ []) kinds.TOF tof (λ n. refl) (λ n. refl) (λ w v t d a b. Factor.tof w a b) refl n ih
       deep s fine e)
-      (λ e4 pos. never pos)))))
+      (λ e4. by-cond (BlockFinds n deep s) (starts (84 ∷ 80 ∷ 40 ∷ []) (drop (s .at) text))
+      (λ e pos. timer-word (84 ∷ 80 ∷ 40 ∷ []) kinds.TP tp (λ n. refl) (λ n. refl) (λ w v t d a b. Factor.tp w a b) refl n ih
+      deep s fine e)
+      (λ e5 pos. never pos))))))
       (λ bad pos. never pos)
 
   factor-step : (n : ℕ) → Sound n → (deep : ℕ) (s : State Part) → Finds text Factor deep s (factorAt (spelled text) text (suc n) deep s)
