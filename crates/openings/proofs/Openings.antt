@@ -71,7 +71,9 @@ blocks text m =
     (λ o. by-cond (Blocks text m) (starts (84 ∷ 79 ∷ 78 ∷ 40 ∷ []) (drop (m .at) text))
     (λ e. of (84 ∷ 79 ∷ 78 ∷ 40 ∷ []) kinds.TON refl (omega arith, omega arith, omega arith, refl) e)
     (λ o. by-cond (Blocks text m) (starts (84 ∷ 79 ∷ 70 ∷ 40 ∷ []) (drop (m .at) text))
-    (λ e. of (84 ∷ 79 ∷ 70 ∷ 40 ∷ []) kinds.TOF refl (omega arith, omega arith, omega arith, refl) e) (λ e. nothing)))))
+    (λ e. of (84 ∷ 79 ∷ 70 ∷ 40 ∷ []) kinds.TOF refl (omega arith, omega arith, omega arith, refl) e)
+    (λ o. by-cond (Blocks text m) (starts (84 ∷ 80 ∷ 40 ∷ []) (drop (m .at) text))
+    (λ e. of (84 ∷ 80 ∷ 40 ∷ []) kinds.TP refl (omega arith, omega arith, omega arith, refl) e) (λ e. nothing))))))
     (λ o. nothing)
   where
     nothing : Blocks text m 0
@@ -89,7 +91,7 @@ blocks text m =
 
 block-some : (kind : ℕ) → 0 < blockBytes kind
 unfolding blockBytes
-block-some kind = by-cond (λ (k : ℕ). 0 < k) (ltb kind kinds.AND) (λ e. omega arith) (λ e. omega arith)
+block-some kind = by-cond (λ (k : ℕ). 0 < k) (ltb kind kinds.TP) (λ e. omega arith) (λ e. omega arith)
 
 pub none-bytes : (kind : ℕ) → kind ≤ 0 → openBytes kind ≡ 0
 unfolding openBytes
