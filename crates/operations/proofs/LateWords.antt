@@ -8,7 +8,7 @@ use mathlib.Core.Bool.{Bool, true, false, cond, Bool·beq, _&&_, false≢true}
 use mathlib.Core.List.{List, [], _∷_}
 use lib.ListN.{length, getD}
 use Rattle.signals.specs.Moment.{M, gap, instant}
-use Rattle.signals.specs.Signal.{Signal, num, TON, TOF}
+use Rattle.signals.specs.Signal.{Signal, num, TON, TOF, TP}
 use Rattle.signals.specs.Words.{word, dateOf, signalOf, lastDate, wordsOf, listOf}
 use Rattle.signals.specs.Settled.{SettledFrom}
 use Rattle.signals.specs.Normal.{Accepted}
@@ -142,4 +142,5 @@ change-is-word =
       signal = late-change;
       ton = λ d a h. late-change (TON d (signalOf a)) (lastDate a + d) (settling .ton d (signalOf a) (lastDate a) (accepted-settled a h));
       tof = λ d a h. late-change (TOF d (signalOf a)) (lastDate a + d) (settling .tof d (signalOf a) (lastDate a) (accepted-settled a h));
+      tp = λ d a h. late-change (TP d (signalOf a)) (lastDate a + d) (settling .tp d (signalOf a) (lastDate a) (accepted-settled a h));
     }

@@ -6,7 +6,7 @@ use mathlib.Core.Path.{_≡_}
 use mathlib.Core.List.{List}
 use lib.ListN.{length, getD}
 use Rattle.signals.specs.Moment.{M}
-use Rattle.signals.specs.Signal.{Signal, NOT, connective, rising, falling, SR, RS, TON, TOF}
+use Rattle.signals.specs.Signal.{Signal, NOT, connective, rising, falling, SR, RS, TON, TOF, TP}
 use Rattle.signals.specs.Words.{dateOf, signalOf, lastDate, listOf}
 use Rattle.signals.specs.Settled.{SettledFrom}
 use Rattle.signals.specs.Answers.{faultIn, writtenOf, outputOf}
@@ -113,4 +113,5 @@ operations-give =
       rs = two-give RS (settling .rs);
       ton = delay-gives TON (settling .ton);
       tof = delay-gives TOF (settling .tof);
+      tp = delay-gives TP (settling .tp);
     }

@@ -5,7 +5,7 @@ use mathlib.Core.Logic.{_⊎_, _↔_}
 use mathlib.Core.Path.{_≡_}
 use lib.ListN.{length, getD}
 use Rattle.signals.specs.Moment.{M, gap, instant}
-use Rattle.signals.specs.Signal.{Signal, NOT, rising, falling, TON, TOF}
+use Rattle.signals.specs.Signal.{Signal, NOT, rising, falling, TON, TOF, TP}
 use Rattle.signals.specs.Words.{dateOf, mostWords, listFault, signalOf, listOf}
 use Rattle.signals.specs.Checks.{Check, FaultCheck, NoFault, Exactly}
 use Rattle.signals.specs.Settled.{SettledFrom}
@@ -53,6 +53,7 @@ pub record ChangeIsWord : Type 0 where
   pub signal : (s : Signal) (n : ℕ) → SettledFrom s n → Breaks6 (listOf s n) ↔ ChangesAfterM s
   pub ton : (d : ℕ) (a : List ℕ) → Accepted a → Breaks6 (exactOfDelay (TON d) d a) ↔ ChangesAfterM (TON d (signalOf a))
   pub tof : (d : ℕ) (a : List ℕ) → Accepted a → Breaks6 (exactOfDelay (TOF d) d a) ↔ ChangesAfterM (TOF d (signalOf a))
+  pub tp : (d : ℕ) (a : List ℕ) → Accepted a → Breaks6 (exactOfDelay (TP d) d a) ↔ ChangesAfterM (TP d (signalOf a))
 
 -- the words of the list are 32-bit words
 abbrev pub Words32 : List ℕ → Type 0

@@ -50,7 +50,7 @@ faultOfOne operation a n = firstOf (listFault a) (answerFault (exactOfOne operat
 unfoldable pub faultOfTwo : (Signal → Signal → Signal) → List ℕ → List ℕ → ℕ → ℕ
 faultOfTwo operation a b n = firstOf (pairFault a b) (answerFault (exactOfTwo operation a b) n)
 
--- TON, TOF: list, 8, 5, 6, 7
+-- TON, TOF, TP: list, 8, 5, 6, 7
 unfoldable pub faultOfDelay : (Signal → Signal) → ℕ → List ℕ → ℕ → ℕ
 faultOfDelay operation d a n =
     firstOf (listFault a) (firstOf (lengthFault d) (answerFault (exactOfDelay operation d a) n))

@@ -3,7 +3,7 @@
 use Prim.Native.Nat.{ℕ}
 use mathlib.Core.List.{List}
 use mathlib.Core.Path.{_≡_}
-use Rattle.signals.specs.Signal.{Signal, Table, NOT, connective, rising, falling, SR, RS, TON, TOF}
+use Rattle.signals.specs.Signal.{Signal, Table, NOT, connective, rising, falling, SR, RS, TON, TOF, TP}
 use Rattle.signals.specs.Words.{signalOf}
 use Rattle.signals.specs.Answers.{faultIn}
 use Rattle.signals.specs.declared.Written.{Written}
@@ -32,3 +32,4 @@ pub record OperationsGive : Type 0 where
   pub rs : TwoGive RS
   pub ton : DelayGives TON
   pub tof : DelayGives TOF
+  pub tp : DelayGives TP

@@ -1,4 +1,4 @@
--- The operations that compute agree with their sentences. For each: `-up` reads the sentence off, `-of` makes the signal up from it.
+-- The operations that compute agree with their sentences; of TP `Pulses` says so. For each: `-up` reads the sentence off, `-of` makes the signal up from it.
 use Prim.Native.Nat.{ℕ, _+_, _*_, _≤_, _<_}
 use native.Mathlib.Omega.{arith}
 use mathlib.Core.Path.{_≡_, refl}
@@ -9,7 +9,7 @@ use borrow.Author.Tests.{leb-true, leb-false, le-leb}
 use Rattle.signals.specs.Moment.{isGap, justBefore, opens, inOpen, inClosed, started, fromTo}
 use Rattle.signals.specs.Signal.{Signal, Table, implied, some, every, NOT, connective, AND, OR, rising, falling, SR, RS, TON, TOF}
 use Rattle.signals.specs.Quantified.{Up, Down, InOpen, InClosed, Before, Started, FromTo, UpNOT, UpConnective, UpAND, UpOR, UpRising}
-use Rattle.signals.specs.Quantified.{UpFalling, UpSR, UpRS, UpTON, UpTOF, Agreement}
+use Rattle.signals.specs.Quantified.{UpFalling, UpSR, UpRS, UpTON, UpTOF}
 use Rattle.signals.proofs.Truth.{not-up, not-of, and-left, and-right, and-of, or-cases, or-left, or-right, implied-use, implied-of}
 use Rattle.signals.proofs.Truth.{some-up, some-of, every-up, every-of}
 
@@ -274,18 +274,3 @@ TOF-of d f t h =
     (h .0)
     (h .1 .0)
     (and-of (fromTo d t (h .0)) (f (h .0)) (fromTo-of d t (h .0) (h .1)) (h .2))
-
-pub agreement : Agreement
-agreement =
-    record {
-      not = λ f t. (NOT-up f t, NOT-of f t);
-      tables = λ table f g t. (connective-up table f g t, connective-of table f g t);
-      and = λ f g t. (AND-up f g t, AND-of f g t);
-      or = λ f g t. (OR-up f g t, OR-of f g t);
-      rises = λ f t. (rising-up f t, rising-of f t);
-      falls = λ f t. (falling-up f t, falling-of f t);
-      sr = λ s r t. (SR-up s r t, SR-of s r t);
-      rs = λ s r t. (RS-up s r t, RS-of s r t);
-      ton = λ d f t. (TON-up d f t, TON-of d f t);
-      tof = λ d f t. (TOF-up d f t, TOF-of d f t);
-    }

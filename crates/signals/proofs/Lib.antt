@@ -1,6 +1,9 @@
 -- Proofs of the statements of specs/, and the lemmas that they and the crates above share.
 pub mod Truth
 pub mod Agreement
+pub mod Pulses
+pub mod Agreed
+pub mod PulseSteps
 pub mod Wording
 pub mod Tables
 pub mod LatchSteps
@@ -13,6 +16,7 @@ pub mod Implication
 pub mod AnyDate
 pub mod AnswersSay
 pub mod Starred
+pub mod PulseCases
 pub mod Settling
 pub mod FirstFault
 pub mod Checks

@@ -6,13 +6,14 @@ use mathlib.Core.Path.{_≡_, refl, sym, _∙_, ap}
 use mathlib.Core.Logic.{inl, inr}
 use mathlib.Core.Bool.{not}
 use borrow.Author.Tests.{eq-eqb}
-use Rattle.signals.specs.Moment.{gap, isGap, justBefore, opens}
-use Rattle.signals.specs.Signal.{Signal, Table, constant, NOT, connective, AND, OR, rising, falling, SR, RS, TON, TOF}
-use Rattle.signals.specs.Quantified.{Down, UpSR}
+use Rattle.signals.specs.Moment.{gap, instant, isGap, justBefore, opens}
+use Rattle.signals.specs.Signal.{Signal, Table, constant, NOT, connective, AND, OR, rising, falling, SR, RS, TON, TOF, TP}
+use Rattle.signals.specs.Quantified.{Down, UpSR, Starts}
 use Rattle.signals.specs.Settled.{SettledFrom}
 use Rattle.signals.specs.Settling.{Settling}
 use Rattle.signals.proofs.Truth.{bool-ext, not-both, down-of}
 use Rattle.signals.proofs.Agreement.{rising-up, falling-up, SR-up, SR-of, OneRS, RS-up1, RS-of1, TON-up, TON-of, TOF-up, TOF-of}
+use Rattle.signals.proofs.Pulses.{starts-say, TP-up}
 
 pub settled-later : (f : Signal) (n m : ℕ) → SettledFrom f n → n ≤ m → SettledFrom f m
 settled-later f n m h le t g = h t (omega arith) ∙ sym (h (gap m) (omega arith))
@@ -66,6 +67,16 @@ TOF-late d f n t h l =
     (f (gap n))
     (λ u. let p = TOF-up d f t u in sym (h (p .0) (omega arith)) ∙ p .2)
     (λ u. TOF-of d f t (t, omega arith, h t (omega arith) ∙ u))
+
+-- a settled signal has no later rise, so its last pulse ends by the date that the length adds
+TP-late : (d : ℕ) (f : Signal) (n t : ℕ) → SettledFrom f n → gap (n + d) ≤ t → Down (TP d f t)
+TP-late d f n t h l = down-of (TP d f t) (λ u. let p = TP-up d f t u in omega (arith, p .3, early (p .0) (p .1) (decLe (p .0) n)))
+  where
+    early : (a : ℕ) → Starts d f a → Dec (a ≤ n) → a ≤ n
+    early a s (yes b) = b
+    early a s (no o) =
+        let r = starts-say d f a .0 s .0 in
+        not-both (r .2) (h (instant a) (omega arith) ∙ sym (h (gap (a - 1)) (omega arith)) ∙ r .1)
 
 -- r is down as long as it was down in gap n
 down-on : (r : Signal) (n m : ℕ) → SettledFrom r n → Down (r (gap n)) → (m ≤ gap n → Down (r m)) → Down (r m)
@@ -156,4 +167,5 @@ settling =
       rs = both RS RS-settles;
       ton = λ d f n h t l. TON-late d f n t h l ∙ sym (TON-late d f n (gap (n + d)) h (omega arith));
       tof = λ d f n h t l. TOF-late d f n t h l ∙ sym (TOF-late d f n (gap (n + d)) h (omega arith));
+      tp = λ d f n h t l. TP-late d f n t h l ∙ sym (TP-late d f n (gap (n + d)) h (omega arith));
     }

@@ -19,7 +19,7 @@ use Rattle.signals.proofs.Normal.{read-list, accepted-normal, accepted-
 use Rattle.signals.proofs.Settling.{settling}
 
 -- a signal that settles at n, whose list up to n is an accepted one
-gives : (s : Signal) (n h : ℕ) (ws : List ℕ) → SettledFrom s n → listOf s n ≡ h ∷ ws → listFault (h ∷ ws) ≡ 0 → Gives s (h ∷ ws)
+pub gives : (s : Signal) (n h : ℕ) (ws : List ℕ) → SettledFrom s n → listOf s n ≡ h ∷ ws → listFault (h ∷ ws) ≡ 0 → Gives s (h ∷ ws)
 unfolding lastDate
 gives s n h ws settled listed accepted = record { accepted = accepted; denotes = denotes; listed = at-every }
   where

@@ -9,11 +9,14 @@ pub mod Quantified
 pub mod Wording
 pub mod Tables
 pub mod LatchSteps
+pub mod Pulses
+pub mod PulseSteps
 pub mod Settled
 pub mod Normal
 pub mod Passing
 pub mod Earliest
 pub mod Starred
+pub mod PulseCases
 pub mod Settling
 pub mod Checks
 pub mod ListFaults

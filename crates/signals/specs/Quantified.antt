@@ -1,11 +1,12 @@
 -- Statement: Document 01, "Operations", with real quantifiers as the document writes them, and the statement that the definitions that
 -- compute agree.
-use Prim.Native.Nat.{ℕ, _+_, _*_, _≤_}
+use Prim.Native.Nat.{ℕ, _+_, _*_, _≤_, _<_}
 use mathlib.Core.Path.{_≡_}
 use mathlib.Core.Logic.{_⊎_, _↔_}
 use mathlib.Core.Bool.{Bool, true, false}
-use Rattle.signals.specs.Moment.{isGap, justBefore, opens}
-use Rattle.signals.specs.Signal.{Signal, Table, cell, NOT, connective, AND, OR, rising, falling, SR, RS, TON, TOF}
+use mathlib.Core.List.{List, [], _∷_}
+use Rattle.signals.specs.Moment.{instant, isGap, justBefore, opens}
+use Rattle.signals.specs.Signal.{Signal, Table, cell, NOT, connective, AND, OR, rising, falling, SR, RS, TON, TOF, starts, TP}
 
 abbrev pub Up : Bool → Type 0
 Up b = b ≡ true
@@ -69,6 +70,19 @@ UpTON d f t = Started d t × ((t1 : ℕ) → FromTo d t t1 → Up (f t1))
 abbrev pub UpTOF : ℕ → Signal → ℕ → Type 0
 UpTOF d f t = (t1 : ℕ) × FromTo d t t1 × Up (f t1)
 
+-- a date is one of these
+abbrev pub Among : ℕ → List ℕ → Type 0
+Among a [] = ⊥
+Among a (b ∷ bs) = (a ≡ b) ⊎ Among a bs
+
+-- instant a starts a pulse: the one predicate of which the sentence in `Pulses` is true
+abbrev pub Starts : ℕ → Signal → ℕ → Type 0
+Starts d f a = Among a (starts d f a)
+
+-- TP(d,f): some a starts a pulse, up from a inclusive to a+d exclusive, and t lies there.
+abbrev pub UpTP : ℕ → Signal → ℕ → Type 0
+UpTP d f t = (a : ℕ) × Starts d f a × (instant a ≤ t) × (t < instant (a + d))
+
 -- The definitions that compute say the same, for all signals, tables, lengths and moments.
 pub record Agreement : Type 0 where
   pub not : (f : Signal) (t : ℕ) → Up (NOT f t) ↔ UpNOT f t
@@ -81,3 +95,4 @@ pub record Agreement : Type 0 where
   pub rs : (s r : Signal) (t : ℕ) → Up (RS s r t) ↔ UpRS s r t
   pub ton : (d : ℕ) (f : Signal) (t : ℕ) → Up (TON d f t) ↔ UpTON d f t
   pub tof : (d : ℕ) (f : Signal) (t : ℕ) → Up (TOF d f t) ↔ UpTOF d f t
+  pub tp : (d : ℕ) (f : Signal) (t : ℕ) → Up (TP d f t) ↔ UpTP d f t

@@ -1,7 +1,7 @@
 -- Statement: The operations of signals that settle settle, and when: so each answer has a last date computed from its operands.
 use Prim.Native.Nat.{ℕ, _+_, max}
 use mathlib.Core.Bool.{Bool}
-use Rattle.signals.specs.Signal.{Signal, Table, constant, NOT, connective, AND, OR, rising, falling, SR, RS, TON, TOF}
+use Rattle.signals.specs.Signal.{Signal, Table, constant, NOT, connective, AND, OR, rising, falling, SR, RS, TON, TOF, TP}
 use Rattle.signals.specs.Settled.{SettledFrom}
 
 pub record Settling : Type 0 where
@@ -16,3 +16,4 @@ pub record Settling : Type 0 where
   pub rs : (s r : Signal) (n m : ℕ) → SettledFrom s n → SettledFrom r m → SettledFrom (RS s r) (max n m)
   pub ton : (d : ℕ) (f : Signal) (n : ℕ) → SettledFrom f n → SettledFrom (TON d f) (n + d)
   pub tof : (d : ℕ) (f : Signal) (n : ℕ) → SettledFrom f n → SettledFrom (TOF d f) (n + d)
+  pub tp : (d : ℕ) (f : Signal) (n : ℕ) → SettledFrom f n → SettledFrom (TP d f) (n + d)
