@@ -9,8 +9,8 @@ use borrow.Author.Tests.{leb-true}
 use Rattle.names.specs.Names.{digit, letter, nameByte}
 use Rattle.grammar.specs.Kinds as kinds
 use Rattle.grammar.specs.Formula.{Kind, plainKinds, isTimer}
-use Rattle.grammar.specs.Reader.{State, Emission, run, next, bad, stepped, expect, put, passLength, valueBetween, prefixKind, starts}
-use Rattle.grammar.specs.Reader.{blockKind, blockBytes, blockAt, leafAt, timed, sumAt, sumsAt, productAt, productsAt, factorAt}
+use Rattle.grammar.specs.Reader.{State, Emission, run, next, bad, stepped, expect, put, passLength, valueBetween, prefixKind}
+use Rattle.grammar.specs.Reader.{blockBytes, blockAt, leafAt, timed, sumAt, sumsAt, productAt, productsAt, factorAt}
 use Rattle.grammar.specs.Reader.{latchAt, timerAt, readText, start}
 use Rattle.grammar.proofs.Bytes.{never, by-cond, by-block}
 use Rattle.grammar.proofs.Standing.{state-eq}

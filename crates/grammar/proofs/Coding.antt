@@ -1,12 +1,12 @@
 -- Code words stand for the parts: the reader that puts out words and the one that puts out parts go the same way.
-use Prim.Native.Nat.{ℕ, _+_, _*_, _/_, _%_, _≤_, _<_, min}
+use Prim.Native.Nat.{ℕ, _+_, _*_, _/_, _%_, _≤_, _<_}
 use native.Mathlib.Nat.{mod-eq-of-lt}
 use native.Mathlib.Omega.{arith}
 use native.Mathlib.Decide.{decLt}
 use mathlib.Core.Path.{_≡_, refl, sym, ap, _∙_}
-use mathlib.Core.Bool.{Bool, true, false, cond, _&&_, _||_}
+use mathlib.Core.Bool.{Bool, true, false, _&&_, _||_}
 use mathlib.Core.List.{List, [], _∷_, _++_, map, map-append}
-use mathlib.Core.Logic.{_⊎_, inl, inr, ⊎-elim}
+use mathlib.Core.Logic.{inl}
 use lib.Dec.{ltb, eqb}
 use lib.ListN.{length, length-map}
 use borrow.Author.Tests.{eqb-true, ne-eqb, ltb-true}
@@ -16,8 +16,8 @@ use Rattle.grammar.specs.Code.{Part, operand, one, two, code, longest, t
 use Rattle.grammar.specs.Kinds as kinds
 use Rattle.grammar.specs.Reader.{State, Emission, readText}
 use Rattle.texts.specs.Lengths.{capped}
-use Rattle.grammar.specs.Formula.{Kind, plainKinds, partIn, plainPart, isTimer, timedPart, nameAt, nameWord, timerWord, spelled, coded}
-use Rattle.grammar.specs.Formula.{partOf, accepted, formulaTree, partsOf, codeOf}
+use Rattle.grammar.specs.Formula.{Kind, plainKinds, partIn, plainPart, isTimer, timedPart, nameAt, nameWord, timerWord}
+use Rattle.grammar.specs.Formula.{spelled, coded, partOf, accepted, formulaTree, partsOf, codeOf}
 use Rattle.grammar.specs.Exactness.{CodeExact, AcceptedCode, Breaks11, Breaks12}
 use Rattle.grammar.specs.Grammar.{Sum}
 use Rattle.signals.proofs.Truth.{and-left, and-right}

@@ -8,7 +8,8 @@ use lib.Dec.{leb, ltb, eqb, eqb·suc-zero}
 use lib.ListN.{length, getD, length-append}
 use lib.Seq.{take-append-seam}
 use borrow.Author.Tests.{leb-true, le-leb, eq-eqb}
-use Rattle.grammar.specs.Tree.{Tree, Unary, Binary, leaf, unary, binary, invert, rise, fall, ton, tof, tp, and, or, sr, rs, name, down}
+use Rattle.grammar.specs.Tree.{Tree, Unary, Binary, leaf, unary, binary, name, down}
+use Rattle.grammar.specs.Tree.{invert, rise, fall, ton, tof, tp, and, or, sr, rs}
 use Rattle.grammar.specs.Tree.{up}
 use Rattle.grammar.specs.Code.{Part, code, longest, one, two, ticksOf}
 use Rattle.names.specs.Names.{digit, allOf, letter, nameByte, wellNamed}

@@ -13,7 +13,7 @@ use Rattle.names.specs.Names.{allOf}
 use Rattle.texts.specs.Lengths.{isLength, value}
 use Rattle.grammar.specs.Grammar.{Sum, Product, Factor}
 use Rattle.grammar.specs.Kinds as kinds
-use Rattle.grammar.specs.Reader.{State, next, bad, stepped, expect, put, passLength, valueBetween, prefixKind, starts, blockKind}
+use Rattle.grammar.specs.Reader.{State, next, bad, stepped, expect, put, passLength, valueBetween, prefixKind, starts}
 use Rattle.grammar.specs.Reader.{blockBytes, blockAt, timed, sumAt, sumsAt, productAt, productsAt, factorAt, latchAt, timerAt}
 use Rattle.grammar.specs.Formula.{plainPart, timedPart, spelled}
 use Rattle.grammar.proofs.Bytes.{never, by-cond, by-block}

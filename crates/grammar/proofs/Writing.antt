@@ -87,10 +87,11 @@ timer-written : (word : List ℕ) (o : ℕ → Unary) →
     (n : ℕ) (t : Tree) → (w : List ℕ) × (d : ℕ) × Factor w t d → (w : List ℕ) × (d : ℕ) × Factor w (unary (o n) t) d
 timer-written word o make n t r =
     let l = length-written n in
+    let s = Sum.product (Product.factor (r .2)) in
     let w = word ++ (l .0 ++ (44 ∷ (r .0 ++ (41 ∷ [])))) in (
       w,
       r .1 + 1,
-      subst (λ (k : ℕ). Factor w (unary (o k) t) (r .1 + 1)) (l .2) (make (l .0) (r .0) t (r .1) (l .1) (Sum.product (Product.factor (r .2)))),
+      subst (λ (k : ℕ). Factor w (unary (o k) t) (r .1 + 1)) (l .2) (make (l .0) (r .0) t (r .1) (l .1) s),
     )
 
 factor-written : (t : Tree) → Writable t → (w : List ℕ) × (d : ℕ) × Factor w t d
