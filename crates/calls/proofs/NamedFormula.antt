@@ -52,6 +52,7 @@ NoLeaf (binary o t u) = Unit
 no-leaf : {n : ℕ} {t : Tree} → LengthIn n t → NoLeaf t
 no-leaf LengthIn.of-ton = tt
 no-leaf LengthIn.of-tof = tt
+no-leaf LengthIn.of-tp = tt
 no-leaf (LengthIn.under h) = tt
 no-leaf (LengthIn.first h) = tt
 no-leaf (LengthIn.second h) = tt

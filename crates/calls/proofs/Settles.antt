@@ -9,7 +9,7 @@ use Rattle.signals.specs.Words.{signalOf, lastDate}
 use Rattle.signals.specs.Settled.{SettledFrom}
 use Rattle.signals.proofs.Settling.{settling, settled-later}
 use Rattle.signals.proofs.Normal.{accepted-settled, unique, list-of-signal}
-use Rattle.grammar.specs.Tree.{Tree, leaf, unary, binary, down, up, name, invert, rise, fall, ton, tof, and, or, sr, rs}
+use Rattle.grammar.specs.Tree.{Tree, leaf, unary, binary, down, up, name, invert, rise, fall, ton, tof, tp, and, or, sr, rs}
 use Rattle.format.specs.Names.{same}
 use Rattle.format.specs.Reading.{sheetFault, Entry, nameOf, listOn, signalsOn, listNamed, environmentOn}
 use Rattle.calls.specs.OnSheet.{signalOn, settlingDate, exactOn}
@@ -42,6 +42,7 @@ settles sheet ok (unary rise t) = settled-later _ _ _ (settling .rises _ _ (sett
 settles sheet ok (unary fall t) = settled-later _ _ _ (settling .falls _ _ (settles sheet ok t)) (omega arith)
 settles sheet ok (unary (ton d) t) = settled-later _ _ _ (settling .ton d _ _ (settles sheet ok t)) (omega arith)
 settles sheet ok (unary (tof d) t) = settled-later _ _ _ (settling .tof d _ _ (settles sheet ok t)) (omega arith)
+settles sheet ok (unary (tp d) t) = settled-later _ _ _ (settling .tp d _ _ (settles sheet ok t)) (omega arith)
 settles sheet ok (binary and t u) = settled-later _ _ _ (settling .and _ _ _ _ (settles sheet ok t) (settles sheet ok u)) (omega arith)
 settles sheet ok (binary or t u) = settled-later _ _ _ (settling .or _ _ _ _ (settles sheet ok t) (settles sheet ok u)) (omega arith)
 settles sheet ok (binary sr t u) = settled-later _ _ _ (settling .sr _ _ _ _ (settles sheet ok t) (settles sheet ok u)) (omega arith)

@@ -182,7 +182,7 @@ module _ {text old : List ℕ} {m : Mark} (deep : ℕ) (g : Ready text old m (de
       unfolding latchAt
       latch-path kind q w = finishing (turned q w (putting kind deep 0 g closed (closing both q3))) (λ n out. refl)
 
-  -- length,sum) after TON( or TOF(
+  -- length,sum) after TON(, TOF( or TP(
   module _ {p : Mark} (qp : p ≡ lengthMark text m) {y2 : Mark} (q2 : y2 ≡ expectMark text 44 p) where
     pub measured : Done (λ n s. passLength text s) 4 text m old old p
     measured = turned refl qp (passing (starting 4 g))

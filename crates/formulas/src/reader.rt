@@ -111,7 +111,7 @@ fn latch(
     put(code, m, part, deep, 0);
 }
 
-// length,sum) after TON( or TOF(
+// length,sum) after TON(, TOF( or TP(
 fn timer(
     text: &[u8; 1024],
     bytes: usize,

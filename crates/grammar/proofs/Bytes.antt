@@ -9,6 +9,7 @@ use lib.ListN.{length, getD}
 use borrow.Author.Tests.{ne-eqb, leb-true}
 use Rattle.signals.proofs.Truth.{true-false, and-left, and-right}
 use Rattle.names.specs.Names.{allOf, letter}
+use Rattle.grammar.specs.Kinds as kinds
 use Rattle.grammar.specs.Reader.{run, prefixKind, starts, blockKind}
 
 pub never : {A : Type 0} → _≡_ {A = Bool} false true → A
@@ -18,6 +19,18 @@ never e = true-false (sym e)
 pub by-cond : {A : Type 0} (P : A → Type 0) (b : Bool) {x y : A} → (b ≡ true → P x) → (b ≡ false → P y) → P (cond b x y)
 by-cond P true f g = f refl
 by-cond P false f g = g refl
+
+-- of the block that bytes begin, by its word
+pub by-block : (P : ℕ → Type 0) (l : List ℕ) → (starts (83 ∷ 82 ∷ 40 ∷ []) l ≡ true → P kinds.SR) →
+    (starts (82 ∷ 83 ∷ 40 ∷ []) l ≡ true → P kinds.RS) → (starts (84 ∷ 79 ∷ 78 ∷ 40 ∷ []) l ≡ true → P kinds.TON) →
+    (starts (84 ∷ 79 ∷ 70 ∷ 40 ∷ []) l ≡ true → P kinds.TOF) → (starts (84 ∷ 80 ∷ 40 ∷ []) l ≡ true → P kinds.TP) → P 0 →
+    P (blockKind l)
+unfolding blockKind
+by-block P l sr rs ton tof tp none =
+    by-cond P (starts (83 ∷ 82 ∷ 40 ∷ []) l) sr
+    (λ e. by-cond P (starts (82 ∷ 83 ∷ 40 ∷ []) l) rs
+    (λ e. by-cond P (starts (84 ∷ 79 ∷ 78 ∷ 40 ∷ []) l) ton
+    (λ e. by-cond P (starts (84 ∷ 79 ∷ 70 ∷ 40 ∷ []) l) tof (λ e. by-cond P (starts (84 ∷ 80 ∷ 40 ∷ []) l) tp (λ e. none)))))
 
 pub run-all : (p : ℕ → Bool) (w l : List ℕ) → allOf p w ≡ true → p (getD l 0 0) ≡ false → run p (w ++ l) ≡ length w
 unfolding run allOf

@@ -8,23 +8,20 @@ use lib.ListN.{length, drop}
 use borrow.Author.Tests.{leb-true}
 use Rattle.names.specs.Names.{digit, letter, nameByte}
 use Rattle.grammar.specs.Kinds as kinds
-use Rattle.grammar.specs.Formula.{Kind, plainKinds}
-use Rattle.grammar.specs.Reader.{State, Emission, run, next, bad, stepped, expect, put, passLength, valueBetween, prefixKind, starts}
-use Rattle.grammar.specs.Reader.{blockKind, blockBytes, blockAt, leafAt, timed, sumAt, sumsAt, productAt, productsAt, factorAt}
+use Rattle.grammar.specs.Formula.{Kind, plainKinds, isTimer}
+use Rattle.grammar.specs.Reader.{State, Emission, run, next, bad, stepped, expect, put, passLength, valueBetween, prefixKind}
+use Rattle.grammar.specs.Reader.{blockBytes, blockAt, leafAt, timed, sumAt, sumsAt, productAt, productsAt, factorAt}
 use Rattle.grammar.specs.Reader.{latchAt, timerAt, readText, start}
-use Rattle.grammar.proofs.Bytes.{never, by-cond}
+use Rattle.grammar.proofs.Bytes.{never, by-cond, by-block}
 use Rattle.grammar.proofs.Standing.{state-eq}
 
--- the kinds that are a part by themselves, and those of timers
+-- the kinds that are a part by themselves
 abbrev pub isIn : List Kind → ℕ → Bool
 isIn [] k = false
 isIn (e ∷ es) k = eqb k (e .number) || isIn es k
 
 abbrev pub isPlain : ℕ → Bool
 isPlain k = isIn plainKinds k
-
-abbrev pub isTimer : ℕ → Bool
-isTimer k = eqb k kinds.TON || eqb k kinds.TOF
 
 pub record Carries {X Y : Type 0} (E : Emission X) (E2 : Emission Y) (f : X → Y) (g : ℕ → ℕ) : Type 0 where
   pub plain : (k : ℕ) → isPlain k ≡ true → f (E .plain k) ≡ E2 .plain k
@@ -133,17 +130,19 @@ module _ {X Y : Type 0} (E : Emission X) (E2 : Emission Y) (f : X → Y) (g : �
     latch : ltb 0 kind ≡ true → ltb kind kinds.AND ≡ false → isPlain kind ≡ true
 
   block-kind : (s : State X) → BlockKind (blockAt text s)
-  unfolding blockAt blockKind
+  unfolding blockAt
   block-kind s =
       by-cond BlockKind (s .ok)
-      (λ e. by-cond BlockKind (starts (83 ∷ 82 ∷ 40 ∷ []) (drop (s .at) text)) (λ e. record { timer = λ p q. never q; latch = λ p q. refl })
-      (λ e. by-cond BlockKind (starts (82 ∷ 83 ∷ 40 ∷ []) (drop (s .at) text)) (λ e. record { timer = λ p q. never q; latch = λ p q. refl })
-      (λ e. by-cond BlockKind (starts (84 ∷ 79 ∷ 78 ∷ 40 ∷ []) (drop (s .at) text))
+      (λ e. by-block BlockKind (drop (s .at) text)
+      (λ e. record { timer = λ p q. never q; latch = λ p q. refl })
+      (λ e. record { timer = λ p q. never q; latch = λ p q. refl })
       (λ e. record { timer = λ p q. refl; latch = λ p q. never (sym q) })
-      (λ e. by-cond BlockKind (starts (84 ∷ 79 ∷ 70 ∷ 40 ∷ []) (drop (s .at) text))
       (λ e. record { timer = λ p q. refl; latch = λ p q. never (sym q) })
-      (λ e. record { timer = λ p q. never p; latch = λ p q. never p })))))
-      (λ e. record { timer = λ p q. never p; latch = λ p q. never p })
+      (λ e. record { timer = λ p q. refl; latch = λ p q. never (sym q) }) nothing)
+      (λ e. nothing)
+    where
+      nothing : BlockKind 0
+      nothing = record { timer = λ p q. never p; latch = λ p q. never p }
 
   factor-more : (n : ℕ) → Same n → (deep : ℕ) (s : State X) →
       carried (factorAt E text (suc n) deep s) ≡ factorAt E2 text (suc n) deep (carried s)

@@ -1,28 +1,28 @@
 -- Code words stand for the parts: the reader that puts out words and the one that puts out parts go the same way.
-use Prim.Native.Nat.{ℕ, _+_, _*_, _/_, _%_, _≤_, _<_, min}
+use Prim.Native.Nat.{ℕ, _+_, _*_, _/_, _%_, _≤_, _<_}
 use native.Mathlib.Nat.{mod-eq-of-lt}
 use native.Mathlib.Omega.{arith}
 use native.Mathlib.Decide.{decLt}
 use mathlib.Core.Path.{_≡_, refl, sym, ap, _∙_}
-use mathlib.Core.Bool.{Bool, true, false, cond, _&&_, _||_}
+use mathlib.Core.Bool.{Bool, true, false, _&&_, _||_}
 use mathlib.Core.List.{List, [], _∷_, _++_, map, map-append}
-use mathlib.Core.Logic.{_⊎_, inl, inr, ⊎-elim}
+use mathlib.Core.Logic.{inl}
 use lib.Dec.{ltb, eqb}
 use lib.ListN.{length, length-map}
 use borrow.Author.Tests.{eqb-true, ne-eqb, ltb-true}
 use Rattle.signals.specs.Moment.{M}
-use Rattle.grammar.specs.Tree.{Tree, Unary, leaf, unary, binary, down, up, name, invert, rise, fall, ton, tof, and, or, sr, rs}
+use Rattle.grammar.specs.Tree.{Tree, Unary, leaf, unary, binary, down, up, name, invert, rise, fall, ton, tof, tp, and, or, sr, rs}
 use Rattle.grammar.specs.Code.{Part, operand, one, two, code, longest, ticksOf}
 use Rattle.grammar.specs.Kinds as kinds
 use Rattle.grammar.specs.Reader.{State, Emission, readText}
 use Rattle.texts.specs.Lengths.{capped}
-use Rattle.grammar.specs.Formula.{Kind, plainKinds, partIn, plainPart, timedPart, nameAt, nameWord, timerWord, spelled, coded}
-use Rattle.grammar.specs.Formula.{partOf, accepted, formulaTree, partsOf, codeOf}
+use Rattle.grammar.specs.Formula.{Kind, plainKinds, partIn, plainPart, isTimer, timedPart, nameAt, nameWord, timerWord}
+use Rattle.grammar.specs.Formula.{spelled, coded, partOf, accepted, formulaTree, partsOf, codeOf}
 use Rattle.grammar.specs.Exactness.{CodeExact, AcceptedCode, Breaks11, Breaks12}
 use Rattle.grammar.specs.Grammar.{Sum}
 use Rattle.signals.proofs.Truth.{and-left, and-right}
 use Rattle.grammar.proofs.Bytes.{never}
-use Rattle.grammar.proofs.Carried.{isIn, isPlain, isTimer, Carries, both-ways, text-carried}
+use Rattle.grammar.proofs.Carried.{isIn, isPlain, Carries, both-ways, text-carried}
 use Rattle.grammar.proofs.Faults.{fine-of}
 use Rattle.grammar.proofs.Reading.{parts-exact, longest-in, derived-of, tree-of, accepted-of}
 
@@ -41,6 +41,7 @@ cutUnary rise = rise
 cutUnary fall = fall
 cutUnary (ton n) = ton (capped n)
 cutUnary (tof n) = tof (capped n)
+cutUnary (tp n) = tp (capped n)
 
 abbrev pub cutPart : Part → Part
 cutPart (operand l) = operand l
@@ -74,12 +75,13 @@ part-cut (e ∷ es) k = both-ways cutPart (eqb k (e .number)) (λ z. refl) (λ z
 plain-not : (k j : ℕ) → isPlain j ≡ false → isPlain k ≡ true → eqb k j ≡ false
 plain-not k j f e = ne-eqb k j (λ q. never (sym f ∙ ap isPlain (sym q) ∙ e))
 
-timer-kind : (k : ℕ) → isTimer k ≡ true → (k ≡ kinds.TON) ⊎ (k ≡ kinds.TOF)
-timer-kind k e = go (eqb k kinds.TON) refl
+timer-kind : (k : ℕ) → isTimer k ≡ true → (kinds.NAME < k) × (k < 16)
+timer-kind k e = go (eqb k kinds.TON) (eqb k kinds.TOF) refl refl e
   where
-    go : (z : Bool) → eqb k kinds.TON ≡ z → (k ≡ kinds.TON) ⊎ (k ≡ kinds.TOF)
-    go true z = inl (eqb-true k kinds.TON z)
-    go false z = inr (eqb-true k kinds.TOF (rw z at e))
+    go : (a b : Bool) → eqb k kinds.TON ≡ a → eqb k kinds.TOF ≡ b → a || b || eqb k kinds.TP ≡ true → (kinds.NAME < k) × (k < 16)
+    go true b p q e = let r = eqb-true k kinds.TON p in (omega arith, omega arith)
+    go false true p q e = let r = eqb-true k kinds.TOF q in (omega arith, omega arith)
+    go false false p q e = let r = eqb-true k kinds.TP e in (omega arith, omega arith)
 
 words-carry : (text : List ℕ) → Carries coded (cut text) (partOf text) (λ n. n)
 unfolding partOf nameWord timerWord timedPart
@@ -88,7 +90,8 @@ words-carry text =
       plain = λ k e.
           let h = in-below plainKinds k refl e in
           let m : k % 16 ≡ k = mod-eq-of-lt (omega arith) in
-          rw (m, plain-not k kinds.NAME refl e, plain-not k kinds.TON refl e, plain-not k kinds.TOF refl e) refl;
+          let not : (j : ℕ) → isPlain j ≡ false → eqb k j ≡ false = λ j f. plain-not k j f e in
+          rw (m, not kinds.NAME refl, not kinds.TON refl, not kinds.TOF refl, not kinds.TP refl) refl;
       named = λ p k h.
           let m : ((p * 16 + k) * 16 + kinds.NAME) % 16 ≡ kinds.NAME = omega arith in
           let i : ((p * 16 + k) * 16 + kinds.NAME) / 256 ≡ p = omega arith in
@@ -96,10 +99,11 @@ words-carry text =
           let j : (p * 16 + k) % 16 ≡ k = omega arith in
           rw (m, i, q, j) refl;
       timed = λ k n e.
-          let h : k < 16 = ⊎-elim (λ q. omega arith) (λ q. omega arith) (timer-kind k e) in
+          let h = timer-kind k e in
+          let h2 : k < 16 = h .1 in
           let m : (capped n * 16 + k) % 16 ≡ k = omega arith in
           let i : (capped n * 16 + k) / 16 ≡ capped n = omega arith in
-          let z : eqb k kinds.NAME ≡ false = ne-eqb k kinds.NAME (λ q. ⊎-elim (λ r. omega arith) (λ r. omega arith) (timer-kind k e)) in
+          let z : eqb k kinds.NAME ≡ false = ne-eqb k kinds.NAME (λ q. omega (arith, h .0)) in
           rw (m, i, z, e) refl;
       ticks = λ n. refl;
       none = refl;
@@ -112,16 +116,12 @@ parts-carry text =
     record {
       plain = λ k e. part-cut plainKinds k;
       named = λ p k h. refl;
-      timed = λ k n e. by-kind (eqb k kinds.TON) n;
+      timed = λ k n e.
+          both-ways cutPart (eqb k kinds.TON) (λ z. refl) (λ z. both-ways cutPart (eqb k kinds.TOF) (λ z. refl) (λ z. refl));
       ticks = λ n. refl;
       none = refl;
       larger = λ a b. omega arith;
     }
-  where
-    by-kind : (z : Bool) (n : ℕ) →
-        cutPart (cond z (one (ton n)) (one (tof n))) ≡ cond z (one (ton (min n (M + 1)))) (one (tof (min n (M + 1))))
-    by-kind true n = refl
-    by-kind false n = refl
 
 -- the run that puts out words, against the one that puts out parts
 pub record CodedRun (text : List ℕ) : Type 0 where
@@ -153,6 +153,7 @@ unary-small rise h = refl
 unary-small fall h = refl
 unary-small (ton n) h = ap ton (capped-small n h)
 unary-small (tof n) h = ap tof (capped-small n h)
+unary-small (tp n) h = ap tp (capped-small n h)
 
 pub code-small : (t : Tree) → longest t ≤ M → map cutPart (code t) ≡ code t
 unfolding code longest

@@ -8,7 +8,8 @@ use lib.Dec.{leb, ltb, eqb, eqb·suc-zero}
 use lib.ListN.{length, getD, length-append}
 use lib.Seq.{take-append-seam}
 use borrow.Author.Tests.{leb-true, le-leb, eq-eqb}
-use Rattle.grammar.specs.Tree.{Tree, Unary, Binary, leaf, unary, binary, invert, rise, fall, ton, tof, and, or, sr, rs, name, down}
+use Rattle.grammar.specs.Tree.{Tree, Unary, Binary, leaf, unary, binary, name, down}
+use Rattle.grammar.specs.Tree.{invert, rise, fall, ton, tof, tp, and, or, sr, rs}
 use Rattle.grammar.specs.Tree.{up}
 use Rattle.grammar.specs.Code.{Part, code, longest, one, two, ticksOf}
 use Rattle.names.specs.Names.{digit, allOf, letter, nameByte, wellNamed}
@@ -344,6 +345,10 @@ module _ (text : List ℕ) where
   unfolding prefixKind starts blockKind blockBytes
   tof-word = record { some = omega arith; long = omega arith; bytes = refl; begins = λ l. (refl, refl, refl) }
 
+  tp-word : Word (84 ∷ 80 ∷ 40 ∷ []) kinds.TP
+  unfolding prefixKind starts blockKind blockBytes
+  tp-word = record { some = omega arith; long = omega arith; bytes = refl; begins = λ l. (refl, refl, refl) }
+
   -- by the rules of the grammar
   pub sum-reads : {w : List ℕ} {t : Tree} {d : ℕ} → Sum w t d → ReadsSum w t d
   unfolding prefixKind timedPart
@@ -368,4 +373,6 @@ module _ (text : List ℕ) where
             h) ↦ timer-word (84 ∷ 79 ∷ 78 ∷ 40 ∷ []) kinds.TON ton ton-word (omega arith) (λ k. refl) (λ k. refl) w v t d e (whole v t d h)
         | Factor.tof w {v} {t} {d} e (p →
             h) ↦ timer-word (84 ∷ 79 ∷ 70 ∷ 40 ∷ []) kinds.TOF tof tof-word (omega arith) (λ k. refl) (λ k. refl) w v t d e (whole v t d h)
+        | Factor.tp w {v} {t} {d} e (p →
+            h) ↦ timer-word (84 ∷ 80 ∷ 40 ∷ []) kinds.TP tp tp-word (omega arith) (λ k. refl) (λ k. refl) w v t d e (whole v t d h)
       ]

@@ -9,12 +9,12 @@ use lib.Dec.{ltb, eqb}
 use lib.ListN.{length, length-append}
 use borrow.Author.Tests.{eq-eqb, eqb-true, eqb-false, ltb-true, ltb-false, not-true, not-false}
 use Rattle.signals.specs.Moment.{M}
-use Rattle.grammar.specs.Tree.{Tree, Unary, leaf, unary, binary, ton, tof, invert, rise, fall}
+use Rattle.grammar.specs.Tree.{Tree, Unary, leaf, unary, binary, ton, tof, tp, invert, rise, fall}
 use Rattle.grammar.specs.Code.{Part, longest, treeOf, ticksOf}
 use Rattle.grammar.specs.Grammar.{Sum}
 use Rattle.grammar.specs.Reader.{State, start, readText, sumAt}
 use Rattle.grammar.specs.Formula.{spelled, accepted, formulaTree, depthOf, partsOf, longestOf, formulaFault}
-use Rattle.grammar.specs.Exactness.{ReaderExact, OneTree, PartsExact, LengthIn, of-ton, of-tof, under, first, second}
+use Rattle.grammar.specs.Exactness.{ReaderExact, OneTree, PartsExact, LengthIn, of-ton, of-tof, of-tp, under, first, second}
 use Rattle.signals.proofs.Truth.{and-left, and-right}
 use Rattle.grammar.proofs.Bytes.{never}
 use Rattle.grammar.proofs.Standing.{after}
@@ -89,6 +89,7 @@ longest-in m (unary o t) h = go o (ltb m (longest t)) refl (longest-in m t) h
     go o true z ih h = let r = ih (ltb-true m (longest t) z) in (r .0, under (r .1), r .2)
     go (ton n) false z ih h = let k = ltb-false m (longest t) z in (n, of-ton, omega arith)
     go (tof n) false z ih h = let k = ltb-false m (longest t) z in (n, of-tof, omega arith)
+    go (tp n) false z ih h = let k = ltb-false m (longest t) z in (n, of-tp, omega arith)
     go invert false z ih h = let k = ltb-false m (longest t) z in absurd (omega arith)
     go rise false z ih h = let k = ltb-false m (longest t) z in absurd (omega arith)
     go fall false z ih h = let k = ltb-false m (longest t) z in absurd (omega arith)
@@ -103,6 +104,7 @@ pub in-longest : (n : ℕ) (t : Tree) → LengthIn n t → n ≤ longest t
 unfolding longest
 in-longest n t of-ton = omega arith
 in-longest n t of-tof = omega arith
+in-longest n t of-tp = omega arith
 in-longest n t (under l) = let h = in-longest n _ l in omega arith
 in-longest n t (first l) = let h = in-longest n _ l in omega arith
 in-longest n t (second l) = let h = in-longest n _ l in omega arith

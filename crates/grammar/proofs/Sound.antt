@@ -7,16 +7,16 @@ use mathlib.Core.List.{List, [], _∷_, _++_, append-assoc}
 use lib.Dec.{ltb, eqb}
 use lib.ListN.{length, drop}
 use borrow.Author.Tests.{eqb-true}
-use Rattle.grammar.specs.Tree.{Tree, Unary, Binary, unary, binary, invert, rise, fall, ton, tof, and, or, sr, rs}
+use Rattle.grammar.specs.Tree.{Tree, Unary, Binary, unary, binary, invert, rise, fall, ton, tof, tp, and, or, sr, rs}
 use Rattle.grammar.specs.Code.{Part, operand, one, two, ticksOf}
 use Rattle.names.specs.Names.{allOf}
 use Rattle.texts.specs.Lengths.{isLength, value}
 use Rattle.grammar.specs.Grammar.{Sum, Product, Factor}
 use Rattle.grammar.specs.Kinds as kinds
-use Rattle.grammar.specs.Reader.{State, next, bad, stepped, expect, put, passLength, valueBetween, prefixKind, starts, blockKind}
+use Rattle.grammar.specs.Reader.{State, next, bad, stepped, expect, put, passLength, valueBetween, prefixKind, starts}
 use Rattle.grammar.specs.Reader.{blockBytes, blockAt, timed, sumAt, sumsAt, productAt, productsAt, factorAt, latchAt, timerAt}
 use Rattle.grammar.specs.Formula.{plainPart, timedPart, spelled}
-use Rattle.grammar.proofs.Bytes.{never, by-cond}
+use Rattle.grammar.proofs.Bytes.{never, by-cond, by-block}
 use Rattle.grammar.proofs.Standing.{At, step-at, word-at, expect-at, after, after-at}
 use Rattle.grammar.proofs.Steps.{joined, prefixed, bracketed, worded}
 use Rattle.grammar.proofs.Branches.{Chain, plus, times}
@@ -235,20 +235,19 @@ module _ (text : List ℕ) where
   BlockFinds n deep s kind = ltb 0 kind ≡ true → Finds text Factor deep s (block n deep s kind)
 
   block-step : (n : ℕ) → Sound n → (deep : ℕ) (s : State Part) → BlockFinds n deep s (blockAt text s)
-  unfolding blockAt blockKind blockBytes timedPart allOf
+  unfolding blockAt blockBytes timedPart allOf
   block-step n ih deep s =
       by-cond (BlockFinds n deep s) (s .ok)
-      (λ fine. by-cond (BlockFinds n deep s) (starts (83 ∷ 82 ∷ 40 ∷ []) (drop (s .at) text))
+      (λ fine. by-block (BlockFinds n deep s) (drop (s .at) text)
       (λ e pos. latch-word (83 ∷ 82 ∷ 40 ∷ []) kinds.SR sr refl (λ w v t u d e a b. Factor.sr a b) refl n ih deep s fine e)
-      (λ e1. by-cond (BlockFinds n deep s) (starts (82 ∷ 83 ∷ 40 ∷ []) (drop (s .at) text))
       (λ e pos. latch-word (82 ∷ 83 ∷ 40 ∷ []) kinds.RS rs refl (λ w v t u d e a b. Factor.rs a b) refl n ih deep s fine e)
-      (λ e2. by-cond (BlockFinds n deep s) (starts (84 ∷ 79 ∷ 78 ∷ 40 ∷ []) (drop (s .at) text))
       (λ e pos. timer-word (84 ∷ 79 ∷ 78 ∷ 40 ∷ []) kinds.TON ton (λ n. refl) (λ n. refl) (λ w v t d a b. Factor.ton w a b) refl n ih
       deep s fine e)
-      (λ e3. by-cond (BlockFinds n deep s) (starts (84 ∷ 79 ∷ 70 ∷ 40 ∷ []) (drop (s .at) text))
       (λ e pos. timer-word (84 ∷ 79 ∷ 70 ∷ 40 ∷ []) kinds.TOF tof (λ n. refl) (λ n. refl) (λ w v t d a b. Factor.tof w a b) refl n ih
       deep s fine e)
-      (λ e4 pos. never pos)))))
+      (λ e pos. timer-word (84 ∷ 80 ∷ 40 ∷ []) kinds.TP tp (λ n. refl) (λ n. refl) (λ w v t d a b. Factor.tp w a b) refl n ih
+      deep s fine e)
+      (λ pos. never pos))
       (λ bad pos. never pos)
 
   factor-step : (n : ℕ) → Sound n → (deep : ℕ) (s : State Part) → Finds text Factor deep s (factorAt (spelled text) text (suc n) deep s)

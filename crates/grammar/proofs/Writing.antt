@@ -8,7 +8,7 @@ use mathlib.Core.List.{List, [], _∷_, _++_}
 use lib.Dec.{leb, eqb}
 use lib.ListN.{length}
 use borrow.Author.Tests.{ne-eqb, le-leb}
-use Rattle.grammar.specs.Tree.{Tree, leaf, unary, binary, invert, rise, fall, ton, tof, and, or, sr, rs, name, down, up}
+use Rattle.grammar.specs.Tree.{Tree, Unary, leaf, unary, binary, invert, rise, fall, ton, tof, tp, and, or, sr, rs, name, down, up}
 use Rattle.names.specs.Names.{digit, allOf}
 use Rattle.texts.specs.Lengths.{isLength, value, valueFrom}
 use Rattle.grammar.specs.Grammar.{Sum, Product, Factor}
@@ -80,6 +80,20 @@ length-written (suc v) = let r = digits-of (suc v) (suc v) (omega arith) (omega 
     or-true true = refl
     or-true false = refl
 
+-- a timer by its word
+timer-written : (word : List ℕ) (o : ℕ → Unary) →
+    ((w v : List ℕ) (t : Tree) (d : ℕ) → isLength w ≡ true → Sum v t d →
+    Factor (word ++ (w ++ (44 ∷ (v ++ (41 ∷ []))))) (unary (o (value w)) t) (d + 1)) →
+    (n : ℕ) (t : Tree) → (w : List ℕ) × (d : ℕ) × Factor w t d → (w : List ℕ) × (d : ℕ) × Factor w (unary (o n) t) d
+timer-written word o make n t r =
+    let l = length-written n in
+    let s = Sum.product (Product.factor (r .2)) in
+    let w = word ++ (l .0 ++ (44 ∷ (r .0 ++ (41 ∷ [])))) in (
+      w,
+      r .1 + 1,
+      subst (λ (k : ℕ). Factor w (unary (o k) t) (r .1 + 1)) (l .2) (make (l .0) (r .0) t (r .1) (l .1) s),
+    )
+
 factor-written : (t : Tree) → Writable t → (w : List ℕ) × (d : ℕ) × Factor w t d
 factor-written (leaf down) h = (48 ∷ [], 0, Factor.zero)
 factor-written (leaf up) h = (49 ∷ [], 0, Factor.one)
@@ -87,22 +101,9 @@ factor-written (leaf (name w)) h = (w, 0, Factor.named h)
 factor-written (unary invert t) h = let r = factor-written t h in (33 ∷ r .0, r .1 + 1, Factor.inverted (r .2))
 factor-written (unary rise t) h = let r = factor-written t h in (94 ∷ r .0, r .1 + 1, Factor.rising (r .2))
 factor-written (unary fall t) h = let r = factor-written t h in (126 ∷ r .0, r .1 + 1, Factor.falling (r .2))
-factor-written (unary (ton n) t) h =
-    let r = factor-written t h in
-    let l = length-written n in (
-      84 ∷ 79 ∷ 78 ∷ 40 ∷ (l .0 ++ (44 ∷ (r .0 ++ (41 ∷ [])))),
-      r .1 + 1,
-      subst (λ (k : ℕ). Factor (84 ∷ 79 ∷ 78 ∷ 40 ∷ (l .0 ++ (44 ∷ (r .0 ++ (41 ∷ []))))) (unary (ton k) t) (r .1 + 1)) (l .2)
-          (Factor.ton (l .0) (l .1) (Sum.product (Product.factor (r .2)))),
-    )
-factor-written (unary (tof n) t) h =
-    let r = factor-written t h in
-    let l = length-written n in (
-      84 ∷ 79 ∷ 70 ∷ 40 ∷ (l .0 ++ (44 ∷ (r .0 ++ (41 ∷ [])))),
-      r .1 + 1,
-      subst (λ (k : ℕ). Factor (84 ∷ 79 ∷ 70 ∷ 40 ∷ (l .0 ++ (44 ∷ (r .0 ++ (41 ∷ []))))) (unary (tof k) t) (r .1 + 1)) (l .2)
-          (Factor.tof (l .0) (l .1) (Sum.product (Product.factor (r .2)))),
-    )
+factor-written (unary (ton n) t) h = timer-written (84 ∷ 79 ∷ 78 ∷ 40 ∷ []) ton (λ w v t d. Factor.ton w) n t (factor-written t h)
+factor-written (unary (tof n) t) h = timer-written (84 ∷ 79 ∷ 70 ∷ 40 ∷ []) tof (λ w v t d. Factor.tof w) n t (factor-written t h)
+factor-written (unary (tp n) t) h = timer-written (84 ∷ 80 ∷ 40 ∷ []) tp (λ w v t d. Factor.tp w) n t (factor-written t h)
 factor-written (binary and t u) h =
     let r = factor-written t (h .0) in
     let q = factor-written u (h .1) in (

@@ -1,7 +1,7 @@
 -- Believed: The parts of a formula in working-out order: left operand, right operand, then their operator.
 use Prim.Native.Nat.{ℕ, max}
 use mathlib.Core.List.{List, [], _∷_, _++_}
-use Rattle.grammar.specs.Tree.{Tree, Leaf, Unary, Binary, leaf, unary, binary, ton, tof, invert, rise, fall}
+use Rattle.grammar.specs.Tree.{Tree, Leaf, Unary, Binary, leaf, unary, binary, ton, tof, tp, invert, rise, fall}
 
 -- Names, constants, operators and blocks are parts; a timer's length goes with it.
 pub data Part : Type 0 where
@@ -22,6 +22,7 @@ ticksOf rise = 0
 ticksOf fall = 0
 ticksOf (ton n) = n
 ticksOf (tof n) = n
+ticksOf (tp n) = n
 
 -- the largest length in a tree, 0 when it has none
 unfoldable pub longest : Tree → ℕ

@@ -7,7 +7,7 @@ use mathlib.Core.Logic.{_⊎_, _↔_}
 use lib.ListN.{length}
 use Rattle.signals.specs.Moment.{M}
 use Rattle.signals.specs.Checks.{Check, NoFault, Exactly}
-use Rattle.grammar.specs.Tree.{Tree, Leaf, Unary, Binary, leaf, unary, binary, name, down, up, ton, tof}
+use Rattle.grammar.specs.Tree.{Tree, Leaf, Unary, Binary, leaf, unary, binary, name, down, up, ton, tof, tp}
 use Rattle.grammar.specs.Code.{code}
 use Rattle.names.specs.Names.{wellNamed}
 use Rattle.grammar.specs.Grammar.{Sum}
@@ -44,6 +44,7 @@ EveryTreeWritten = (t : Tree) → Writable t → (w : List ℕ) × (d : ℕ) × 
 pub data LengthIn (n : ℕ) : Tree → Type 0 where
   of-ton : {t : Tree} → LengthIn n (unary (ton n) t)
   of-tof : {t : Tree} → LengthIn n (unary (tof n) t)
+  of-tp : {t : Tree} → LengthIn n (unary (tp n) t)
   under : {o : Unary} {t : Tree} → LengthIn n t → LengthIn n (unary o t)
   first : {o : Binary} {t u : Tree} → LengthIn n t → LengthIn n (binary o t u)
   second : {o : Binary} {t u : Tree} → LengthIn n u → LengthIn n (binary o t u)

@@ -8,7 +8,7 @@ use lib.ListN.{length, take, drop}
 use lib.Seq.{sets}
 use Rattle.signals.specs.Moment.{M}
 use Rattle.texts.specs.Lengths.{capped}
-use Rattle.grammar.specs.Tree.{Tree, down, up, name, invert, rise, fall, ton, tof, and, or, sr, rs}
+use Rattle.grammar.specs.Tree.{Tree, down, up, name, invert, rise, fall, ton, tof, tp, and, or, sr, rs}
 use Rattle.grammar.specs.Kinds as kinds
 use Rattle.grammar.specs.Code.{Part, operand, one, two, treeOf}
 use Rattle.grammar.specs.Reader.{Emission, readText}
@@ -39,8 +39,12 @@ partIn (e ∷ es) k = cond (eqb k (e .number)) (e .part) (partIn es k)
 abbrev pub plainPart : ℕ → Part
 plainPart kind = partIn plainKinds kind
 
+-- the kinds of timers, and a timer's part
+abbrev pub isTimer : ℕ → Bool
+isTimer kind = eqb kind kinds.TON || eqb kind kinds.TOF || eqb kind kinds.TP
+
 unfoldable pub timedPart : ℕ → ℕ → Part
-timedPart kind n = cond (eqb kind kinds.TON) (one (ton n)) (one (tof n))
+timedPart kind n = cond (eqb kind kinds.TON) (one (ton n)) (cond (eqb kind kinds.TOF) (one (tof n)) (one (tp n)))
 
 -- the bytes of a text from a place on, so many
 unfoldable pub nameAt : List ℕ → ℕ → ℕ → List ℕ
@@ -66,7 +70,7 @@ coded = record { plain = λ kind. kind; named = nameWord; timed = timerWord; tic
 unfoldable pub partOf : List ℕ → ℕ → Part
 partOf text w =
     cond (eqb (w % 16) kinds.NAME) (operand (name (nameAt text (w / 256) (w / 16 % 16))))
-    (cond (eqb (w % 16) kinds.TON || eqb (w % 16) kinds.TOF) (timedPart (w % 16) (w / 16)) (plainPart (w % 16)))
+    (cond (isTimer (w % 16)) (timedPart (w % 16) (w / 16)) (plainPart (w % 16)))
 
 -- the whole text is read without a break of the grammar
 unfoldable pub accepted : List ℕ → Bool

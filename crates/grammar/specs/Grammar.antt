@@ -1,4 +1,5 @@
--- Believed: Document 01, "Formulas": the grammar, rule by rule, as a relation between bytes, tree and depth.
+-- Believed: Document 01, "Formulas": the grammar, rule by rule, as a relation between bytes, tree and depth; with the block TP of
+-- document 02's request 1.
 use Prim.Native.Nat.{ℕ, _+_, max}
 use mathlib.Core.Path.{_≡_}
 use mathlib.Core.Bool.{true}
@@ -23,7 +24,8 @@ mutual
     dot : {w v : List ℕ} {t u : Tree} {d e : ℕ} → Product w t d → Factor v u e →
         Product (w ++ (46 ∷ v)) (tree.binary tree.and t u) (max d e)
 
-  -- factor = "!" factor, "^" factor, "~" factor, "(" sum ")", "0", "1", name, SR(sum,sum), RS(sum,sum), TON(length,sum), TOF(length,sum)
+  -- factor = "!" factor, "^" factor, "~" factor, "(" sum ")", "0", "1", name, SR(sum,sum), RS(sum,sum), TON(length,sum), TOF(length,sum);
+  -- and document 02's TP(length,sum)
   pub data Factor : List ℕ → Tree → ℕ → Type 0 where
     inverted : {w : List ℕ} {t : Tree} {d : ℕ} → Factor w t d → Factor (33 ∷ w) (tree.unary tree.invert t) (d + 1)
     rising : {w : List ℕ} {t : Tree} {d : ℕ} → Factor w t d → Factor (94 ∷ w) (tree.unary tree.rise t) (d + 1)
@@ -40,6 +42,8 @@ mutual
         Factor (84 ∷ 79 ∷ 78 ∷ 40 ∷ (w ++ (44 ∷ (v ++ (41 ∷ []))))) (tree.unary (tree.ton (value w)) t) (d + 1)
     tof : (w : List ℕ) {v : List ℕ} {t : Tree} {d : ℕ} → isLength w ≡ true → Sum v t d →
         Factor (84 ∷ 79 ∷ 70 ∷ 40 ∷ (w ++ (44 ∷ (v ++ (41 ∷ []))))) (tree.unary (tree.tof (value w)) t) (d + 1)
+    tp : (w : List ℕ) {v : List ℕ} {t : Tree} {d : ℕ} → isLength w ≡ true → Sum v t d →
+        Factor (84 ∷ 80 ∷ 40 ∷ (w ++ (44 ∷ (v ++ (41 ∷ []))))) (tree.unary (tree.tp (value w)) t) (d + 1)
 
 -- the formula that bytes write is a sum
 abbrev pub Writes : List ℕ → Tree → ℕ → Type 0

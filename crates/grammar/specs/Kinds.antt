@@ -21,25 +21,29 @@ RISING = 4
 abbrev pub FALLING : ℕ
 FALLING = 5
 
+-- the timers
 abbrev pub TON : ℕ
 TON = 6
 
 abbrev pub TOF : ℕ
 TOF = 7
 
+abbrev pub TP : ℕ
+TP = 8
+
 -- . + SR RS
 abbrev pub AND : ℕ
-AND = 8
+AND = 9
 
 abbrev pub OR : ℕ
-OR = 9
+OR = 10
 
 abbrev pub SR : ℕ
-SR = 10
+SR = 11
 
 abbrev pub RS : ℕ
-RS = 11
+RS = 12
 
 -- how many kinds there are
 abbrev pub KINDS : ℕ
-KINDS = 12
+KINDS = 13

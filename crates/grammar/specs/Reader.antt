@@ -69,16 +69,17 @@ unfoldable pub starts : List ℕ → List ℕ → Bool
 starts [] l = true
 starts (b ∷ w) l = eqb (getD l 0 0) b && starts w (drop 1 l)
 
--- the kind of the block that bytes begin, by its word and bracket: SR( RS( TON( TOF(; 0 for none
+-- the kind of the block that bytes begin, by its word and bracket: SR( RS( TON( TOF( TP(; 0 for none
 unfoldable pub blockKind : List ℕ → ℕ
 blockKind l =
     cond (starts (83 ∷ 82 ∷ 40 ∷ []) l) kinds.SR
     (cond (starts (82 ∷ 83 ∷ 40 ∷ []) l) kinds.RS
-    (cond (starts (84 ∷ 79 ∷ 78 ∷ 40 ∷ []) l) kinds.TON (cond (starts (84 ∷ 79 ∷ 70 ∷ 40 ∷ []) l) kinds.TOF 0)))
+    (cond (starts (84 ∷ 79 ∷ 78 ∷ 40 ∷ []) l) kinds.TON
+    (cond (starts (84 ∷ 79 ∷ 70 ∷ 40 ∷ []) l) kinds.TOF (cond (starts (84 ∷ 80 ∷ 40 ∷ []) l) kinds.TP 0))))
 
--- how many bytes the word and bracket of a block have, by its kind
+-- how many bytes the word and bracket of a block have, by its kind: those of TON and TOF have four
 unfoldable pub blockBytes : ℕ → ℕ
-blockBytes kind = cond (ltb kind kinds.AND) 4 3
+blockBytes kind = cond (ltb kind kinds.TP) 4 3
 
 -- the kind of the block that is next; 0 for none and when all is not well
 unfoldable pub blockAt : {X : Type 0} → List ℕ → State X → ℕ

@@ -2,17 +2,17 @@
 use Prim.Native.Nat.{ℕ}
 use mathlib.Core.Bool.{Bool, true, false}
 use mathlib.Core.List.{List}
-use Rattle.signals.specs.Signal.{Signal, constant, NOT, AND, OR, rising, falling, SR, RS, TON, TOF}
+use Rattle.signals.specs.Signal.{Signal, constant, NOT, AND, OR, rising, falling, SR, RS, TON, TOF, TP}
 
 -- 0, 1 and names, as their bytes
 pub data Leaf : Type 0 where
   down up : Leaf
   name : List ℕ → Leaf
 
--- ! ^ ~, and TON and TOF with their length
+-- ! ^ ~, and the timers TON, TOF and TP with their length
 pub data Unary : Type 0 where
   invert rise fall : Unary
-  ton tof : ℕ → Unary
+  ton tof tp : ℕ → Unary
 
 -- . + SR RS
 pub data Binary : Type 0 where
@@ -39,6 +39,7 @@ applyUnary rise f = rising f
 applyUnary fall f = falling f
 applyUnary (ton d) f = TON d f
 applyUnary (tof d) f = TOF d f
+applyUnary (tp d) f = TP d f
 
 abbrev pub applyBinary : Binary → Signal → Signal → Signal
 applyBinary and f g = AND f g

@@ -14,7 +14,7 @@ use Rattle.signals.specs.declared.Written.the-variants.{Count, Refused}
 use Rattle.signals.proofs.FirstFault.{next-is}
 use Rattle.operations.specs.Calls.{lengthFault, partFault}
 use Rattle.grammar.specs.Kinds as kinds
-use Rattle.grammar.specs.Tree.{Unary, invert, rise, fall, ton, tof}
+use Rattle.grammar.specs.Tree.{Unary, invert, rise, fall, ton, tof, tp}
 use Rattle.grammar.specs.Code.{ticksOf}
 use Rattle.code_words.specs.CodeWords.{operandsOf}
 use Rattle.applying.specs.PartCalls.{unaryOf, binaryIn, unaryFault, unaryExact, binaryExact, judgedFor, exactFor}
@@ -35,21 +35,23 @@ unary-ok rise a x y = x
 unary-ok fall a x y = x
 unary-ok (ton d) a x y = delay-ok a d x y
 unary-ok (tof d) a x y = delay-ok a d x y
+unary-ok (tp d) a x y = delay-ok a d x y
 
 -- 32 bits hold it
 whole-length : (k n : ℕ) → ticksOf (unaryOf k n) ≤ M → unaryOf k (n % 4294967296) ≡ unaryOf k n
 unfolding unaryOf
-whole-length k n h = go (eqb k kinds.NOT) (eqb k kinds.RISING) (eqb k kinds.FALLING) (eqb k kinds.TON) h
+whole-length k n h = go (eqb k kinds.NOT) (eqb k kinds.RISING) (eqb k kinds.FALLING) (eqb k kinds.TON) (eqb k kinds.TOF) h
   where
-    named : (a b c d : Bool) → ℕ → Unary
-    named a b c d n = cond a invert (cond b rise (cond c fall (cond d (ton n) (tof n))))
+    named : (a b c d e : Bool) → ℕ → Unary
+    named a b c d e n = cond a invert (cond b rise (cond c fall (cond d (ton n) (cond e (tof n) (tp n)))))
 
-    go : (a b c d : Bool) → ticksOf (named a b c d n) ≤ M → named a b c d (n % 4294967296) ≡ named a b c d n
-    go true b c d h = refl
-    go false true c d h = refl
-    go false false true d h = refl
-    go false false false true h = ap ton (omega arith)
-    go false false false false h = ap tof (omega arith)
+    go : (a b c d e : Bool) → ticksOf (named a b c d e n) ≤ M → named a b c d e (n % 4294967296) ≡ named a b c d e n
+    go true b c d e h = refl
+    go false true c d e h = refl
+    go false false true d e h = refl
+    go false false false true e h = ap ton (omega arith)
+    go false false false false true h = ap tof (omega arith)
+    go false false false false false h = ap tp (omega arith)
 
 -- what a code word asks for, by the number of its operands
 module _ (w : ℕ) (a b : List ℕ) where

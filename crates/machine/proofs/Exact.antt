@@ -7,7 +7,7 @@ use mathlib.Core.List.{List, [], _∷_}
 use lib.Dec.{ltb}
 use lib.ListN.{length}
 use borrow.Author.Tests.{ltb-false}
-use Rattle.signals.specs.Signal.{Signal, NOT, rising, falling, SR, RS, TON, TOF, AND, OR, connective, cell}
+use Rattle.signals.specs.Signal.{Signal, NOT, rising, falling, SR, RS, TON, TOF, TP, AND, OR, connective, cell}
 use Rattle.signals.specs.Moment.{M}
 use Rattle.signals.specs.Words.{mostWords, signalOf, lastDate, listOf, listFault, dateOf}
 use Rattle.slices.specs.Bytes.{Words}
@@ -17,7 +17,7 @@ use Rattle.signals.specs.Settled.{SettledFrom}
 use Rattle.signals.proofs.Settling.{settling}
 use Rattle.signals.proofs.Normal.{accepted-settled, accepted-normal}
 use Rattle.operations.specs.Calls.{exactOfOne, exactOfTwo, exactOfDelay, changesAfterM}
-use Rattle.grammar.specs.Tree.{Tree, Unary, Binary, unary, binary, invert, rise, fall, ton, tof, and, or, sr, rs}
+use Rattle.grammar.specs.Tree.{Tree, Unary, Binary, unary, binary, invert, rise, fall, ton, tof, tp, and, or, sr, rs}
 use Rattle.signals.proofs.AnyDate.{one-list}
 use Rattle.format.specs.Reading.{sheetFault}
 use Rattle.calls.specs.OnSheet.{signalOn, settlingDate, exactOn}
@@ -84,6 +84,7 @@ module _ (sheet : List ℕ) (ok : sheetFault sheet ≡ 0) where
   unary-exact fall t h = of-one falling _ t (unary fall t) refl (settling .falls _ _ (settled-at t h))
   unary-exact (ton d) t h = of-one (TON d) _ t (unary (ton d) t) refl (settling .ton d _ _ (settled-at t h))
   unary-exact (tof d) t h = of-one (TOF d) _ t (unary (tof d) t) refl (settling .tof d _ _ (settled-at t h))
+  unary-exact (tp d) t h = of-one (TP d) _ t (unary (tp d) t) refl (settling .tp d _ _ (settled-at t h))
 
   pub binary-exact : (o : Binary) (t u : Tree) → listFault (exactOn sheet t) ≡ 0 → listFault (exactOn sheet u) ≡ 0
       → binaryExact o (exactOn sheet t) (exactOn sheet u) ≡ exactOn sheet (binary o t u)

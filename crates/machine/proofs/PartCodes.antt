@@ -2,13 +2,13 @@
 use Prim.Native.Nat.{ℕ, zero, suc, _/_, _%_, _≤_, _<_}
 use native.Mathlib.Omega.{arith}
 use mathlib.Core.Path.{_≡_, refl, _∙_}
-use mathlib.Core.Bool.{Bool, true, false, cond, _||_}
+use mathlib.Core.Bool.{Bool, true, false, cond}
 use mathlib.Core.List.{List}
 use lib.Dec.{ltb, eqb}
 use Rattle.grammar.specs.Kinds as kinds
 use Rattle.grammar.specs.Tree.{Leaf, down, up, name}
 use Rattle.grammar.specs.Code.{Part, operand, one, two}
-use Rattle.grammar.specs.Formula.{partOf, plainPart, timedPart, nameAt}
+use Rattle.grammar.specs.Formula.{partOf, plainPart, isTimer, timedPart, nameAt}
 use Rattle.code_words.specs.CodeWords.{arity, operandsOf}
 use Rattle.applying.specs.PartCalls.{unaryOf, binaryOf}
 use Rattle.machine.proofs.KnownParts.{leafOf}
@@ -31,12 +31,11 @@ kindPart (suc zero) k a n = one (unaryOf k n)
 kindPart (suc (suc m)) k a n = two (binaryOf k)
 
 by-kind : (k : ℕ) → k < 16 → (a : Leaf) (n : ℕ) → cond (eqb k kinds.NAME) (operand a)
-    (cond (eqb k kinds.TON || eqb k kinds.TOF) (timedPart k n) (plainPart k)) ≡ kindPart (arity k) k a n
+    (cond (isTimer k) (timedPart k n) (plainPart k)) ≡ kindPart (arity k) k a n
 unfolding Each kindPart timedPart unaryOf binaryOf arity
 by-kind k h a n =
     each-below 16
-    (λ k. cond (eqb k kinds.NAME) (operand a) (cond (eqb k kinds.TON || eqb k kinds.TOF) (timedPart k n) (plainPart k))
-    ≡ kindPart (arity k) k a n)
+    (λ k. cond (eqb k kinds.NAME) (operand a) (cond (isTimer k) (timedPart k n) (plainPart k)) ≡ kindPart (arity k) k a n)
     (refl, (refl, (refl, (refl, (refl, (refl, (refl, (refl, (refl, (refl, (refl, (refl, (refl, (refl, (refl, (refl, tt))))))))))))))))
     k h
 

@@ -16,16 +16,18 @@ pub const TON: u64 = 6;
 
 pub const TOF: u64 = 7;
 
-pub const AND: u64 = 8;
+pub const TP: u64 = 8;
 
-pub const OR: u64 = 9;
+pub const AND: u64 = 9;
 
-pub const SR: u64 = 10;
+pub const OR: u64 = 10;
 
-pub const RS: u64 = 11;
+pub const SR: u64 = 11;
+
+pub const RS: u64 = 12;
 
 // How many kinds there are.
-pub const KINDS: u64 = 12;
+pub const KINDS: u64 = 13;
 
 // An open bracket: no kind of a part, but one of what begins a factor.
 pub const BRACKET: u64 = 16;

@@ -12,7 +12,7 @@ use Rattle.grammar.specs.Reader.{prefixKind, starts, blockKind, blockBytes}
 use Rattle.grammar.specs.Kinds as kinds
 use Rattle.marks.specs.Marks.{Mark, nextMark}
 use Rattle.openings.specs.Opening.{BRACKET, openKind, openBytes}
-use Rattle.grammar.proofs.Bytes.{by-cond}
+use Rattle.grammar.proofs.Bytes.{by-cond, by-block}
 use Rattle.grammar.proofs.Standing.{front}
 use Rattle.marks.proofs.Marking.{inside}
 
@@ -61,17 +61,15 @@ word-fits text m w full some e =
     omega (arith, q, length-drop (m .at) text)
 
 blocks : (text : List ℕ) (m : Mark) → Blocks text m (blockMark text m)
-unfolding blockKind blockBytes allOf
+unfolding blockBytes allOf
 blocks text m =
     by-cond (Blocks text m) (m .ok)
-    (λ o. by-cond (Blocks text m) (starts (83 ∷ 82 ∷ 40 ∷ []) (drop (m .at) text))
-    (λ e. of (83 ∷ 82 ∷ 40 ∷ []) kinds.SR refl (omega arith, omega arith, omega arith, refl) e)
-    (λ o. by-cond (Blocks text m) (starts (82 ∷ 83 ∷ 40 ∷ []) (drop (m .at) text))
-    (λ e. of (82 ∷ 83 ∷ 40 ∷ []) kinds.RS refl (omega arith, omega arith, omega arith, refl) e)
-    (λ o. by-cond (Blocks text m) (starts (84 ∷ 79 ∷ 78 ∷ 40 ∷ []) (drop (m .at) text))
-    (λ e. of (84 ∷ 79 ∷ 78 ∷ 40 ∷ []) kinds.TON refl (omega arith, omega arith, omega arith, refl) e)
-    (λ o. by-cond (Blocks text m) (starts (84 ∷ 79 ∷ 70 ∷ 40 ∷ []) (drop (m .at) text))
-    (λ e. of (84 ∷ 79 ∷ 70 ∷ 40 ∷ []) kinds.TOF refl (omega arith, omega arith, omega arith, refl) e) (λ e. nothing)))))
+    (λ o. by-block (Blocks text m) (drop (m .at) text)
+    (of (83 ∷ 82 ∷ 40 ∷ []) kinds.SR refl (omega arith, omega arith, omega arith, refl))
+    (of (82 ∷ 83 ∷ 40 ∷ []) kinds.RS refl (omega arith, omega arith, omega arith, refl))
+    (of (84 ∷ 79 ∷ 78 ∷ 40 ∷ []) kinds.TON refl (omega arith, omega arith, omega arith, refl))
+    (of (84 ∷ 79 ∷ 70 ∷ 40 ∷ []) kinds.TOF refl (omega arith, omega arith, omega arith, refl))
+    (of (84 ∷ 80 ∷ 40 ∷ []) kinds.TP refl (omega arith, omega arith, omega arith, refl)) nothing)
     (λ o. nothing)
   where
     nothing : Blocks text m 0
@@ -89,7 +87,7 @@ blocks text m =
 
 block-some : (kind : ℕ) → 0 < blockBytes kind
 unfolding blockBytes
-block-some kind = by-cond (λ (k : ℕ). 0 < k) (ltb kind kinds.AND) (λ e. omega arith) (λ e. omega arith)
+block-some kind = by-cond (λ (k : ℕ). 0 < k) (ltb kind kinds.TP) (λ e. omega arith) (λ e. omega arith)
 
 pub none-bytes : (kind : ℕ) → kind ≤ 0 → openBytes kind ≡ 0
 unfolding openBytes

@@ -54,7 +54,8 @@ first-r text m e = by-first text m 82 _ e (omega arith) (λ q. rw q refl)
 pub first-t : (text : List ℕ) (m : Mark) → nextMark text m ≡ 84 →
     cond (m .ok) (blockKind (drop (m .at) text)) 0
     ≡ cond (starts (84 ∷ 79 ∷ 78 ∷ 40 ∷ []) (drop (m .at) text)) kinds.TON
-    (cond (starts (84 ∷ 79 ∷ 70 ∷ 40 ∷ []) (drop (m .at) text)) kinds.TOF 0)
+    (cond (starts (84 ∷ 79 ∷ 70 ∷ 40 ∷ []) (drop (m .at) text)) kinds.TOF
+    (cond (starts (84 ∷ 80 ∷ 40 ∷ []) (drop (m .at) text)) kinds.TP 0))
 unfolding blockKind starts
 first-t text m e = by-first text m 84 _ e (omega arith) (λ q. rw q refl)
 

@@ -83,6 +83,9 @@ fn block_kind(text: &[u8; 1024], bytes: usize, m: &[usize; 5], first: u8) -> u64
         if stands(text, bytes, at, b"TOF(") {
             return kind::TOF;
         }
+        if stands(text, bytes, at, b"TP(") {
+            return kind::TP;
+        }
     }
     0
 }
@@ -115,7 +118,7 @@ pub fn opening_bytes(first: u64) -> usize
     if first == kind::BRACKET {
         return 1;
     }
-    if first < kind::AND {
+    if first < kind::TP {
         return 4;
     }
     3

@@ -58,14 +58,39 @@ returns-6 c =
 returns-7 : tie.Need-returns-7
 unfolding markOf
 returns-7 c =
-    let n = c .before .before .before in
+    let f = c .before .before .before in
+    let n = f .before .before .before in
     let i = n .before .before .before in
     let s = i .before .before .before .before in
     let e = first-t (lent (s .args .text .now) (s .args .bytes)) (markOf (s .args .m .now)) (s .pre ∙ i .if5 .taken) in
-    sym (e ∙ rw (sym (n .before .stands3 .ensures) ∙ n .if6 .left, sym (c .before .stands4 .ensures) ∙ c .if7 .left) refl)
+    sym
+    (e
+    ∙ rw (
+      sym (n .before .stands3 .ensures) ∙ n .if6 .left,
+      sym (f .before .stands4 .ensures) ∙ f .if7 .left,
+      sym (c .before .stands5 .ensures) ∙ c .if8 .taken,
+    )
+    refl)
 
 returns-8 : tie.Need-returns-8
+unfolding markOf
 returns-8 c =
+    let f = c .before .before .before in
+    let n = f .before .before .before in
+    let i = n .before .before .before in
+    let s = i .before .before .before .before in
+    let e = first-t (lent (s .args .text .now) (s .args .bytes)) (markOf (s .args .m .now)) (s .pre ∙ i .if5 .taken) in
+    sym
+    (e
+    ∙ rw (
+      sym (n .before .stands3 .ensures) ∙ n .if6 .left,
+      sym (f .before .stands4 .ensures) ∙ f .if7 .left,
+      sym (c .before .stands5 .ensures) ∙ c .if8 .left,
+    )
+    refl)
+
+returns-9 : tie.Need-returns-9
+returns-9 c =
     let s = c .before .before .before .before in
     sym
     (no-block (lent (s .args .text .now) (s .args .bytes)) (markOf (s .args .m .now)) (s .args .first) (s .pre)
@@ -76,4 +101,4 @@ block-kind-spec =
     tie.close
     (tie.spec (λ c. search needs) (λ c. search needs) (λ c κs. search needs) returns returns-2 (λ c. search needs) (λ c κs. search needs)
     returns-3 returns-4 (λ c. search needs) (λ c κs. search needs) returns-5 (λ c. search needs) (λ c κs. search needs) returns-6
-    returns-7 returns-8)
+    (λ c. search needs) (λ c κs. search needs) returns-7 returns-8 returns-9)
