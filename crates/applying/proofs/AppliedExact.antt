@@ -15,25 +15,21 @@ use Rattle.signals.specs.declared.Written.{Written}
 use Rattle.signals.specs.declared.Written.the-variants.{Count, Refused}
 use Rattle.signals.proofs.FirstFault.{both-none}
 use Rattle.slices.specs.Bytes.{Words}
-use Rattle.operations.specs.Calls.{lengthFault, partFault, changesAfterM, exactOfTwo, exactOfDelay}
+use Rattle.operations.specs.Calls.{lengthFault, partFault, changesAfterM, exactOfTwo}
 use Rattle.building.proofs.Built.{Built}
 use Rattle.building.specs.Slots.{madeAnswer}
 use Rattle.building.specs.declared.Made.{Made}
 use Rattle.building.proofs.BuildingLaws.{slot-short}
 use Rattle.building.proofs.JudgedSlots.{built-answer}
 use Rattle.showing.specs.Showing.{merged}
-use Rattle.timing.specs.Delay.{delayOf}
 use Rattle.merging.proofs.OneOperand.{none}
 use Rattle.merging.proofs.MergedExact.{merged-exact}
-use Rattle.delaying.specs.Turns.{lastState}
-use Rattle.delaying.proofs.DelayedExact.{delayed-exact}
 use Rattle.grammar.specs.Kinds as kinds
-use Rattle.grammar.specs.Tree.{ton, tof}
-use Rattle.applying.specs.PartCalls.{partAnswer, unaryIn, unaryFault, unaryExact, judgedFor, exactFor}
+use Rattle.applying.specs.PartCalls.{partAnswer, unaryOf, unaryFault, unaryExact, judgedFor, exactFor}
 use Rattle.applying.specs.Merges.{operationOf, tableFor}
-use Rattle.applying.specs.Applied.{MergedIn, DelayedInto, edged, appliedInBy, Applied}
+use Rattle.applying.specs.Applied.{MergedIn, engineOf, TimedInto, edged, appliedInBy, Applied}
 use Rattle.applying.proofs.Numbering.{numbered}
-use Rattle.applying.proofs.Operators.{of-one, of-two, of-delay, delay-judged, delay-exact}
+use Rattle.applying.proofs.Operators.{of-one, of-two, of-timer, timer-judged, timer-builds}
 use Rattle.applying.proofs.Operators.{judged-one, exact-one, judged-two, exact-two}
 
 -- the answer's fault, and without one its list
@@ -89,7 +85,7 @@ small d z = go (ltb M d) refl z
     go true e z = absurd (omega arith)
     go false e z = ltb-false M d e
 
--- a merge and a delay in a slot of 256 words, their list at its front
+-- a merge and a timer in a slot of 256 words, their list at its front
 module _ (answer : Written) (l before slot : List ℕ) (wide : length before ≡ mostWords) (i : l ≡ take (countIn answer) slot) where
   merge-told : (k : ℕ) (a b : List ℕ) → MergedIn k a b before slot answer → pairFault a b ≡ 0 → Words a → Words b
       → Told answer l (exactOfTwo (merged (operationOf k) (tableFor k)) a b)
@@ -100,14 +96,14 @@ module _ (answer : Written) (l before slot : List ℕ) (wide : length before ≡
       (merged-exact (operationOf k) (tableFor k) a b (j .0) (j .1) u v before slot (m .made) (m .merges))
       wide answer (m .answer-is) l i
 
-  delay-told : (level : Bool) (d : ℕ) (a : List ℕ) → DelayedInto level d a before slot answer
-      → firstOf (listFault a) (lengthFault d) ≡ 0 → Words a → Told answer l (exactOfDelay (delayOf level d) d a)
-  delay-told level d a m z u =
+  timer-told : (k d : ℕ) (a : List ℕ) → edged k ≡ false → TimedInto (engineOf k d) d a before slot answer
+      → firstOf (listFault a) (lengthFault d) ≡ 0 → Words a → Told answer l (unaryExact (unaryOf k d) a)
+  timer-told k d a e m z u =
       let j = both-none (listFault a) (lengthFault d) z in
       let s = small d (j .1) in
       let r = m .ran s in
-      built-told _ before (lastState level d a before .slot) (lastState level d a before .made)
-      (delayed-exact level d a before (j .0) s u) wide answer (r .0) l (i ∙ ap (take (countIn answer)) (r .1))
+      built-told _ before (engineOf k d a before .slot) (engineOf k d a before .made) (timer-builds d a before (j .0) s u k e) wide answer
+      (r .0) l (i ∙ ap (take (countIn answer)) (r .1))
 
 none-words : Words none
 none-words zero = omega arith
@@ -135,9 +131,8 @@ applied-exact w a b answer l x z u v = go (leb kinds.AND (w % 16)) (edged (w % 1
         (merge-told answer l (x .before) (x .slot) (x .wide) (x .list-is) (w % 16) a none y (o .0 ∙ judged-one w a b i ∙ z) u none-words)
     go false false e f y =
         let n = w / 16 % 4294967296 in
-        let r = eqb (w % 16) kinds.TON in
         let i = lt-ltb (w % 16) kinds.AND (leb-false kinds.AND (w % 16) e) in
-        let same : cond r (ton n) (tof n) ≡ unaryIn w = sym (of-delay (w % 16) n f) in
-        under _ (delay-exact r n a ∙ ap (λ o. unaryExact o a) same ∙ exact-one w a b i)
-        (delay-told answer l (x .before) (x .slot) (x .wide) (x .list-is) r n a y
-        (delay-judged r n a ∙ ap (λ o. unaryFault o a) same ∙ judged-one w a b i ∙ z) u)
+        under _ (exact-one w a b i)
+        (timer-told answer l (x .before) (x .slot) (x .wide) (x .list-is) (w % 16) n a f y
+        (timer-judged (eqb (w % 16) kinds.TON) (eqb (w % 16) kinds.TOF) n a ∙ ap (λ o. unaryFault o a) (sym (of-timer (w % 16) n f))
+        ∙ judged-one w a b i ∙ z) u)

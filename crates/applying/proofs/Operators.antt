@@ -1,4 +1,4 @@
--- Which merge or delay a code word of a kind asks for: its exact answer is that of the operator which the code word stands for.
+-- Which merge or timer a code word of a kind asks for: its exact answer is that of the operator which the code word stands for.
 use Prim.Native.Nat.{ℕ, _/_, _%_, _≤_, _<_}
 use native.Mathlib.Omega.{arith}
 use mathlib.Core.Path.{_≡_, refl, sym, _∙_, ap}
@@ -7,7 +7,9 @@ use mathlib.Core.List.{List, [], _∷_}
 use lib.Dec.{eqb, ltb}
 use borrow.Author.Tests.{eq-eqb, ne-eqb, lt-ltb, le-ltb, eqb-true, eqb-false}
 use Rattle.signals.specs.Answers.{firstOf}
-use Rattle.signals.specs.Signal.{NOT, rising, falling}
+use Rattle.slices.specs.Bytes.{Words}
+use Rattle.signals.specs.Moment.{M}
+use Rattle.signals.specs.Signal.{Signal, NOT, rising, falling, TON, TOF}
 use Rattle.signals.specs.Words.{listFault, pairFault}
 use Rattle.signals.proofs.Truth.{not-both}
 use Rattle.operations.specs.Calls.{lengthFault, exactOfTwo, exactOfDelay}
@@ -15,13 +17,19 @@ use Rattle.showing.specs.declared.Operation.the-variants.{Connective, Rising, F
 use Rattle.showing.specs.Showing.{merged}
 use Rattle.timing.specs.Delay.{delayOf}
 use Rattle.timing.proofs.DelaySignals.{ton-delay, tof-delay}
+use Rattle.building.proofs.Built.{Built}
+use Rattle.lent_slots.specs.Lent.{Engine}
+use Rattle.delaying.proofs.DelayedExact.{delayed-exact}
+use Rattle.delay_parts.specs.DelayAt.{delayEngine}
+use Rattle.pulsing.specs.Turns.{pulseEngine}
+use Rattle.pulsing.proofs.PulsedExact.{pulsed-exact}
 use Rattle.merging.proofs.OneOperand.{none, pair-of-one, exact-of-one, inverted}
 use Rattle.grammar.specs.Kinds as kinds
-use Rattle.grammar.specs.Tree.{Unary, invert, rise, fall, ton, tof}
+use Rattle.grammar.specs.Tree.{Unary, invert, rise, fall, ton, tof, tp}
 use Rattle.applying.specs.PartCalls.{unaryOf, binaryOf, unaryIn, binaryIn, unaryFault, unaryExact, binaryExact}
 use Rattle.applying.specs.PartCalls.{judgedFor, exactFor, AND-table, OR-table}
 use Rattle.applying.specs.Merges.{operationOf, tableFor}
-use Rattle.applying.specs.Applied.{edged}
+use Rattle.applying.specs.Applied.{edged, engineOf}
 
 module _ (k : ℕ) where
   pub is-rising : k ≡ kinds.RISING → Rising ≡ operationOf k
@@ -98,25 +106,53 @@ of-two k l a b = go (eqb k kinds.AND) (eqb k kinds.OR) (eqb k kinds.SR) refl ref
         let w = is-reset-wins k (λ i. omega (arith, i, l)) (λ i. omega (arith, i, l)) (omega (arith, l, d, o)) (eqb-false k kinds.SR g) in
         rw (sym w, e, f, g)
 
--- the delays are the other operations of one operand
-pub of-delay : (k n : ℕ) → edged k ≡ false → unaryOf k n ≡ cond (eqb k kinds.TON) (ton n) (tof n)
+-- the timers are the other operations of one operand
+pub of-timer : (k n : ℕ) → edged k ≡ false → unaryOf k n ≡ cond (eqb k kinds.TON) (ton n) (cond (eqb k kinds.TOF) (tof n) (tp n))
 unfolding unaryOf
-of-delay k n t = go (eqb k kinds.NOT) (eqb k kinds.RISING) (eqb k kinds.FALLING) t
+of-timer k n t = go (eqb k kinds.NOT) (eqb k kinds.RISING) (eqb k kinds.FALLING) t
   where
     go : (x y z : Bool) → ((x || y) || z) ≡ false
-        → cond x invert (cond y rise (cond z fall (cond (eqb k kinds.TON) (ton n) (tof n)))) ≡ cond (eqb k kinds.TON) (ton n) (tof n)
+        → cond x invert (cond y rise (cond z fall (cond (eqb k kinds.TON) (ton n) (cond (eqb k kinds.TOF) (tof n) (tp n)))))
+        ≡ cond (eqb k kinds.TON) (ton n) (cond (eqb k kinds.TOF) (tof n) (tp n))
     go true y z h = not-both {b = true} refl h
     go false true z h = not-both {b = true} refl h
     go false false true h = not-both {b = true} refl h
     go false false false h = refl
 
-pub delay-judged : (r : Bool) (n : ℕ) (a : List ℕ) → firstOf (listFault a) (lengthFault n) ≡ unaryFault (cond r (ton n) (tof n)) a
-delay-judged true n a = refl
-delay-judged false n a = refl
+pub timer-judged : (x y : Bool) (n : ℕ) (a : List ℕ)
+    → firstOf (listFault a) (lengthFault n) ≡ unaryFault (cond x (ton n) (cond y (tof n) (tp n))) a
+timer-judged true y n a = refl
+timer-judged false true n a = refl
+timer-judged false false n a = refl
 
-pub delay-exact : (r : Bool) (n : ℕ) (a : List ℕ) → exactOfDelay (delayOf r n) n a ≡ unaryExact (cond r (ton n) (tof n)) a
-delay-exact true n a = rw (ton-delay n)
-delay-exact false n a = rw (tof-delay n)
+-- the engine that the code chooses
+module _ (k n : ℕ) where
+  pub a-delay : (eqb k kinds.TON || eqb k kinds.TOF) ≡ true → delayEngine (eqb k kinds.TON) n ≡ engineOf k n
+  unfolding engineOf
+  a-delay e = rw e
+
+  pub a-pulse : (eqb k kinds.TON || eqb k kinds.TOF) ≡ false → pulseEngine n ≡ engineOf k n
+  unfolding engineOf
+  a-pulse e = rw e
+
+-- what a timer's engine builds of an accepted list is its exact answer
+module _ (n : ℕ) (a before : List ℕ) (accepted : listFault a ≡ 0) (short : n ≤ M) (small : Words a) where
+  abbrev Builds : Engine → Unary → Type 0
+  Builds engine o = Built (unaryExact o a) before (engine a before .slot) (engine a before .made)
+
+  of-delay : (level : Bool) (signals : Signal → Signal) → delayOf level n ≡ signals
+      → Built (exactOfDelay signals n a) before (delayEngine level n a before .slot) (delayEngine level n a before .made)
+  unfolding delayEngine
+  of-delay level signals e = rw (← e) (delayed-exact level n a before accepted short small)
+
+  pub timer-builds : (k : ℕ) → edged k ≡ false → Builds (engineOf k n) (unaryOf k n)
+  unfolding engineOf
+  timer-builds k e = rw (of-timer k n e) (go (eqb k kinds.TON) (eqb k kinds.TOF))
+    where
+      go : (x y : Bool) → Builds (cond (x || y) (delayEngine x n) (pulseEngine n)) (cond x (ton n) (cond y (tof n) (tp n)))
+      go true y = of-delay true (TON n) (sym (ton-delay n))
+      go false true = of-delay false (TOF n) (sym (tof-delay n))
+      go false false = pulsed-exact n a before accepted short small
 
 module _ (w : ℕ) (a b : List ℕ) where
   pub judged-one : ltb (w % 16) kinds.AND ≡ true → unaryFault (unaryIn w) a ≡ judgedFor w a b

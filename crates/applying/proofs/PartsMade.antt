@@ -1,4 +1,4 @@
--- A part's operation in a slot, from what the merge or the delay there gives.
+-- A part's operation in a slot, from what the merge or the timer there gives.
 use Prim.Native.Nat.{ℕ, _+_, _/_, _%_, _≤_, _<_}
 use native.Mathlib.Omega.{arith}
 use mathlib.Core.Path.{_≡_, refl, sym, _∙_, ap}
@@ -24,13 +24,12 @@ use Rattle.sources.specs.declared.Memory.the-variants.{Right}
 use Rattle.sources.specs.declared.Source.{Source}
 use Rattle.sources.proofs.Sourcing.{slot-kept}
 use Rattle.merging.specs.Merging.{mayMerge, MergedAt}
-use Rattle.delay_parts.specs.DelayAt.{mayDelay, DelayedAt}
-use Rattle.delaying.specs.Turns.{State, lastState}
+use Rattle.lent_slots.specs.Lent.{Ended, Engine, mayBuild, BuiltAt}
 use Rattle.grammar.specs.Kinds as kinds
 use Rattle.code_words.specs.CodeWords.{constants}
 use Rattle.applying.specs.PartCalls.{partAnswer}
 use Rattle.applying.specs.Merges.{operationOf, tableFor}
-use Rattle.applying.specs.Applied.{edged, MergePart, DelayPart, PartMade, PartAt}
+use Rattle.applying.specs.Applied.{edged, engineOf, MergePart, TimerPart, PartMade, PartAt}
 
 -- what stands in a slot has at most 256 words
 made-small : (made : Made) → countIn (partAnswer (madeAnswer made)) ≤ mostWords
@@ -80,11 +79,11 @@ module _ (sheet work : List ℕ) (at : ℕ) (given : SlotAnswer) (answer : Writt
         applied = record { made = z .0; merges = rw (← i, ← j) (z .1 .1); answer-is = told };
       }
 
-  pub delay-part : (w d : ℕ) (level : Bool) (a : Source) → level ≡ eqb (w % 16) kinds.TON → d ≡ w / 16 % 4294967296
-      → mayMerge a a at (length work) ≡ true → DelayedAt level d sheet constants constants work a at given after
-      → DelayPart w sheet work a at answer after
-  unfolding mayDelay
-  delay-part w d level a i j h m = go (leb d M) refl
+  pub timer-part : (w d : ℕ) (engine : Engine) (a : Source) → engine ≡ engineOf (w % 16) (w / 16 % 4294967296) → d ≡ w / 16 % 4294967296
+      → mayMerge a a at (length work) ≡ true → BuiltAt engine d sheet constants constants work a at given after
+      → TimerPart w sheet work a at answer after
+  unfolding mayBuild
+  timer-part w d engine a i j h m = go (leb d M) refl
     where
       room : (apartFrom a at mostWords ≡ true) × (apartFrom a at mostWords ≡ true) × (at + mostWords ≤ length work)
       room = may a a at (length work) h
@@ -92,10 +91,10 @@ module _ (sheet work : List ℕ) (at : ℕ) (given : SlotAnswer) (answer : Writt
       begins : leb d M ≡ true → (leb d M && (leb (at + mostWords) (length work) && apartFrom a at mostWords)) ≡ true
       begins s = rw (s, le-leb (at + mostWords) (length work) (room .2)) (room .0)
 
-      go : (t : Bool) → leb d M ≡ t → DelayPart w sheet work a at answer after
+      go : (t : Bool) → leb d M ≡ t → TimerPart w sheet work a at answer after
       go true s =
           let z = m .built (begins s) in
-          let last : State = lastState level d (listAt sheet constants constants work a) (slotIn work at mostWords) in
+          let last : Ended = engine (listAt sheet constants constants work a) (slotIn work at mostWords) in
           let told : answer ≡ partAnswer (madeAnswer (last .made)) = e ∙ ap partAnswer (z .2) ∙ ap (λ x. partAnswer (madeAnswer x))
           (z .1 .0) in
           record {
@@ -139,9 +138,9 @@ module _ (w : ℕ) (sheet work : List ℕ) (a b : Source) (at : ℕ) (answer : W
         applied = rw (lt-leb kinds.AND (w % 16) l, e) (p .applied);
       }
 
-  pub by-delay : w % 16 < kinds.AND → edged (w % 16) ≡ false → DelayPart w sheet work a at answer after
+  pub by-timer : w % 16 < kinds.AND → edged (w % 16) ≡ false → TimerPart w sheet work a at answer after
       → PartMade w sheet work a b at answer after
-  by-delay l e p =
+  by-timer l e p =
       record {
         slot = p .slot;
         after-is = p .after-is;

@@ -7,19 +7,19 @@ use lib.Dec.{ltb, eqb}
 use Rattle.signals.specs.Answers.{firstOf}
 use Rattle.signals.specs.declared.Written.{Written}
 use Rattle.signals.specs.declared.Written.the-variants as written
-use Rattle.signals.specs.Signal.{Table, tableOf, NOT, rising, falling, SR, RS, TON, TOF, connective}
+use Rattle.signals.specs.Signal.{Table, tableOf, NOT, rising, falling, SR, RS, TON, TOF, TP, connective}
 use Rattle.signals.specs.Words.{listFault, pairFault}
 use Rattle.operations.specs.Calls.{lengthFault, exactOfOne, exactOfTwo, exactOfDelay}
 use Rattle.building.specs.declared.SlotAnswer.{SlotAnswer}
 use Rattle.building.specs.declared.SlotAnswer.the-variants.{Stands, TooLong, TooLate, NotBegun}
 use Rattle.grammar.specs.Kinds as kinds
-use Rattle.grammar.specs.Tree.{Unary, Binary, invert, rise, fall, ton, tof, and, or, sr, rs}
+use Rattle.grammar.specs.Tree.{Unary, Binary, invert, rise, fall, ton, tof, tp, and, or, sr, rs}
 
 -- the operators by their kind, that of a timer with its length
 unfoldable pub unaryOf : ℕ → ℕ → Unary
 unaryOf kind n =
     cond (eqb kind kinds.NOT) invert
-    (cond (eqb kind kinds.RISING) rise (cond (eqb kind kinds.FALLING) fall (cond (eqb kind kinds.TON) (ton n) (tof n))))
+    (cond (eqb kind kinds.RISING) rise (cond (eqb kind kinds.FALLING) fall (cond (eqb kind kinds.TON) (ton n) (cond (eqb kind kinds.TOF) (tof n) (tp n)))))
 
 unfoldable pub binaryOf : ℕ → Binary
 binaryOf kind = cond (eqb kind kinds.AND) and (cond (eqb kind kinds.OR) or (cond (eqb kind kinds.SR) sr rs))
@@ -38,6 +38,7 @@ unaryFault rise l = listFault l
 unaryFault fall l = listFault l
 unaryFault (ton d) l = firstOf (listFault l) (lengthFault d)
 unaryFault (tof d) l = firstOf (listFault l) (lengthFault d)
+unaryFault (tp d) l = firstOf (listFault l) (lengthFault d)
 
 abbrev pub unaryExact : Unary → List ℕ → List ℕ
 unaryExact invert l = exactOfOne NOT l
@@ -45,6 +46,7 @@ unaryExact rise l = exactOfOne rising l
 unaryExact fall l = exactOfOne falling l
 unaryExact (ton d) l = exactOfDelay (TON d) d l
 unaryExact (tof d) l = exactOfDelay (TOF d) d l
+unaryExact (tp d) l = exactOfDelay (TP d) d l
 
 abbrev pub AND-table : Table
 AND-table = tableOf _&&_

@@ -6,7 +6,7 @@ ghost use lib.ListN.{length};
 ghost use Rattle.merging.specs.Merging.{mayMerge};
 ghost use Rattle.applying.specs.PartCalls.{partAnswer};
 ghost use Rattle.applying.specs.Merges.{operationOf, tableFor};
-ghost use Rattle.applying.specs.Applied.{MergePart, DelayPart, PartMade, PartAt};
+ghost use Rattle.applying.specs.Applied.{MergePart, TimerPart, PartMade, PartAt};
 use building::SlotAnswer;
 use building::WORDS;
 use code_words::CONSTANTS;
@@ -92,26 +92,31 @@ fn merged_at(kind: u64, sheet: &[u8], work: &mut [u32], a: Source, b: Source, at
     ))
 }
 
-// The delay of a list.
-fn delayed_at(code: u64, sheet: &[u8], work: &mut [u32], a: Source, at: u32) -> Written
+// The timer of a list.
+fn timed_at(code: u64, sheet: &[u8], work: &mut [u32], a: Source, at: u32) -> Written
     requires { ⌜ mayMerge a a at (length (now work)) ≡ true ⌝ }
-    ensures { λ r. ⌜ DelayPart code (now (sheet .entry)) (now (work .entry)) a at r (now (work .exit)) ⌝ }
+    ensures { λ r. ⌜ TimerPart code (now (sheet .entry)) (now (work .entry)) a at r (now (work .exit)) ⌝ }
 {
     let ticks = (code / 16 % 4294967296) as u32;
-    let on_delay = code % 16 == kind::TON;
-    part_answer(delay_parts::delay_at(
-        on_delay,
-        Length(ticks),
-        sheet,
-        &CONSTANTS,
-        &CONSTANTS,
-        work,
-        a,
-        at,
-    ))
+    let d = Length(ticks);
+    let kind = code % 16;
+    if (kind == kind::TON) | (kind == kind::TOF) {
+        let on_delay = kind == kind::TON;
+        return part_answer(delay_parts::delay_at(
+            on_delay,
+            d,
+            sheet,
+            &CONSTANTS,
+            &CONSTANTS,
+            work,
+            a,
+            at,
+        ));
+    }
+    part_answer(pulses::pulse_at(d, sheet, &CONSTANTS, &CONSTANTS, work, a, at))
 }
 
-// The operation: of the first list where it has one operand, as a merge with the list that is always down or as a delay; else of both.
+// The operation: of the first list where it has one operand, as a merge with the list that is always down or as a timer; else of both.
 fn operate(code: u64, sheet: &[u8], work: &mut [u32], a: Source, b: Source, at: u32) -> Written
     requires { ⌜ mayMerge a b at (length (now work)) ≡ true ⌝ }
     ensures { λ r. ⌜ PartMade code (now (sheet .entry)) (now (work .entry)) a b at r (now (work .exit)) ⌝ }
@@ -123,7 +128,7 @@ fn operate(code: u64, sheet: &[u8], work: &mut [u32], a: Source, b: Source, at: 
     if (kind == kind::NOT) | (kind == kind::RISING) | (kind == kind::FALLING) {
         return merged_at(kind, sheet, work, a, NONE, at);
     }
-    delayed_at(code, sheet, work, a, at)
+    timed_at(code, sheet, work, a, at)
 }
 
 // The operation on lists where they stand, in the slot of 256 words from a place of the work area on: 5, or 6, or the words that then stand

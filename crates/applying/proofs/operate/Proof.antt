@@ -1,7 +1,7 @@
 -- `applying::operate` makes the operation that the code word asks for.
 use borrow.Author.Needs.{needs}
 use mathlib.Core.Path.{_≡_, refl, sym}
-use Rattle.applying.proofs.PartsMade.{may-one, may-alone, by-two, by-one, by-delay}
+use Rattle.applying.proofs.PartsMade.{may-one, may-alone, by-two, by-one, by-timer}
 use Rattle.applying.proofs.operate.Statement.{statement}
 use Rattle.applying.proofs.operate.Tie as tie
 
@@ -24,15 +24,15 @@ returns-2 : tie.Need-returns-2
 returns-2 c = by-one _ _ _ _ _ _ _ _ (c .before .before .before .before .before .if1 .left)
     (c .before .before .before .before .if2 .taken) (c .before .before .merged-at2 .ensures)
 
-delayed-at-requires : tie.Need-delayed-at-requires
-delayed-at-requires c κs = may-alone _ _ _ _ (c .before .before .before .before .before .pre)
+timed-at-requires : tie.Need-timed-at-requires
+timed-at-requires c κs = may-alone _ _ _ _ (c .before .before .before .before .before .pre)
 
 same-length-3 : tie.Need-same-length-3
 same-length-3 c = search needs
 
 returns-3 : tie.Need-returns-3
-returns-3 c = by-delay _ _ _ _ _ _ _ _ (c .before .before .before .before .before .if1 .left)
-    (c .before .before .before .before .if2 .left) (c .before .before .delayed-at .ensures)
+returns-3 c = by-timer _ _ _ _ _ _ _ _ (c .before .before .before .before .before .if1 .left)
+    (c .before .before .before .before .if2 .left) (c .before .before .timed-at .ensures)
 
 pub operate-spec : {M : Type 1} → statement M
 operate-spec =
@@ -44,6 +44,6 @@ operate-spec =
     merged-at-requires-2
     same-length-2
     returns-2
-    delayed-at-requires
+    timed-at-requires
     same-length-3
     returns-3)
