@@ -32,7 +32,10 @@ fn shown_part(text: &[u8], word: u64) {
     let value = word / 16;
     io::write_all(
         1,
-        notation::name(b" 0, 1, , !, ^, ~, TON, TOF, TP, ., +, SR, RS,", kind as usize),
+        notation::name(
+            b" 0, 1, , !, ^, ~, TON, TOF, TP, ., +, SR, RS,",
+            kind as usize,
+        ),
     );
     io::write_all(1, part_name(text, kind, value));
     shown_value(kind, value);
