@@ -1,4 +1,7 @@
-"""The reader of formulas, by document 01's grammar, with document 02's TP. A part is (kind, value): ("name", text), ("TON", length), ("+", None)."""
+"""The reader of formulas, by the grammar of document 01 with document 02's TP.
+
+A part is (kind, value): ("name", text), ("TON", length), ("+", None).
+"""
 import re
 import sys
 from signals import M
