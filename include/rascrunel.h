@@ -98,6 +98,10 @@ uint32_t sgl_rs(const uint32_t *s, size_t s_words, const uint32_t *r, size_t r_w
 uint32_t sgl_ton(uint32_t d, const uint32_t *f, size_t f_words, uint32_t *out, size_t out_words);
 uint32_t sgl_tof(uint32_t d, const uint32_t *f, size_t f_words, uint32_t *out, size_t out_words);
 
+/* The pulse timer TP(d,f): up from each rising instant of f for d ticks, those that come while a pulse runs ignored.
+ * Faults of the list, 8, 5, 6, 7. */
+uint32_t sgl_tp(uint32_t d, const uint32_t *f, size_t f_words, uint32_t *out, size_t out_words);
+
 /* Begins a sheet: writes the one without signals, 7 bytes. Fault 7. */
 uint32_t sgl_begin(uint8_t *out, size_t out_bytes);
 

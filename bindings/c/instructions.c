@@ -25,6 +25,8 @@ int main(int argc, char **argv) {
             got = sgl_connective(8, a, n, b, n, out, SGL_LIST_WORDS);
         else if (!strcmp(argv[1], "ton"))
             got = sgl_ton(2, a, n, out, SGL_LIST_WORDS);
+        else if (!strcmp(argv[1], "tp"))
+            got = sgl_tp(2, a, n, out, SGL_LIST_WORDS);
         else if (!strcmp(argv[1], "sr"))
             got = sgl_sr(a, n, b, n, out, SGL_LIST_WORDS);
         else if (!strcmp(argv[1], "implies"))

@@ -1,4 +1,4 @@
-/* Document 01's cases through the header: every exported function, from C. */
+/* Document 01's cases and document 02's pulse timer through the header: every exported function, from C. */
 #include <stdio.h>
 #include <string.h>
 #include "rascrunel.h"
@@ -29,7 +29,8 @@ static void words(int line, uint32_t got, const uint32_t *want, uint32_t count) 
 #define WORDS(got, ...) do { const uint32_t want_[] = {__VA_ARGS__}; words(__LINE__, (got), want_, sizeof want_ / 4); } while (0)
 
 static const uint32_t f[] = {0, 23, 36}, e[] = {0, 22}, l[] = {0, 21}, one[] = {1}, none[] = {0}, last[] = {0, 4294967294u},
-    loose[] = {0, 16, 23, 27, 36}, bad2[] = {2}, bad3[] = {0, 23, 21}, bad4[] = {0, 20}, up[] = {0, 4294967295u};
+    loose[] = {0, 16, 23, 27, 36}, bad2[] = {2}, bad3[] = {0, 23, 21}, bad4[] = {0, 20}, up[] = {0, 4294967295u},
+    two[] = {0, 22, 34};
 static const uint8_t printed[] = {83, 71, 76, 1, 0, 1, 0, 97, 0, 0, 0, 0, 0, 0, 0, 3, 0, 0, 0, 0, 0, 23, 0, 0, 0, 36, 0, 0, 0};
 
 static void lists(void) {
@@ -76,6 +77,19 @@ static void operations(void) {
     WORDS(sgl_tof(2, N(f), OUT), 0, 23, 44);
     WORDS(sgl_tof(2, N(e), OUT), 0, 23, 30);
     IS(sgl_tof(1, N(last), OUT), REFUSED(6));
+    WORDS(sgl_tp(3, N(f), OUT), 0, 23, 32);
+    WORDS(sgl_tp(10, N(f), OUT), 0, 23, 60);
+    WORDS(sgl_tp(3, N(e), OUT), 0, 23, 32);
+    WORDS(sgl_tp(3, N(l), OUT), 0);
+    WORDS(sgl_tp(3, N(one), OUT), 0);
+    WORDS(sgl_tp(0, N(f), OUT), 0);
+    WORDS(sgl_tp(2, N(two), OUT), 0, 23, 28, 35, 40);
+    WORDS(sgl_tp(3, N(two), OUT), 0, 23, 44);
+    WORDS(sgl_tp(4, N(two), OUT), 0, 23, 36);
+    IS(sgl_tp(1, N(last), OUT), REFUSED(6));
+    IS(sgl_tp(SGL_M + 1, N(f), OUT), REFUSED(8));
+    IS(sgl_tp(SGL_M + 1, N(bad4), OUT), REFUSED(4));
+    IS(sgl_tp(3, N(f), out, 2), REFUSED(7));
 }
 
 static void place(int line, uint64_t got, uint32_t fault, uint32_t start, uint32_t count) {
@@ -109,12 +123,15 @@ static void sheets(void) {
 
 static void formulas(void) {
     WORDS(sgl_evaluate(N(printed), TEXT("TON(2,a)"), N(work), OUT), 0, 31, 36);
+    WORDS(sgl_evaluate(N(printed), TEXT("TP(2,a)"), N(work), OUT), 0, 23, 28);
+    IS(sgl_evaluate(N(printed), TEXT("TP(2a)"), N(work), OUT), REFUSED(11));
     IS(sgl_evaluate(N(printed), TEXT("a+"), N(work), OUT), REFUSED(11));
     IS(sgl_evaluate(N(printed), TEXT("b"), N(work), OUT), REFUSED(13));
     IS(sgl_evaluate(N(printed), TEXT("a"), work, SGL_WORK_WORDS - 1, OUT), REFUSED(18));
     IS(sgl_evaluate(N(printed), TEXT("a"), N(work), out, 2), REFUSED(7));
     IS(sgl_claim(N(printed), TEXT("a"), TEXT("TON(2,a)"), N(work)), 2 * 5);
     IS(sgl_claim(N(printed), TEXT("TON(2,a)"), TEXT("a"), N(work)), 0);
+    IS(sgl_claim(N(printed), TEXT("a"), TEXT("TP(3,a)"), N(work)), 2 * 8);
     IS(sgl_claim(N(printed), TEXT("1"), TEXT("a"), N(work)), 1);
     IS(sgl_claim(N(printed), TEXT(""), TEXT("a"), N(work)), 10ull << 40);
 }

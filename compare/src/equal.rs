@@ -108,12 +108,13 @@ macro_rules! list_calls {
     };
 }
 
-pub const LIST_CALLS: [ListCall; 9] = list_calls![
+pub const LIST_CALLS: [ListCall; 10] = list_calls![
     |given, out| not(&given.a, out),
     |given, out| rising(&given.a, out),
     |given, out| falling(&given.a, out),
     |given, out| ton(given.number, &given.a, out),
     |given, out| tof(given.number, &given.a, out),
+    |given, out| tp(given.number, &given.a, out),
     |given, out| connective(given.number, &given.a, &given.b, out),
     |given, out| sr(&given.a, &given.b, out),
     |given, out| rs(&given.a, &given.b, out),

@@ -20,6 +20,7 @@ mod c {
         pub fn sgl_falling(a: List, a_words: usize, out: Out, out_words: usize) -> u32;
         pub fn sgl_ton(d: u32, f: List, f_words: usize, out: Out, out_words: usize) -> u32;
         pub fn sgl_tof(d: u32, f: List, f_words: usize, out: Out, out_words: usize) -> u32;
+        pub fn sgl_tp(d: u32, f: List, f_words: usize, out: Out, out_words: usize) -> u32;
         pub fn sgl_connective(
             table: u32,
             a: List,
@@ -83,6 +84,10 @@ pub fn ton(length: u32, f: &[u32], out: &mut [u32]) -> u32 {
 
 pub fn tof(length: u32, f: &[u32], out: &mut [u32]) -> u32 {
     unsafe { c::sgl_tof(length, f.as_ptr(), f.len(), out.as_mut_ptr(), out.len()) }
+}
+
+pub fn tp(length: u32, f: &[u32], out: &mut [u32]) -> u32 {
+    unsafe { c::sgl_tp(length, f.as_ptr(), f.len(), out.as_mut_ptr(), out.len()) }
 }
 
 pub fn connective(bits: u32, a: &[u32], b: &[u32], out: &mut [u32]) -> u32 {

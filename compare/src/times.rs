@@ -147,6 +147,7 @@ impl Times {
         call!(|out| rs(&a, &b, &mut out));
         call!(|out| ton(2, &a, &mut out));
         call!(|out| tof(2, &a, &mut out));
+        call!(|out| tp(2, &a, &mut out));
         call!(|out| implies(&a, &a));
     }
 }

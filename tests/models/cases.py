@@ -1,4 +1,4 @@
-"""The lines that the program `cases` is to print: each case of its input, by document 01.
+"""The lines that the program `cases` is to print: each case of its input, by documents 01 and 02.
 
 A case is a call and its arguments (crates/fields/src/notation.rt says how they are written). A slot (`not_in` and its like) is no notion of
 document 01: what it keeps is said at `operate`.
@@ -8,7 +8,7 @@ import struct
 import formulas
 import sheets
 from signals import (M, Signal, answer_fault, connective, falling, implication, list_fault, listed, negation, rising, rs,
-                     sr, tof, ton)
+                     sr, tof, ton, tp)
 
 PIECE = re.compile(rb'"([^"]*)"(?:\*(\d+))?|([bh]?)(\d+)(?:\+(\d+))?(?:\*(\d+))?|@(\d*)|-')
 PUT = {b"b": "<B", b"h": "<H", b"": "<I"}
@@ -133,13 +133,13 @@ def operation(name, given):
     slot, name = name.endswith("_in"), name.removesuffix("_in")
     *given, room = given
     d, table = 0, None
-    if name in ("ton", "tof"):
+    if name in ("ton", "tof", "tp"):
         d, *given = number_of(given[0]), *given[1:]
     if name == "connective":
         digits, *given = given
         table = [[int(chr(digit)) for digit in row] for row in (digits[:2], digits[2:])]
     call = {"not": negation, "rising": rising, "falling": falling, "sr": sr, "rs": rs, "ton": lambda f: ton(d, f),
-            "tof": lambda f: tof(d, f), "connective": lambda f, g: connective(table, f, g)}[name]
+            "tof": lambda f: tof(d, f), "tp": lambda f: tp(d, f), "connective": lambda f, g: connective(table, f, g)}[name]
     return operate(call, d, list(map(words_of, given)), number_of(room), slot)
 
 
@@ -191,8 +191,8 @@ def evaluated(parts, sheet):
             words = [int(kind)]
         elif kind in ("!", "^", "~"):
             words = {"!": negation, "^": rising, "~": falling}[kind](stack.pop())
-        elif kind in ("TON", "TOF"):
-            words = {"TON": ton, "TOF": tof}[kind](value, stack.pop())
+        elif kind in ("TON", "TOF", "TP"):
+            words = {"TON": ton, "TOF": tof, "TP": tp}[kind](value, stack.pop())
         else:
             g, f = stack.pop(), stack.pop()
             words = {"+": lambda: connective(OR, f, g), ".": lambda: connective(AND, f, g),

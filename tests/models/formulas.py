@@ -1,4 +1,7 @@
-"""The reader of formulas, by document 01's grammar. A part is (kind, value): ("name", text), ("TON", length), ("+", None)."""
+"""The reader of formulas, by the grammar of document 01 with document 02's TP.
+
+A part is (kind, value): ("name", text), ("TON", length), ("+", None).
+"""
 import re
 import sys
 from signals import M
@@ -61,7 +64,7 @@ class Reader:
                 self.sum(depth + 1)
                 self.need(")")
                 return self.part(latch, None, depth)
-        for timer in ("TON", "TOF"):
+        for timer in ("TON", "TOF", "TP"):
             if self.skip(timer + "("):
                 length = int(self.match("0|[1-9][0-9]*"))
                 self.lengths.append(length)

@@ -1,4 +1,4 @@
-"""Signals, lists and operations by the sentences of document 01.
+"""Signals, lists and operations by the sentences of document 01, TP by those of document 02.
 
 A moment is a number: gap k is 2k, instant k is 2k - 1. A signal is constant between its changes, so "some moment
 from a to b" is asked by way of the last moment up to b that is up, or down; it lies just before a change, or is b.
@@ -100,6 +100,15 @@ def ton(d, f):
 
 def tof(d, f):
     return listed(lambda m: f.last(True, m) >= max(0, m - 2 * d), delayed(d, f))
+
+
+def tp(d, f):
+    """A rising instant a starts a pulse, up from a to before a+d; rising instants before a+d are ignored."""
+    starts = []
+    for a in f.dates:
+        if f.up(2 * a - 1) and not f.up(2 * a - 2) and not any(a < start + d for start in starts):
+            starts.append(a)
+    return listed(lambda m: any(a <= (m + 1) // 2 < a + d for a in starts), delayed(d, f))
 
 
 def answer_fault(words, room=256):

@@ -1,6 +1,6 @@
-"""The latches and timers of signals.py against document 01's sentences taken moment by moment, on random short lists."""
+"""The latches and timers of signals.py against the documents' sentences taken moment by moment, on random short lists."""
 import random
-from signals import Signal, rs, sr, tof, ton
+from signals import Signal, rs, sr, tof, ton, tp
 
 
 def moments(t1, t, with_t1):
@@ -16,6 +16,16 @@ def window(d, t):
 def held(s, r, t, with_t1):
     """Some t1 < t, in t's own gap too, has s, and r is down from it on."""
     return any(s(t1) and not any(map(r, moments(t1, t, with_t1))) for t1 in range(t + (t % 2 == 0)))
+
+
+def pulsed(d, f, t):
+    """Up at t, stepping from instant to instant: how many ticks of the pulse are left."""
+    left = 0
+    for k in range(1, (t + 1) // 2 + 1):
+        left = max(0, left - 1)
+        if left == 0 and f(2 * k - 1) and not f(2 * k - 2):
+            left = d
+    return left > 0
 
 
 def random_list():
@@ -38,6 +48,7 @@ def agreeing(pairs):
             (rs(f, g), lambda t: s(t) and not r(t) or held(s, r, t, True)),
             (ton(d, f), lambda t: (t + 1) // 2 >= d and all(map(s, window(d, t)))),
             (tof(d, f), lambda t: any(map(s, window(d, t)))),
+            (tp(d, f), lambda t: pulsed(d, s, t)),
         ]
         agree += all(Signal(made).up(t) == stepped(t) for made, stepped in cases for t in range(61))
     return agree

@@ -90,6 +90,10 @@ pub fn tof(d: u32, f: &[u32], out: &mut [u32]) -> Result<usize, Fault> {
     counted(unsafe { ffi::sgl_tof(d, f.as_ptr(), f.len(), out.as_mut_ptr(), out.len()) })
 }
 
+pub fn tp(d: u32, f: &[u32], out: &mut [u32]) -> Result<usize, Fault> {
+    counted(unsafe { ffi::sgl_tp(d, f.as_ptr(), f.len(), out.as_mut_ptr(), out.len()) })
+}
+
 pub fn begin(out: &mut [u8]) -> Result<usize, Fault> {
     counted(unsafe { ffi::sgl_begin(out.as_mut_ptr(), out.len()) })
 }

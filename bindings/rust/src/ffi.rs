@@ -22,6 +22,7 @@ extern "C" {
     pub fn sgl_rs(s: *const u32, s_words: usize, r: *const u32, r_words: usize, out: *mut u32, out_words: usize) -> u32;
     pub fn sgl_ton(d: u32, f: *const u32, f_words: usize, out: *mut u32, out_words: usize) -> u32;
     pub fn sgl_tof(d: u32, f: *const u32, f_words: usize, out: *mut u32, out_words: usize) -> u32;
+    pub fn sgl_tp(d: u32, f: *const u32, f_words: usize, out: *mut u32, out_words: usize) -> u32;
     pub fn sgl_begin(out: *mut u8, out_bytes: usize) -> u32;
     pub fn sgl_sheet_fault(sheet: *const u8, sheet_bytes: usize) -> u32;
     pub fn sgl_lookup(sheet: *const u8, sheet_bytes: usize, name: *const u8, name_bytes: usize) -> u64;

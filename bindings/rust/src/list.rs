@@ -95,4 +95,9 @@ impl List {
     pub fn tof(&self, d: u32) -> Result<List, Fault> {
         written(|out| calls::tof(d, &self.words, out))
     }
+
+    /// The pulse timer: up from each rising instant for d ticks, those that come while a pulse runs ignored.
+    pub fn tp(&self, d: u32) -> Result<List, Fault> {
+        written(|out| calls::tp(d, &self.words, out))
+    }
 }

@@ -3,13 +3,14 @@ use rascrunel::{Checker, Fault, Formula, Sheet, STACK_BYTES};
 use std::thread;
 
 // What opens a level, what stands in the innermost, and what closes a level.
-const SHAPES: [(&str, &str, &str); 12] = [
+const SHAPES: [(&str, &str, &str); 13] = [
     ("(", "a", ")"),
     ("!", "a", ""),
     ("(!", "a", ")"),
     ("SR(", "a", ",a)"),
     ("SR(a,", "a", ")"),
     ("TON(0,", "a", ")"),
+    ("TP(0,", "a", ")"),
     ("a+", "a", ""),
     ("a.", "a", ""),
     ("(a+", "a", ")"),

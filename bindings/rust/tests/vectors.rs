@@ -1,4 +1,4 @@
-// Document 01's cases, and its examples of faults, through the bindings.
+// Document 01's cases, its examples of faults, and document 02's pulse timer, through the bindings.
 use rascrunel::{calls, Checker, Fault, Formula, List, Sheet, Verdict, M};
 
 fn list(words: &[u32]) -> List {
@@ -36,6 +36,28 @@ fn checked_by_hand() {
     let last = list(&[0, 4294967294]);
     assert_eq!(last.ton(1).unwrap().words(), [0]);
     assert_eq!(last.tof(1), Err(Fault::ChangesAfterM));
+}
+
+#[test]
+fn pulses() {
+    assert_eq!(f().tp(3).unwrap().words(), [0, 23, 32]);
+    assert_eq!(f().tp(10).unwrap().words(), [0, 23, 60]);
+    assert_eq!(e().tp(3).unwrap().words(), [0, 23, 32]);
+    assert_eq!(l().tp(3).unwrap().words(), [0]);
+    assert_eq!(list(&[1]).tp(3).unwrap().words(), [0]);
+    assert_eq!(f().tp(0).unwrap().words(), [0]);
+    // a second rise before the pulse ends, where it ends, after it
+    assert_eq!(list(&[0, 22, 30]).tp(3).unwrap().words(), [0, 23, 32]);
+    assert_eq!(list(&[0, 22, 34]).tp(3).unwrap().words(), [0, 23, 44]);
+    assert_eq!(list(&[0, 22, 38]).tp(3).unwrap().words(), [0, 23, 32, 39, 48]);
+    let last = list(&[0, 4294967294]);
+    assert_eq!(last.tp(1), Err(Fault::ChangesAfterM));
+    assert_eq!(f().tp(M + 1), Err(Fault::LengthAboveM));
+    let apart = |n: u32| -> Vec<u32> { std::iter::once(0).chain((1..=n).map(|i| 4 * (10 * i) + 2)).collect() };
+    assert_eq!(list(&apart(128)).tp(3), Err(Fault::TooLong));
+    assert_eq!(list(&apart(127)).tp(3).unwrap().words().len(), 255);
+    assert_eq!(calls::tp(3, f().words(), &mut [0; 2]), Err(Fault::ShortOutput));
+    assert_eq!(calls::tp(M + 1, &[0, 20], &mut [0; 2]), Err(Fault::NoChange));
 }
 
 #[test]
@@ -152,6 +174,10 @@ fn formulas_and_claims() {
     let mut words = |text: &str| checker.evaluate(&sheet, &Formula::from(text)).map(|l| l.words().to_vec());
     assert_eq!(words("a"), Ok(vec![0, 23, 36]));
     assert_eq!(words("TON(2,a)"), Ok(vec![0, 31, 36]));
+    assert_eq!(words("TP(2,a)"), Ok(vec![0, 23, 28]));
+    assert_eq!(words("TP(2,TON(1,a))"), Ok(vec![0, 27, 32]));
+    assert_eq!(words("TP"), Err(Fault::Grammar));
+    assert_eq!(words("TP(1073741824,a)"), Err(Fault::LengthAboveM));
     assert_eq!(words("SR(^a,~a)"), Ok(vec![0, 23, 36]));
     assert_eq!(words("!a+a"), Ok(vec![1]));
     assert_eq!(words(""), Err(Fault::FormulaLength));
@@ -167,6 +193,8 @@ fn formulas_and_claims() {
     let mut claim = |f: &str, g: &str| checker.claim(&sheet, &Formula::from(f), &Formula::from(g));
     assert_eq!(claim("a", "TON(2,a)"), Ok(Verdict::FailsAt(5)));
     assert_eq!(claim("TON(2,a)", "a"), Ok(Verdict::Holds));
+    assert_eq!(claim("a", "TP(3,a)"), Ok(Verdict::FailsAt(8)));
+    assert_eq!(claim("TP(3,a)", "a"), Ok(Verdict::Holds));
     assert_eq!(claim("1", "a"), Ok(Verdict::FailsAfter(0)));
     assert_eq!(claim("a", "b"), Err(Fault::UnknownName));
     let mut out = [7; 4];

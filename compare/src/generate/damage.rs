@@ -58,7 +58,7 @@ const LENGTHS: [&str; 8] =
     ["1073741823", "1073741824", "4294967297", "99999999999999999999", "1000000000", "00", "05", ""];
 
 fn damage_formula(random: &mut Random, text: &mut Vec<u8>) {
-    const LETTERS: &[u8] = b"abz019!^~().+,SRTONF \0\xff\n";
+    const LETTERS: &[u8] = b"abz019!^~().+,SRTONFP \0\xff\n";
     if text.is_empty() {
         return;
     }
@@ -75,7 +75,7 @@ fn damage_formula(random: &mut Random, text: &mut Vec<u8>) {
         }
         7 => text.extend_from_slice(random.pick(&[".nosuch", "+nosuch9", ".abcdefghi", ".A", "+00", "."]).as_bytes()),
         8 | 9 => {
-            let block = random.pick(&["TON", "TOF"]);
+            let block = random.pick(&["TON", "TOF", "TP"]);
             let length = random.pick(&LENGTHS);
             *text = format!("{block}({length},{own})").into_bytes();
         }
@@ -86,7 +86,7 @@ fn damage_formula(random: &mut Random, text: &mut Vec<u8>) {
             let n = random.between(8, 500);
             *text = ["(".repeat(n), own, ")".repeat(n)].concat().into_bytes();
         }
-        14 => *text = format!("{}({own},{own})", random.pick(&["SR", "RS", "SS", "TO"])).into_bytes(),
+        14 => *text = format!("{}({own},{own})", random.pick(&["SR", "RS", "SS", "TO", "TP"])).into_bytes(),
         // at the longest formula
         15 => *text = ["!".repeat(random.between(1022, 1026).saturating_sub(own.len())), own].concat().into_bytes(),
         _ => text.truncate(at),

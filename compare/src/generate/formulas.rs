@@ -2,7 +2,7 @@
 use super::lists::{M, STEP};
 use crate::random::Random;
 
-/// The lengths of the delays in a formula.
+/// The lengths of the timers in a formula.
 #[derive(Clone, Copy)]
 pub enum Lengths {
     /// From 0 to this.
@@ -69,13 +69,13 @@ impl Writer<'_> {
     }
 
     fn write_one(&mut self, text: &mut String, parts: usize) {
-        match self.random.below(5) {
+        match self.random.below(6) {
             kind @ 0..=2 => {
                 text.push(['!', '^', '~'][kind]);
                 self.write(text, parts, Place::Factor);
             }
             kind => {
-                let block = ["TON", "TOF"][kind - 3];
+                let block = ["TON", "TOF", "TP"][kind - 3];
                 *text += &format!("{block}({},", length(self.random, self.lengths));
                 self.write(text, parts, Place::Sum);
                 text.push(')');

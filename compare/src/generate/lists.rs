@@ -36,6 +36,18 @@ pub fn list(random: &mut Random, words: usize, dates: Dates) -> Vec<u32> {
     list
 }
 
+/// One value but for lone instants: of such a list a timer gives up to two words for each.
+pub fn lone(random: &mut Random, words: usize) -> Vec<u32> {
+    let value = random.below(2);
+    let mut list = vec![value as u32];
+    let mut date = 0;
+    while list.len() < words {
+        date += random.between(1, 40);
+        list.push((4 * date + 2 - value) as u32);
+    }
+    list
+}
+
 /// Down, then up and down in turn, a change in each stretch of 20 ticks, from a date of its first half or of its second half on.
 pub fn turns(random: &mut Random, words: usize, half: usize) -> Vec<u32> {
     let word = |i: usize, random: &mut Random| match i {

@@ -93,7 +93,8 @@ fn sheet(random: &mut Random, set: Set) -> (Vec<u8>, Vec<String>) {
     for number in 0..count {
         let name = name(random, number);
         let (words, dates) = if long { (random.between(150, MOST_WORDS), Dates::By(1000)) } else { shape(random, set) };
-        let list = lists::list(random, words, dates);
+        let list =
+            if long && random.one_in(3) { lists::lone(random, words) } else { lists::list(random, words, dates) };
         let mut field = [0; 8];
         field[..name.len()].copy_from_slice(name.as_bytes());
         bytes.extend(field);
@@ -123,12 +124,14 @@ fn pair(writer: &mut Writer, set: Set) -> (String, String) {
     let parts = writer.random.between(least, most);
     let h = writer.formula(parts);
     let length = formulas::length(writer.random, writer.lengths);
-    match writer.random.below(16) {
+    match writer.random.below(20) {
         0 => (h.clone(), h),
         1 => (format!("({h}).{}", writer.leaf()), h),
         2 => (h.clone(), format!("{h}+{}", writer.leaf())),
         3 => (format!("TON({length},{h})"), h),
         4 => (h.clone(), format!("TOF({length},{h})")),
+        5 => (format!("TP({length},{h})"), format!("TOF({length},{h})")),
+        6 => (format!("^TP({length},{h})"), h),
         _ => {
             let parts = writer.random.between(least, most);
             (h, writer.formula(parts))
@@ -161,7 +164,7 @@ pub struct Given {
 
 pub fn given(random: &mut Random) -> Given {
     let (words, dates) = shape(random, Set::Mixed);
-    let a = lists::list(random, words, dates);
+    let a = if random.one_in(8) { lists::lone(random, words) } else { lists::list(random, words, dates) };
     // the second like the first, or of its own kind
     let (other_words, other_dates) = shape(random, Set::Mixed);
     let other_dates = if random.one_in(2) { dates } else { other_dates };

@@ -122,15 +122,19 @@ impl Reader<'_> {
     }
 
     fn timer(&mut self, depth: usize) -> Result<(), Wrong> {
-        let on_delay = self.skip(b"TON(");
-        if !on_delay {
-            self.need(b"TOF(")?;
-        }
+        let timer = if self.skip(b"TON(") {
+            One::Ton
+        } else if self.skip(b"TOF(") {
+            One::Tof
+        } else {
+            self.need(b"TP(")?;
+            One::Tp
+        };
         let length = self.length()?;
         self.need(b",")?;
         self.sum(depth + 1)?;
         self.need(b")")?;
-        self.put(Part::One(if on_delay { One::Ton(length) } else { One::Tof(length) }), depth);
+        self.put(Part::One(timer(length)), depth);
         Ok(())
     }
 

@@ -7,6 +7,7 @@ mod delays;
 mod formulas;
 mod lists;
 mod operations;
+mod pulses;
 mod sheets;
 
 use lists::{judge, M, WORDS};
@@ -37,7 +38,7 @@ fn deliver(slot: &[u32; WORDS], count: usize, out: &mut [u32]) -> Result<usize, 
 /// Faults of the list, 8, 5, 6, 7.
 fn call_of_one(operation: One, a: &[u32], out: &mut [u32]) -> Result<usize, u32> {
     judge(a)?;
-    if let One::Ton(length) | One::Tof(length) = operation {
+    if let One::Ton(length) | One::Tof(length) | One::Tp(length) = operation {
         if length > M {
             return Err(8);
         }
@@ -87,6 +88,11 @@ pub fn ton(length: u32, f: &[u32], out: &mut [u32]) -> u32 {
 #[inline(never)]
 pub fn tof(length: u32, f: &[u32], out: &mut [u32]) -> u32 {
     packed(call_of_one(One::Tof(length), f, out))
+}
+
+#[inline(never)]
+pub fn tp(length: u32, f: &[u32], out: &mut [u32]) -> u32 {
+    packed(call_of_one(One::Tp(length), f, out))
 }
 
 #[inline(never)]

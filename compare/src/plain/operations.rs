@@ -2,6 +2,7 @@
 use super::answers::Answer;
 use super::delays;
 use super::lists::{Both, WORDS};
+use super::pulses;
 
 /// Row by the first operand, column by the second.
 pub type Table = [[bool; 2]; 2];
@@ -17,6 +18,7 @@ pub enum One {
     Falling,
     Ton(u32),
     Tof(u32),
+    Tp(u32),
 }
 
 /// The operations of two lists.
@@ -34,6 +36,7 @@ pub fn one(operation: One, a: &[u32], slot: &mut [u32; WORDS]) -> Result<usize, 
         One::Falling => edges(false, a, slot),
         One::Ton(length) => delays::delay(true, length, a, slot),
         One::Tof(length) => delays::delay(false, length, a, slot),
+        One::Tp(length) => pulses::pulses(length, a, slot),
     }
 }
 

@@ -32,7 +32,10 @@ fn shown_part(text: &[u8], word: u64) {
     let value = word / 16;
     io::write_all(
         1,
-        notation::name(b" 0, 1, , !, ^, ~, TON, TOF, ., +, SR, RS,", kind as usize),
+        notation::name(
+            b" 0, 1, , !, ^, ~, TON, TOF, TP, ., +, SR, RS,",
+            kind as usize,
+        ),
     );
     io::write_all(1, part_name(text, kind, value));
     shown_value(kind, value);
@@ -101,7 +104,7 @@ fn on_sheet(call: usize, space: &Space, ends: &Ends) {
     let sheet = argument(space, ends, 0);
     let first = argument(space, ends, 1);
     let last = notation::number(space, ends, 3) as usize;
-    if call == 24 {
+    if call == 25 {
         evaluate(
             sheet,
             first,
@@ -115,8 +118,8 @@ fn on_sheet(call: usize, space: &Space, ends: &Ends) {
 
 pub fn shown(call: usize, space: &Space, ends: &Ends) {
     match call {
-        23 => read(argument(space, ends, 0)),
-        26 => report(space, notation::length(ends)),
+        24 => read(argument(space, ends, 0)),
+        27 => report(space, notation::length(ends)),
         _ => on_sheet(call, space, ends),
     }
 }

@@ -1,6 +1,6 @@
 // Runs the cases of standard input, a line each: a call and its arguments (the crate notation). Empty lines and those that begin with # are
 // skipped. Prints each case, an equals sign and what came out. `keep BYTES` keeps a sheet for the lines after it, `grow` appends and keeps
-// what came out; @ stands for what is kept. tests/models/cases.py makes the lines a second time, by document 01.
+// what came out; @ stands for what is kept. tests/models/cases.py makes the lines a second time, by documents 01 and 02.
 use fields::byte_at;
 use fields::part;
 use libc::STDIN_FILENO;
@@ -54,21 +54,21 @@ fn called(
     kept: &mut Space,
     n: usize,
 ) -> usize {
-    if call < 23 {
+    if call < 24 {
         on_lists(call, space, all, ends);
         return n;
     }
-    if call < 27 {
+    if call < 28 {
         formula_calls::shown(call, space, ends);
         return n;
     }
     let grown = on_sheets(call, space, all, ends, kept);
-    if call < 34 { n } else { grown }
+    if call < 35 { n } else { grown }
 }
 
 fn call_of(name: &[u8]) -> usize {
     place(
-        b"list_fault,value_at,value_in,equal,implies,date_plus_length,tidy,not,rising,falling,sr,rs,ton,tof,connective,\
+        b"list_fault,value_at,value_in,equal,implies,date_plus_length,tidy,not,rising,falling,sr,rs,ton,tof,tp,connective,\
         not_in,rising_in,falling_in,sr_in,rs_in,ton_in,tof_in,connective_in,read,evaluate,claim,report,\
         sheet_fault,lookup_fault,lookup,locate,well_named,begin,append,grow,keep,",
         name,

@@ -58,6 +58,7 @@ fn operation(
         11 => combining::rs(a, b, out),
         12 => delays::ton(Length(d), b, out),
         13 => delays::tof(Length(d), b, out),
+        14 => pulses::tp(Length(d), b, out),
         _ => combining::connective(t, b, c, out),
     }
 }
@@ -102,13 +103,13 @@ fn operation_in(
     let none = [0u32; 1];
     let invert = [[true, true], [false, false]];
     match call {
-        15 => merge_in(Operation::Connective, invert, a, &none, out),
-        16 => merge_in(Operation::Rising, invert, a, &none, out),
-        17 => merge_in(Operation::Falling, invert, a, &none, out),
-        18 => merge_in(Operation::SetWins, invert, a, b, out),
-        19 => merge_in(Operation::ResetWins, invert, a, b, out),
-        20 => delay_in(true, d, b, out),
-        21 => delay_in(false, d, b, out),
+        16 => merge_in(Operation::Connective, invert, a, &none, out),
+        17 => merge_in(Operation::Rising, invert, a, &none, out),
+        18 => merge_in(Operation::Falling, invert, a, &none, out),
+        19 => merge_in(Operation::SetWins, invert, a, b, out),
+        20 => merge_in(Operation::ResetWins, invert, a, b, out),
+        21 => delay_in(true, d, b, out),
+        22 => delay_in(false, d, b, out),
         _ => merge_in(Operation::Connective, t, b, c, out),
     }
 }
@@ -119,7 +120,7 @@ fn of_call(call: usize, digits: &[u8], a: &[u32], b: &[u32], c: &[u32], out: &mu
         return answer(call, a, b, d, head(b));
     }
     let t = table(digits);
-    if call < 15 {
+    if call < 16 {
         return written(operation(call, t, d, a, b, c, out));
     }
     slot(operation_in(call, t, d, a, b, c, out))
@@ -133,8 +134,8 @@ pub fn shown(call: usize, digits: &[u8], a: &[u32], b: &[u32], c: &[u32], out: &
 pub fn room_at(call: usize) -> usize {
     match call {
         0 | 1 | 2 | 3 | 4 | 5 => 8,
-        6 | 7 | 8 | 9 | 15 | 16 | 17 => 1,
-        14 | 22 => 3,
+        6 | 7 | 8 | 9 | 16 | 17 | 18 => 1,
+        15 | 23 => 3,
         _ => 2,
     }
 }

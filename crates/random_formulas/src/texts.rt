@@ -66,12 +66,12 @@ fn deepen(cells: &mut Cells, outer: u64, inner: u64) {
 
 // The bytes that begin a part of a kind: of a timer and a latch all up to the bracket.
 fn write_sign(cells: &mut Cells, kind: u64) {
-    let k = (kind % 12) as usize;
-    let width = byte_at(b"\x01\x01\x00\x01\x01\x01\x04\x04\x00\x00\x03\x03", k);
+    let k = (kind % 13) as usize;
+    let width = byte_at(b"\x01\x01\x00\x01\x01\x01\x04\x04\x03\x00\x00\x03\x03", k);
     write_bytes(
         cells,
         part(
-            b"0   1       !   ^   ~   TON(TOF(        SR( RS( ",
+            b"0   1       !   ^   ~   TON(TOF(TP(         SR( RS( ",
             k * 4,
             k * 4 + width as usize,
         ),
@@ -92,7 +92,9 @@ fn value_from(kind: u64, value: u64) -> usize {
 fn value_width(kind: u64, value: u64) -> usize {
     if kind == 2 {
         1
-    } else if kind / 2 != 3 {
+    } else if kind < 6 {
+        0
+    } else if 8 < kind {
         0
     } else if value < 10 {
         2
@@ -141,12 +143,12 @@ fn tasks_of(kind: u64, left: usize, i: usize) -> Operands {
     if kind < 6 {
         return four(256, part_task(right, 2), 0, 0);
     }
-    if kind < 8 {
+    if kind < 9 {
         return four(41, part_task(right, 0), 0, 0);
     }
-    if kind < 10 {
-        let level = 1 - kind % 2;
-        let sign = 46 - kind % 2 * 3;
+    if kind < 11 {
+        let level = kind % 2;
+        let sign = 43 + kind % 2 * 3;
         return four(part_task(right, level + 1), sign, part_task(left, level), 0);
     }
     four(41, part_task(right, 0), 44, part_task(left, 0))
@@ -160,9 +162,9 @@ fn push_all(cells: &mut Cells, tasks: Operands) {
 }
 
 fn level_of(kind: u64) -> u64 {
-    if kind == 9 {
+    if kind == 10 {
         0
-    } else if kind == 8 {
+    } else if kind == 9 {
         1
     } else {
         2
@@ -173,7 +175,7 @@ fn level_of(kind: u64) -> u64 {
 fn inner(kind: u64) -> u64 {
     if kind < 3 {
         0
-    } else if kind / 2 == 4 {
+    } else if level_of(kind) < 2 {
         0
     } else {
         1

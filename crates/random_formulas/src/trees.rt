@@ -1,5 +1,5 @@
 // Random trees: a tree is its parts, operands before operators, each kind + 16 * value. Kinds: 0 and 1 the constants, 2 a name,
-// 3 !, 4 ^, 5 ~, 6 TON, 7 TOF, 8 ., 9 +, 10 SR, 11 RS. The value is the name's number or the length.
+// 3 !, 4 ^, 5 ~, 6 TON, 7 TOF, 8 TP, 9 ., 10 +, 11 SR, 12 RS. The value is the name's number or the length.
 use crate::cells::Cells;
 use crate::cells::Draw;
 use crate::cells::NAMES;
@@ -12,7 +12,7 @@ use crate::cells::set;
 pub fn operands(kind: u64) -> u64 {
     if kind < 3 {
         0
-    } else if kind < 8 {
+    } else if kind < 9 {
         1
     } else {
         2
@@ -40,8 +40,8 @@ fn leaf(seed: u64, names: u64) -> Draw {
 }
 
 fn unary(seed: u64) -> Draw {
-    let d = drawn(seed, 5);
-    let kind = d.value % 5 + 3;
+    let d = drawn(seed, 6);
+    let kind = d.value % 6 + 3;
     if kind < 6 {
         return part(d.seed, kind, 0);
     }
@@ -55,7 +55,7 @@ fn unary(seed: u64) -> Draw {
 
 fn binary(seed: u64) -> Draw {
     let d = drawn(seed, 4);
-    part(d.seed, d.value % 4 + 8, 0)
+    part(d.seed, d.value % 4 + 9, 0)
 }
 
 // The next part, with so many trees waiting for their operator.

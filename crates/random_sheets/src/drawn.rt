@@ -1,5 +1,6 @@
 // Random sheets: signals in the rows from 60 on, and the sheet's bytes. The times are ordinary (changes up to date 12), far (changes near
-// M) or long (changes up to date 330, at most of the dates).
+// M) or long (changes up to date 330, at most of the dates; those of the second signal at most at every second date, so that pulses of it
+// stand apart).
 use crate::rows::dates;
 use crate::rows::store;
 use crate::rows::words;
@@ -48,6 +49,19 @@ fn kept_or(drawn: u64, k: u64, first: u64, last: u64) -> u64 {
     }
 }
 
+// The same of a row at long times: those of row 61 change at most of the even dates.
+fn spaced(drawn: u64, row: usize, k: usize) -> u64 {
+    if row != 61 {
+        drawn
+    } else if k % 2 == 1 {
+        12
+    } else if drawn < 10 {
+        0
+    } else {
+        12
+    }
+}
+
 // The value at a column, v having stood before.
 fn value_at(drawn: u64, last: u64, v: bool) -> bool {
     if last == 330 {
@@ -68,7 +82,12 @@ fn value_after(drawn: u64, last: u64, v: bool) -> bool {
 fn tick(cells: &mut Cells, row: usize, k: usize, v: bool) -> bool {
     let r = roll(cells, 12);
     let last = cells[LAST];
-    let drawn = kept_or(r, k as u64, cells[FIRST], last);
+    let kept = kept_or(r, k as u64, cells[FIRST], last);
+    let drawn = if last == 330 {
+        spaced(kept, row, k)
+    } else {
+        kept
+    };
     let after = value_after(drawn, last, v);
     store(cells, row, k % 416 * 2 + 831, value_at(drawn, last, v));
     store(cells, row, k % 416 * 2, after);

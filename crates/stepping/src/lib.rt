@@ -1,5 +1,5 @@
-// Test support: a second evaluator that shares no code with the engine: the value of every part at every moment of the rows, by document
-// 01's sentences. No function has a `requires`; what is proved of each is that it is safe and ends.
+// Test support: a second evaluator that shares no code with the engine: the value of every part at every moment of the rows, by the
+// sentences of documents 01 and 02. No function has a `requires`; what is proved of each is that it is safe and ends.
 use random_formulas::cells::Cells;
 use random_formulas::cells::NAMES;
 use random_formulas::cells::PART;
@@ -131,7 +131,7 @@ fn decided(cells: &Cells, kind: u64, s: usize, r: usize, m: usize) -> u64 {
     let reset = up(cells, r, m);
     if reset {
         if set {
-            if kind == 10 {
+            if kind == 11 {
                 return 1 - m as u64 % 2;
             }
         }
@@ -154,7 +154,7 @@ fn latched(cells: &Cells, kind: u64, s: usize, r: usize, moment: usize) -> bool 
 }
 
 fn latch_up(cells: &Cells, kind: u64, s: usize, r: usize, moment: usize) -> bool {
-    if kind == 10 {
+    if kind == 11 {
         if up(cells, s, moment) {
             return true;
         }
@@ -163,12 +163,12 @@ fn latch_up(cells: &Cells, kind: u64, s: usize, r: usize, moment: usize) -> bool
 }
 
 fn binary_up(cells: &Cells, kind: u64, f: usize, g: usize, moment: usize) -> bool {
-    if 9 < kind {
+    if 10 < kind {
         return latch_up(cells, kind, f, g, moment);
     }
     let first = up(cells, f, moment);
     let second = up(cells, g, moment);
-    if kind == 8 {
+    if kind == 9 {
         if first { second } else { false }
     } else {
         if first { true } else { second }
@@ -185,6 +185,34 @@ fn part_up(cells: &Cells, kind: u64, value: u64, row: usize, moment: usize) -> b
         return unary_up(cells, kind, value, row, moment);
     }
     binary_up(cells, kind, row, row % 64 + 1, moment)
+}
+
+// The ticks of a pulse that are left from an instant on, one less than from the one before; a rise when none are starts anew.
+fn left_from(before: u64, gap: bool, now: bool, d: u64) -> u64 {
+    let left = if before < 2 { 0 } else { before - 1 };
+    if 0 < left {
+        return left;
+    }
+    if gap {
+        return 0;
+    }
+    if now { d } else { 0 }
+}
+
+// TP from instant to instant, with the value in the gap before each.
+fn pulsed(cells: &mut Cells, row: usize, d: u64) {
+    let end = (dates(cells) % 417 * 2 + 831) % 832;
+    let mut gap = up(cells, row, 0);
+    store(cells, row, 0, false);
+    let mut left: u64 = 0;
+    let mut m: usize = 1;
+    while m < end {
+        left = left_from(left, gap, up(cells, row, m), d);
+        gap = up(cells, row, m + 1);
+        store(cells, row, m, 0 < left);
+        store(cells, row, m + 1, 0 < left);
+        m += 2;
+    }
 }
 
 // From the last moment to the first, since a part looks only back.
@@ -212,7 +240,11 @@ fn step(cells: &mut Cells, word: u64, top: usize, base: usize) -> usize {
     let kind = word % 16;
     let n = (operands(kind) % 3) as usize;
     let row = base % 64 + (top % 64 + 64 - n) % 64;
-    filled(cells, kind, word / 16, row);
+    if kind == 8 {
+        pulsed(cells, row, word / 16);
+    } else {
+        filled(cells, kind, word / 16, row);
+    }
     noted(cells, row);
     (top % 64 + 65 - n) % 64
 }
