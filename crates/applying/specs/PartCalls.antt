@@ -19,7 +19,8 @@ use Rattle.grammar.specs.Tree.{Unary, Binary, invert, rise, fall, ton, tof, tp,
 unfoldable pub unaryOf : ℕ → ℕ → Unary
 unaryOf kind n =
     cond (eqb kind kinds.NOT) invert
-    (cond (eqb kind kinds.RISING) rise (cond (eqb kind kinds.FALLING) fall (cond (eqb kind kinds.TON) (ton n) (cond (eqb kind kinds.TOF) (tof n) (tp n)))))
+    (cond (eqb kind kinds.RISING) rise
+    (cond (eqb kind kinds.FALLING) fall (cond (eqb kind kinds.TON) (ton n) (cond (eqb kind kinds.TOF) (tof n) (tp n)))))
 
 unfoldable pub binaryOf : ℕ → Binary
 binaryOf kind = cond (eqb kind kinds.AND) and (cond (eqb kind kinds.OR) or (cond (eqb kind kinds.SR) sr rs))

@@ -2,7 +2,7 @@
 ghost use mathlib.Core.Path.{_≡_};
 ghost use mathlib.Core.List.{[]};
 ghost use lib.ListN.{length};
-ghost use Rattle.signals.specs.Signal.{NOT, connective, rising, falling, SR, RS, TON, TOF};
+ghost use Rattle.signals.specs.Signal.{NOT, connective, rising, falling, SR, RS, TON, TOF, TP};
 ghost use Rattle.signals.specs.Words.{listFault};
 ghost use Rattle.questions.specs.Questions.{valueAtOf, valueInOf, equalOf, impliesOf};
 ghost use Rattle.format.specs.Reading.{sheetFault};
@@ -123,6 +123,14 @@ pub extern "C" fn sgl_tof(d: u32, f: &[u32], out: &mut [u32]) -> u32
     ensures { λ r. ⌜ ExportedDelay (TOF d) d (now (f .entry)) (now (out .entry)) r (now (out .exit)) ⌝ }
 {
     packing::pack_written(delays::tof(Length(d), f, out))
+}
+
+// TP(d,f), the pulse timer.
+#[no_mangle]
+pub extern "C" fn sgl_tp(d: u32, f: &[u32], out: &mut [u32]) -> u32
+    ensures { λ r. ⌜ ExportedDelay (TP d) d (now (f .entry)) (now (out .entry)) r (now (out .exit)) ⌝ }
+{
+    packing::pack_written(pulses::tp(Length(d), f, out))
 }
 
 // Begins a sheet.

@@ -35,4 +35,5 @@ module _ (d : ℕ) (sheet left right old : List ℕ) (f : Source) (at room : ℕ
         first-is whole (slotIn old at room) (valueAfter word) (ap valueAfter e0 ∙ first-held whole) made part
         (e1, first-part (pastWord d) sheet left right old f at room fits apart part false e) in
         rw (← state)
-        (begun-run (pastWord d) sheet left right old f at room fits apart part false e finish (stateOf (valueAfter word) 0 made) r after ran)
+        (begun-run (pastWord d) sheet left right old f at room fits apart part false e finish (stateOf (valueAfter word) 0 made) r after
+        ran)

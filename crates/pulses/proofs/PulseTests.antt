@@ -56,7 +56,8 @@ module _ (d : ℕ) (s : State) (w : ℕ) (held : Bool) (h : held ≡ valueAfter 
   pub starts-here : true ≡ startsAt (s .held) (s .due) w → (due : ℕ) → due ≡ dateIn (sumOf (dateOf w) d) → (made : Made) (slot : List ℕ)
       → endedBy made slot ≡ startedAt d (s .due) (dateOf w) (s .built) → stateOf held due made slot ≡ pastWord d s w
   unfolding pastWord
-  starts-here t due e made slot b = rw (← t, h, e) (ap (λ (x : Ended). record { held = valueAfter w; due = dateIn (sumOf (dateOf w) d); built = x }) b)
+  starts-here t due e made slot b =
+      rw (← t, h, e) (ap (λ (x : Ended). record { held = valueAfter w; due = dateIn (sumOf (dateOf w) d); built = x }) b)
 
   pub goes-on : false ≡ startsAt (s .held) (s .due) w
       → (record { held = held; due = s .due; built = s .built }) ≡ pastWord d s w

@@ -20,7 +20,8 @@ use signals::M;
 use signals::Written;
 use sources::Source;
 
-// A pulse timer on its way: the value that its input holds, the end of the last pulse, 0 where none has started, and the answer being built.
+// A pulse timer on its way: the value that its input holds, the end of the last pulse, 0 where none has started, and the answer being
+// built.
 struct Going {
     held: bool,
     due: Date,

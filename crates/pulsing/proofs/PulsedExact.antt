@@ -213,7 +213,8 @@ module _ (d : ℕ) (l old : List ℕ) (accepted : listFault l ≡ 0) (short : d 
             within = last;
             before = omega arith;
             scanned =
-                start (s .built) (s .due) (i .q) (dateOf w) (i .scanned) on (omega (arith, i .before, later)) over (i .ends) (omega (arith, last)) new;
+                start (s .built) (s .due) (i .q) (dateOf w) (i .scanned) on (omega (arith, i .before, later)) over (i .ends)
+                (omega (arith, last)) new;
             runs = λ j a b.
                 let z : j ≡ dateOf w = omega arith in
                 let left : d ≡ dateOf w + d - dateOf w = omega arith in

@@ -1,7 +1,8 @@
 -- All operations that compute agree with their sentences.
 use Rattle.signals.specs.Quantified.{Agreement}
-use Rattle.signals.proofs.Agreement.{NOT-up, NOT-of, connective-up, connective-of, AND-up, AND-of, OR-up, OR-of, rising-up, rising-of}
-use Rattle.signals.proofs.Agreement.{falling-up, falling-of, SR-up, SR-of, RS-up, RS-of, TON-up, TON-of, TOF-up, TOF-of}
+use Rattle.signals.proofs.Agreement.{NOT-up, NOT-of, connective-up, connective-of, AND-up, AND-of, OR-up, OR-of}
+use Rattle.signals.proofs.Agreement.{rising-up, rising-of, falling-up, falling-of, SR-up, SR-of, RS-up, RS-of}
+use Rattle.signals.proofs.Agreement.{TON-up, TON-of, TOF-up, TOF-of}
 use Rattle.signals.proofs.Pulses.{TP-up, TP-of}
 
 pub agreement : Agreement

@@ -1,4 +1,5 @@
--- The operations that compute agree with their sentences; of TP `Pulses` says so. For each: `-up` reads the sentence off, `-of` makes the signal up from it.
+-- The operations that compute agree with their sentences; TP follows in `Pulses`. For each: `-up` reads the sentence off, `-of` makes the
+-- signal up from it.
 use Prim.Native.Nat.{ℕ, _+_, _*_, _≤_, _<_}
 use native.Mathlib.Omega.{arith}
 use mathlib.Core.Path.{_≡_, refl}

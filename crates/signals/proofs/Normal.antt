@@ -18,8 +18,8 @@ use Rattle.signals.specs.Settled.{SettledFrom, entry}
 use Rattle.signals.specs.Normal.{Normal, Accepted, Rising, DatesRise, AcceptedNormal, Unique, UniqueAccepted, ListOfSignal, ReadBack}
 use Rattle.signals.proofs.WordFacts.{dateOf-word, valueAt-word, valueAfter-word, word-of, num-le, headValue-num, num-headValue}
 use Rattle.signals.proofs.Scan.{scan-to, scan-settled, listOf-more, listOf-ext}
-use Rattle.signals.proofs.Operand.{Ahead, At, at-start, words-left, pass-word, words-rise, value-none, value-before, value-at, value-after}
-use Rattle.signals.proofs.Operand.{value-held}
+use Rattle.signals.proofs.Operand.{Ahead, At, at-start, words-left, pass-word, words-rise, value-none, value-before, value-at}
+use Rattle.signals.proofs.Operand.{value-after, value-held}
 
 -- the last date lies at or above the date before
 pub last-le : (k : ℕ) (ws : List ℕ) → Rising k ws → k ≤ lastFrom k ws

@@ -1,8 +1,7 @@
 -- Cases of TP: each settles at a small date, up to which its list computes.
-use mathlib.Core.Path.{refl}
-use mathlib.Core.List.{List, [], _∷_}
 use Prim.Native.Nat.{ℕ, _+_}
-use mathlib.Core.Path.{_≡_}
+use mathlib.Core.Path.{_≡_, refl}
+use mathlib.Core.List.{List, [], _∷_}
 use Rattle.signals.specs.Moment.{isGap, justBefore, tick}
 use Rattle.signals.specs.Signal.{constant, rising, running, starts, TP}
 use Rattle.signals.specs.Words.{word, dateOf, valueAt, valueAfter, headValue, changesNothing, wordsFault, listFault, valueFrom}
@@ -20,8 +19,8 @@ of-list d l h ws accepted =
     gives (TP d (signalOf l)) (lastDate l + d) h ws (settling .tp d (signalOf l) (lastDate l) (accepted-settled l accepted))
 
 pub pulse-cases : PulseCases
-unfolding listOf wordsOf word signalOf valueFrom listFault wordsFault changesNothing valueAt valueAfter headValue dateOf lastDate lastFrom TP
-    running starts tick rising isGap justBefore constant
+unfolding listOf wordsOf word signalOf valueFrom listFault wordsFault changesNothing valueAt valueAfter headValue dateOf lastDate lastFrom
+    TP running starts tick rising isGap justBefore constant
 pulse-cases =
     record {
       rise = of-list 3 f-list 0 (23 ∷ 32 ∷ []) refl refl refl;

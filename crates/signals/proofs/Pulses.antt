@@ -12,7 +12,8 @@ use Rattle.signals.specs.Moment.{gap, instant, isGap, tick, justBefore}
 use Rattle.signals.specs.Signal.{Signal, rising, running, starts, TP}
 use Rattle.signals.specs.Quantified.{Up, Down, UpRising, Among, Starts, UpTP}
 use Rattle.signals.specs.Pulses.{Rises, StartsPulses, InPulse, InTicks, Pulses}
-use Rattle.signals.proofs.Truth.{not-both, down-of, not-up, not-of, and-left, and-right, and-of, or-cases, or-left, or-right, le-cases}
+use Rattle.signals.proofs.Truth.{not-both, down-of, not-up, not-of, and-left, and-right, and-of, or-cases, or-left, or-right}
+use Rattle.signals.proofs.Truth.{le-cases}
 use Rattle.signals.proofs.Agreement.{rising-up, rising-of}
 
 -- some pulse of these is running

@@ -12,8 +12,8 @@ use Rattle.signals.specs.Quantified.{Up, Down, Starts}
 abbrev pub Rises : Signal → ℕ → Type 0
 Rises f a = (1 ≤ a) × Down (f (gap (a - 1))) × Up (f (instant a))
 
--- "A rising instant a of f starts a pulse, up from a inclusive to a+d exclusive. Rising instants before a+d are ignored. One at a+d or later
--- starts a new pulse." So an instant starts a pulse exactly when it rises and every pulse that started before it has ended by then.
+-- "A rising instant a of f starts a pulse, up from a inclusive to a+d exclusive. Rising instants before a+d are ignored. One at a+d or
+-- later starts a new pulse." So an instant starts a pulse exactly when it rises and every pulse that started before it has ended by then.
 abbrev pub StartsPulses : ℕ → Signal → (ℕ → Type 0) → Type 0
 StartsPulses d f P = (a : ℕ) → P a ↔ (Rises f a × ((b : ℕ) → b < a → P b → b + d ≤ a))
 

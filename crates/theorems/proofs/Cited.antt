@@ -219,8 +219,17 @@ signals-Normal-Unique = Rattle.signals.proofs.Normal.unique
 pub signals-Normal-UniqueAccepted : Rattle.signals.specs.Normal.UniqueAccepted
 signals-Normal-UniqueAccepted = Rattle.signals.proofs.Normal.unique-accepted
 
+pub signals-PulseCases-PulseCases : Rattle.signals.specs.PulseCases.PulseCases
+signals-PulseCases-PulseCases = Rattle.signals.proofs.PulseCases.pulse-cases
+
+pub signals-PulseSteps-PulseSteps : Rattle.signals.specs.PulseSteps.PulseSteps
+signals-PulseSteps-PulseSteps = Rattle.signals.proofs.PulseSteps.pulse-steps
+
+pub signals-Pulses-Pulses : Rattle.signals.specs.Pulses.Pulses
+signals-Pulses-Pulses = Rattle.signals.proofs.Pulses.pulses
+
 pub signals-Quantified-Agreement : Rattle.signals.specs.Quantified.Agreement
-signals-Quantified-Agreement = Rattle.signals.proofs.Agreement.agreement
+signals-Quantified-Agreement = Rattle.signals.proofs.Agreed.agreement
 
 pub signals-Settling-Settling : Rattle.signals.specs.Settling.Settling
 signals-Settling-Settling = Rattle.signals.proofs.Settling.settling

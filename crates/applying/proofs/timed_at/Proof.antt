@@ -28,7 +28,8 @@ returns : tie.Need-returns
 returns c =
     let m = c .before .before .before in
     let test = m .before .before .before .before in
-    timer-part _ _ _ _ _ _ (c .part-answer .ensures) _ _ _ _ (a-delay _ _ (test .if1 .taken)) refl (test .before .before .before .pre) (m .delay-at .ensures)
+    timer-part _ _ _ _ _ _ (c .part-answer .ensures) _ _ _ _ (a-delay _ _ (test .if1 .taken)) refl
+    (test .before .before .before .pre) (m .delay-at .ensures)
 
 slice-aggregate-pulse-at : tie.Need-slice-aggregate-pulse-at
 slice-aggregate-pulse-at c = search needs
@@ -49,7 +50,8 @@ returns-2 : tie.Need-returns-2
 returns-2 c =
     let m = c .before .before .before in
     let test = m .before .before .before .before in
-    timer-part _ _ _ _ _ _ (c .part-answer2 .ensures) _ _ _ _ (a-pulse _ _ (test .if1 .left)) refl (test .before .before .before .pre) (m .pulse-at .ensures)
+    timer-part _ _ _ _ _ _ (c .part-answer2 .ensures) _ _ _ _ (a-pulse _ _ (test .if1 .left)) refl
+    (test .before .before .before .pre) (m .pulse-at .ensures)
 
 pub timed-at-spec : {M : Type 1} → statement M
 timed-at-spec =

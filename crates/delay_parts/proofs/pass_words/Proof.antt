@@ -18,8 +18,8 @@ use Rattle.delay_parts.proofs.pass_words.Tie as tie
 abbrev Inv-loop : tie.InvT-loop
 Inv-loop level d sheet left right work₀ f at end timer₀ made₀ passed₀ word₀ work timer made passed word =
     (end ≡ at + mostWords) × Placed sheet left right work₀ f at mostWords
-    × Running (pastWord level (d .0)) (listAt sheet left right work₀ f) work₀ at mostWords (stateOf timer₀ made₀ (slotIn work₀ at mostWords))
-    work passed word (stateOf timer made)
+    × Running (pastWord level (d .0)) (listAt sheet left right work₀ f) work₀ at mostWords
+    (stateOf timer₀ made₀ (slotIn work₀ at mostWords)) work passed word (stateOf timer made)
 
 abbrev μ-loop : tie.MeasureT-loop
 μ-loop level d sheet left right work₀ f at end timer₀ made₀ passed₀ word₀ work timer made passed word =
