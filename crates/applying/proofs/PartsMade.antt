@@ -2,9 +2,9 @@
 use Prim.Native.Nat.{ℕ, _+_, _/_, _%_, _≤_, _<_}
 use native.Mathlib.Omega.{arith}
 use mathlib.Core.Path.{_≡_, refl, sym, _∙_, ap}
-use mathlib.Core.Bool.{Bool, true, false, cond, _&&_, _||_}
-use mathlib.Core.List.{List, [], _∷_}
-use lib.Dec.{leb, ltb, eqb}
+use mathlib.Core.Bool.{Bool, true, false, cond, _&&_}
+use mathlib.Core.List.{List}
+use lib.Dec.{leb, ltb}
 use lib.ListN.{length}
 use borrow.Author.Tests.{leb-true, leb-false, le-leb, lt-leb, ltb-false}
 use Rattle.signals.specs.Moment.{M}
@@ -19,7 +19,7 @@ use Rattle.building.specs.declared.Made.{Made}
 use Rattle.building.specs.declared.SlotAnswer.{SlotAnswer}
 use Rattle.building.specs.declared.SlotAnswer.the-variants.{Stands, TooLong, TooLate}
 use Rattle.showing.specs.declared.Operation.{Operation}
-use Rattle.sources.specs.Sources.{listAt, apartFrom, slotIn, withSlot}
+use Rattle.sources.specs.Sources.{listAt, apartFrom, slotIn}
 use Rattle.sources.specs.declared.Memory.the-variants.{Right}
 use Rattle.sources.specs.declared.Source.{Source}
 use Rattle.sources.proofs.Sourcing.{slot-kept}

@@ -1,7 +1,6 @@
 -- Mirrored: A delay as an engine in a slot of the work area, its operand read where it stands.
 use Prim.Native.Nat.{ℕ}
 use mathlib.Core.Bool.{Bool}
-use mathlib.Core.List.{List}
 use Rattle.lent_slots.specs.Lent.{Ended, endedBy, Engine}
 use Rattle.delaying.specs.Turns.{State, lastState}
 

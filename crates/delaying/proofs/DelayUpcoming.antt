@@ -1,19 +1,18 @@
 -- The date that a delay looks at next: after the date passed, not after the next word's nor the pending one, within the horizon.
-use Prim.Native.Nat.{ℕ, zero, suc, _+_, _≤_, _<_}
+use Prim.Native.Nat.{ℕ, _≤_, _<_}
 use native.Mathlib.Omega.{arith}
-use mathlib.Core.Path.{_≡_, refl, _∙_, ap, subst}
+use mathlib.Core.Path.{_≡_, refl}
 use mathlib.Core.Bool.{Bool, true, false, cond, _&&_}
-use mathlib.Core.List.{List, [], _∷_}
+use mathlib.Core.List.{List}
 use lib.Dec.{ltb}
-use lib.ListN.{length, getD, drop}
+use lib.ListN.{length, getD}
 use borrow.Author.Tests.{ltb-true, ltb-false, lt-ltb, le-ltb}
 use Rattle.signals.specs.Moment.{M, gap}
 use Rattle.signals.specs.Signal.{Signal}
-use Rattle.signals.specs.Words.{dateOf, lastFrom, lastDate}
-use Rattle.signals.specs.Normal.{Rising}
+use Rattle.signals.specs.Words.{dateOf, lastDate}
 use Rattle.signals.specs.Quantified.{Up, Down}
 use Rattle.signals.proofs.Truth.{not-both}
-use Rattle.signals.proofs.Operand.{At, next-later, words-left}
+use Rattle.signals.proofs.Operand.{At, next-later}
 use Rattle.signals.proofs.Normal.{next-within}
 use Rattle.reading.specs.Reading.{NEVER, nextDate}
 use Rattle.timing.specs.declared.Timer.{Timer}

@@ -11,7 +11,7 @@ use lib.Dec.{ltb, eqb}
 use lib.ListN.{length, length-map}
 use borrow.Author.Tests.{eqb-true, ne-eqb, ltb-true}
 use Rattle.signals.specs.Moment.{M}
-use Rattle.grammar.specs.Tree.{Tree, Unary, leaf, unary, binary, down, up, name, invert, rise, fall, ton, tof, tp, and, or, sr, rs}
+use Rattle.grammar.specs.Tree.{Tree, Unary, leaf, unary, binary, name, invert, rise, fall, ton, tof, tp}
 use Rattle.grammar.specs.Code.{Part, operand, one, two, code, longest, ticksOf}
 use Rattle.grammar.specs.Kinds as kinds
 use Rattle.grammar.specs.Reader.{State, Emission, readText}

@@ -2,21 +2,18 @@
 use Prim.Native.Nat.{ℕ, _+_, _*_, _≤_, _<_, max}
 use native.Mathlib.Omega.{arith}
 use mathlib.Core.Path.{_≡_, refl, sym, ap, _∙_, subst}
-use mathlib.Core.Bool.{Bool, true, false, cond, not, _||_}
+use mathlib.Core.Bool.{Bool, true, false, not}
 use mathlib.Core.List.{List, [], _∷_, _++_, append-nil}
-use mathlib.Core.Logic.{_⊎_, inl, inr, _↔_, ⊎-elim}
 use lib.Dec.{ltb, eqb}
 use lib.ListN.{length, length-append}
-use borrow.Author.Tests.{eq-eqb, eqb-true, eqb-false, ltb-true, ltb-false, not-true, not-false}
-use Rattle.signals.specs.Moment.{M}
+use borrow.Author.Tests.{eq-eqb, eqb-true, ltb-true, ltb-false, not-false}
 use Rattle.grammar.specs.Tree.{Tree, Unary, leaf, unary, binary, ton, tof, tp, invert, rise, fall}
 use Rattle.grammar.specs.Code.{Part, longest, treeOf, ticksOf}
 use Rattle.grammar.specs.Grammar.{Sum}
 use Rattle.grammar.specs.Reader.{State, start, readText, sumAt}
-use Rattle.grammar.specs.Formula.{spelled, accepted, formulaTree, depthOf, partsOf, longestOf, formulaFault}
+use Rattle.grammar.specs.Formula.{spelled, accepted, formulaTree, depthOf, partsOf, longestOf}
 use Rattle.grammar.specs.Exactness.{ReaderExact, OneTree, PartsExact, LengthIn, of-ton, of-tof, of-tp, under, first, second}
 use Rattle.signals.proofs.Truth.{and-left, and-right}
-use Rattle.grammar.proofs.Bytes.{never}
 use Rattle.grammar.proofs.Standing.{after}
 use Rattle.grammar.proofs.Complete.{whole, sum-reads, ended}
 use Rattle.grammar.proofs.Sound.{sum-found}

@@ -1,6 +1,6 @@
 -- Mirrored: What a formula's bytes are: its tree, parts and depth, its fault, and the code words that the reader gives. Tied to what is
 -- believed by `ReaderExact`, `FaultsExact`, `CodeExact`, `AcceptedCode`.
-use Prim.Native.Nat.{ℕ, _+_, _*_, _/_, _%_, min}
+use Prim.Native.Nat.{ℕ, _+_, _*_, _/_, _%_}
 use mathlib.Core.Bool.{Bool, cond, not, _&&_, _||_}
 use mathlib.Core.List.{List, [], _∷_}
 use lib.Dec.{ltb, eqb}

@@ -1,6 +1,6 @@
 -- Believed: The tree of a formula, and the signal that it stands for when each name stands for a signal.
 use Prim.Native.Nat.{ℕ}
-use mathlib.Core.Bool.{Bool, true, false}
+use mathlib.Core.Bool.{true, false}
 use mathlib.Core.List.{List}
 use Rattle.signals.specs.Signal.{Signal, constant, NOT, AND, OR, rising, falling, SR, RS, TON, TOF, TP}
 

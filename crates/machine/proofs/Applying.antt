@@ -1,18 +1,16 @@
 -- The operation of a code word on accepted lists is judged to have no fault but 5 and 6, those of the part that it stands for.
 use Prim.Native.Nat.{ℕ, _/_, _%_, _≤_}
 use native.Mathlib.Omega.{arith}
-use mathlib.Core.Path.{_≡_, refl, sym, _∙_, ap}
+use mathlib.Core.Path.{_≡_, refl, _∙_, ap}
 use mathlib.Core.Bool.{Bool, true, false, cond}
 use mathlib.Core.List.{List}
 use lib.Dec.{eqb}
-use lib.ListN.{length}
-use borrow.Author.Tests.{le-ltb, eqb-true}
+use borrow.Author.Tests.{le-ltb}
 use Rattle.signals.specs.Moment.{M}
 use Rattle.signals.specs.Words.{listFault, pairFault}
-use Rattle.signals.specs.Answers.{firstOf, faultIn, writtenOf}
-use Rattle.signals.specs.declared.Written.the-variants.{Count, Refused}
+use Rattle.signals.specs.Answers.{firstOf}
 use Rattle.signals.proofs.FirstFault.{next-is}
-use Rattle.operations.specs.Calls.{lengthFault, partFault}
+use Rattle.operations.specs.Calls.{lengthFault}
 use Rattle.grammar.specs.Kinds as kinds
 use Rattle.grammar.specs.Tree.{Unary, invert, rise, fall, ton, tof, tp}
 use Rattle.grammar.specs.Code.{ticksOf}

@@ -2,16 +2,15 @@
 use Prim.Native.Nat.{ℕ, zero, suc, _+_, _-_, _≤_, _<_}
 use native.Mathlib.Omega.{arith}
 use native.Mathlib.Decide.{ℕ-discrete, decLe}
-use mathlib.Core.Path.{_≡_, refl, sym, _∙_, ap}
+use mathlib.Core.Path.{_≡_, refl, sym, _∙_}
 use mathlib.Core.Logic.{_⊎_, inl, inr, _↔_}
 use mathlib.Core.Bool.{Bool, true, false, cond, Bool·beq, _&&_, false≢true}
-use mathlib.Core.List.{List, [], _∷_}
+use mathlib.Core.List.{List, _∷_}
 use lib.ListN.{length, getD}
 use Rattle.signals.specs.Moment.{M, gap, instant}
 use Rattle.signals.specs.Signal.{Signal, num, TON, TOF, TP}
 use Rattle.signals.specs.Words.{word, dateOf, signalOf, lastDate, wordsOf, listOf}
 use Rattle.signals.specs.Settled.{SettledFrom}
-use Rattle.signals.specs.Normal.{Accepted}
 use Rattle.signals.proofs.Truth.{down-of}
 use Rattle.signals.proofs.WordFacts.{dateOf-word}
 use Rattle.signals.proofs.Normal.{same-values, accepted-settled}

@@ -1,7 +1,7 @@
 -- The slot with the first word of the pulses in it: what the words lead to from there is what the whole list gives.
 use Prim.Native.Nat.{ℕ, _+_, _-_, _≤_}
 use mathlib.Core.Path.{_≡_, _∙_, ap}
-use mathlib.Core.Bool.{Bool, true, false}
+use mathlib.Core.Bool.{true, false}
 use mathlib.Core.List.{List, _++_}
 use lib.ListN.{length, take, drop, set}
 use Rattle.signals.specs.Signal.{num}
@@ -13,7 +13,7 @@ use Rattle.sources.specs.declared.Source.{Source}
 use Rattle.sources.proofs.Sourcing.{first-held}
 use Rattle.lent_slots.specs.Lent.{through, EndsIn}
 use Rattle.lent_slots.proofs.LentRuns.{first-part, begun-run}
-use Rattle.pulsing.specs.Turns.{State, stateOf, pastWord, finish, firstState, pulseEngine}
+use Rattle.pulsing.specs.Turns.{stateOf, pastWord, finish, firstState, pulseEngine}
 use Rattle.pulses.proofs.PulseTests.{first-is}
 
 module _ (d : ℕ) (sheet left right old : List ℕ) (f : Source) (at room : ℕ) (fits : at + room ≤ length old)

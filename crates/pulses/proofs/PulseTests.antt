@@ -1,16 +1,14 @@
 -- What the code of the pulse timer makes of a word, from the tests that it makes.
 use Prim.Native.Nat.{ℕ, _/_, _%_, _≤_, _<_}
-use mathlib.Core.Path.{_≡_, refl, sym, _∙_, ap}
-use mathlib.Core.Bool.{Bool, true, false, not, _&&_}
+use mathlib.Core.Path.{_≡_, _∙_, ap}
+use mathlib.Core.Bool.{Bool, true, false}
 use mathlib.Core.List.{List}
 use lib.Dec.{leb, ltb}
-use lib.ListN.{set}
 use borrow.Author.Tests.{lt-ltb, le-ltb, eq-eqb, ne-eqb}
-use Rattle.signals.specs.Signal.{num}
 use Rattle.signals.specs.Answers.{sumOf}
 use Rattle.signals.specs.Words.{dateOf, valueAt, valueAfter}
 use Rattle.signals.specs.Passing.{heldValue}
-use Rattle.building.specs.Building.{Begins, Emits, begun}
+use Rattle.building.specs.Building.{Begins, Emits}
 use Rattle.building.specs.declared.Made.{Made}
 use Rattle.timing.specs.Delay.{dateIn}
 use Rattle.lent_slots.specs.Lent.{Ended, endedBy}

@@ -5,14 +5,14 @@ use native.Mathlib.Numerals.{add-one}
 use native.Mathlib.Decide.{decLe, decLt}
 use mathlib.Core.Path.{_≡_, refl, sym, _∙_, ap, subst}
 use mathlib.Core.Bool.{Bool, true, false, not, cond, _&&_}
-use mathlib.Core.List.{List, [], _∷_}
+use mathlib.Core.List.{List}
 use lib.Dec.{leb, ltb}
-use lib.ListN.{length, drop, getD, set, drop-of-length-le}
+use lib.ListN.{length, drop, getD, drop-of-length-le}
 use lib.Seq.{drop-cons}
-use borrow.Author.Tests.{lt-ltb, le-ltb, ltb-true, ltb-false, leb-true}
+use borrow.Author.Tests.{le-ltb, ltb-true, ltb-false, leb-true}
 use Rattle.slices.specs.Bytes.{Words}
 use Rattle.signals.specs.Moment.{M, gap, instant, tick}
-use Rattle.signals.specs.Signal.{Signal, num, TP}
+use Rattle.signals.specs.Signal.{Signal, TP}
 use Rattle.signals.specs.Words.{listFault, dateOf, valueAt, valueAfter, lastDate, signalOf}
 use Rattle.signals.specs.Passing.{heldValue}
 use Rattle.signals.specs.PulseSteps.{ticksLeft}
@@ -20,17 +20,15 @@ use Rattle.signals.proofs.Truth.{and-right}
 use Rattle.signals.proofs.Scan.{Held}
 use Rattle.signals.proofs.Operand.{At, at-take, at-end, held-next}
 use Rattle.signals.proofs.Normal.{accepted-start, next-within}
-use Rattle.signals.proofs.WordFacts.{date-le}
 use Rattle.operations.specs.Calls.{exactOfDelay}
 use Rattle.operations.proofs.NeverMet.{last-32}
-use Rattle.building.specs.Building.{idle, emitted, emittedIn, begun}
-use Rattle.building.specs.declared.Made.{Made}
+use Rattle.building.specs.Building.{idle, emitted, emittedIn}
 use Rattle.building.proofs.Built.{Built}
 use Rattle.building.proofs.Scanning.{Scanning, scanning-begin, scanning-emit, scanning-done}
 use Rattle.signals.specs.Answers.{sumOf}
 use Rattle.timing.specs.Delay.{dateIn}
 use Rattle.timing.proofs.DelayTiming.{sum-exact}
-use Rattle.lent_slots.specs.Lent.{Ended, endedBy, through}
+use Rattle.lent_slots.specs.Lent.{Ended, through}
 use Rattle.pulsing.specs.Turns.{State, putFrom, closed, startsAt, startedAt, pastWord, finish, firstState, pulseEngine}
 use Rattle.pulsing.proofs.Ticks.{falls, at-word, up-before, down-from, shown-at, shown-after}
 

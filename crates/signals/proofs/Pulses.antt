@@ -1,16 +1,16 @@
 -- Pulses: the dates of starts satisfy their sentence, and no other predicate does; TP is up exactly in the pulses.
 use Prim.Native.Nat.{ℕ, zero, suc, _+_, _-_, _%_, _≤_, _<_}
 use native.Mathlib.Omega.{arith}
-use native.Mathlib.Decide.{decLe, decLt}
-use mathlib.Core.Path.{_≡_, refl, sym, _∙_}
+use native.Mathlib.Decide.{decLe}
+use mathlib.Core.Path.{_≡_, refl}
 use mathlib.Core.Logic.{_⊎_, inl, inr, ⊎-elim, _↔_}
-use mathlib.Core.Bool.{Bool, true, false, not, cond, _&&_, _||_, false≢true}
+use mathlib.Core.Bool.{Bool, true, false, not, cond, _&&_, false≢true}
 use mathlib.Core.List.{List, [], _∷_}
-use lib.Dec.{leb, ltb, eqb}
-use borrow.Author.Tests.{lt-ltb, ltb-true, ltb-false, eq-eqb, ne-eqb}
+use lib.Dec.{ltb}
+use borrow.Author.Tests.{lt-ltb, ltb-true, ne-eqb}
 use Rattle.signals.specs.Moment.{gap, instant, isGap, tick, justBefore}
 use Rattle.signals.specs.Signal.{Signal, rising, running, starts, TP}
-use Rattle.signals.specs.Quantified.{Up, Down, UpRising, Among, Starts, UpTP}
+use Rattle.signals.specs.Quantified.{Up, UpRising, Among, Starts, UpTP}
 use Rattle.signals.specs.Pulses.{Rises, StartsPulses, InPulse, InTicks, Pulses}
 use Rattle.signals.proofs.Truth.{not-both, down-of, not-up, not-of, and-left, and-right, and-of, or-cases, or-left, or-right}
 use Rattle.signals.proofs.Truth.{le-cases}

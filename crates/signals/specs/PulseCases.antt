@@ -1,5 +1,5 @@
 -- Statement: Cases of TP, computed from its definition, in one joint statement.
-use mathlib.Core.List.{List, [], _∷_}
+use mathlib.Core.List.{[], _∷_}
 use Rattle.signals.specs.Signal.{TP}
 use Rattle.signals.specs.Words.{signalOf}
 use Rattle.signals.specs.Starred.{Gives, f, e, l, one}

@@ -1,7 +1,7 @@
 -- Statement: TP from instant to instant, by one number: the ticks that a pulse has still to run.
 use Prim.Native.Nat.{ℕ, zero, suc, _-_}
 use mathlib.Core.Path.{_≡_}
-use mathlib.Core.Bool.{Bool, cond, _&&_}
+use mathlib.Core.Bool.{cond, _&&_}
 use lib.Dec.{leb, ltb}
 use Rattle.signals.specs.Moment.{gap, instant}
 use Rattle.signals.specs.Signal.{Signal, rising, TP}

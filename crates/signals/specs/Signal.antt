@@ -1,8 +1,8 @@
 -- Believed: Document 01, "Operations", over moments, as definitions that compute; and TP, document 02's request 1.
-use Prim.Native.Nat.{ℕ, zero, suc, _+_, _*_, _-_, _≤_}
+use Prim.Native.Nat.{ℕ, zero, suc, _+_}
 use mathlib.Core.Bool.{Bool, true, false, not, cond, _&&_, _||_}
 use mathlib.Core.List.{List, [], _∷_}
-use lib.Dec.{leb, ltb, eqb}
+use lib.Dec.{leb, ltb}
 use lib.ListN.{getD}
 use Rattle.signals.specs.Moment.{instant, isGap, tick, justBefore, opens, inOpen, inClosed, started, fromTo}
 

@@ -1,6 +1,5 @@
 -- `applying::operate` makes the operation that the code word asks for.
 use borrow.Author.Needs.{needs}
-use mathlib.Core.Path.{_≡_, refl, sym}
 use Rattle.applying.proofs.PartsMade.{may-one, may-alone, by-two, by-one, by-timer}
 use Rattle.applying.proofs.operate.Statement.{statement}
 use Rattle.applying.proofs.operate.Tie as tie

@@ -1,6 +1,6 @@
 -- `applying::timed_at` numbers the answer of a timer.
 use borrow.Author.Needs.{needs}
-use mathlib.Core.Path.{_≡_, refl, sym}
+use mathlib.Core.Path.{refl}
 use Rattle.applying.proofs.PartsMade.{timer-part}
 use Rattle.applying.proofs.Operators.{a-delay, a-pulse}
 use Rattle.applying.proofs.timed_at.Statement.{statement}

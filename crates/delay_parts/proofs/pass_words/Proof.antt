@@ -1,14 +1,14 @@
 -- `delay_parts::pass_words` passes word by word what is left of the list: its loop keeps `Running`.
 use Prim.Native.Nat.{_+_, _-_}
 use native.Mathlib.Omega.{arith}
-use mathlib.Core.Path.{_≡_, refl, _∙_, ap}
+use mathlib.Core.Path.{_≡_, refl, ap}
 use lib.ListN.{length}
 use Rattle.signals.specs.Words.{mostWords}
 use Rattle.sources.specs.Sources.{listAt, slotIn}
 use Rattle.sources.proofs.Sourcing.{words-at}
 use Rattle.lent_slots.proofs.LentRuns.{Placed, Running, running-first, running-length, is-left, few-passed, small}
 use Rattle.lent_slots.proofs.LentRuns.{lent-length, running-turn, running-end}
-use Rattle.delaying.specs.Turns.{State, stateOf, pastWord}
+use Rattle.delaying.specs.Turns.{stateOf, pastWord}
 use Rattle.delay_parts.specs.DelayAt.{ended}
 use Rattle.delay_parts.proofs.DelayRun.{finish, past-through}
 use borrow.Author.Needs.{needs}

@@ -1,6 +1,6 @@
 -- `delays::delay` meets its contract: list and length are judged, then the engine's answer is delivered.
 use native.Mathlib.Omega.{arith}
-use mathlib.Core.Path.{refl, sym, _∙_}
+use mathlib.Core.Path.{sym, _∙_}
 use lib.ListN.{replicate}
 use Rattle.signals.proofs.Normal.{accepted-normal, accepted-start}
 use Rattle.operations.proofs.JudgedCalls.{refused, passes-on}

@@ -1,7 +1,7 @@
 -- `pulses::pass_words` passes word by word what is left of the list: its loop keeps `Running`.
 use Prim.Native.Nat.{_+_, _-_}
 use native.Mathlib.Omega.{arith}
-use mathlib.Core.Path.{_≡_, refl, _∙_, ap}
+use mathlib.Core.Path.{_≡_, refl}
 use lib.ListN.{length}
 use Rattle.signals.specs.Words.{mostWords}
 use Rattle.sources.specs.Sources.{listAt, slotIn}

@@ -1,13 +1,13 @@
 -- `pulses::pulse_words` passes the words of a slice in turn: those left lead where all lead from the first.
-use Prim.Native.Nat.{ℕ, _+_, _-_, _≤_}
+use Prim.Native.Nat.{_-_}
 use native.Mathlib.Omega.{arith}
-use mathlib.Core.Path.{_≡_, refl, sym, _∙_, ap}
+use mathlib.Core.Path.{_≡_, refl, _∙_, ap}
 use lib.ListN.{length, drop}
 use Rattle.signals.specs.Words.{valueAfter}
 use Rattle.signals.specs.Passing.{heldValue}
-use Rattle.lent_slots.specs.Lent.{endedBy, through}
+use Rattle.lent_slots.specs.Lent.{through}
 use Rattle.lent_slots.proofs.LentRuns.{leads-on, leads-home}
-use Rattle.pulsing.specs.Turns.{State, stateOf, pastWord, finish, pulseEngine}
+use Rattle.pulsing.specs.Turns.{stateOf, pastWord, finish, pulseEngine}
 use Rattle.pulses.proofs.PulseTests.{put-in, first-is}
 use borrow.Author.Needs.{needs}
 use Rattle.pulses.proofs.pulse_words.Statement.{statement}
