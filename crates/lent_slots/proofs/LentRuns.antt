@@ -26,6 +26,10 @@ pub record Placed (sheet left right work : List ℕ) (f : Source) (at room : ℕ
   pub words : Words (listAt sheet left right work f)
   pub few : f .count < 4294967296
 
+pub few-words : (sheet left right work : List ℕ) (f : Source) (at room : ℕ) → Placed sheet left right work f at room
+    → length (listAt sheet left right work f) < 4294967296
+few-words sheet left right work f at room p = omega (arith, list-short sheet left right work f, p .few)
+
 -- one word more is passed; none is left
 module _ {S : Type 0} (pass : S → ℕ → S) (l : List ℕ) (i : ℕ) (s start : S)
     (leads : through pass (drop i l) s ≡ through pass (drop 1 l) start)
@@ -40,13 +44,12 @@ module _ {S : Type 0} (pass : S → ℕ → S) (l : List ℕ) (i : ℕ) (s start
     unfolding through
     leads-home h = sym (ap (λ (ws : List ℕ). through pass ws s) (drop-of-length-le l {i = i} h)) ∙ leads
 
--- the state is that of the loop's variables and the slot
-pub record Running {S : Type 0} (pass : S → ℕ → S) (l old : List ℕ) (at room : ℕ) (start : S) (work : List ℕ) (passed word : ℕ)
+-- past so many words of the list; the state is that of the loop's variables and the slot
+pub record Running {S : Type 0} (pass : S → ℕ → S) (l old : List ℕ) (at room : ℕ) (start : S) (work : List ℕ) (passed : ℕ)
     (state : List ℕ → S) : Type 0 where
   pub slot : List ℕ
   pub full : length slot ≡ room
   pub work-is : work ≡ withSlot old at room slot
-  pub word-is : word ≡ nextWord l passed
   pub leads : through pass (drop passed l) (state slot) ≡ through pass (drop 1 l) start
 
 -- The slot with its first word in it: what the words lead to from there is what the whole list gives.
@@ -72,6 +75,11 @@ module _ {S : Type 0} (pass : S → ℕ → S) (sheet left right old : List ℕ)
     pub first-length : length first ≡ length old
     first-length = ap length first-is ∙ with-slot-long old at room fits part first-full
 
+    pub first-list : listAt sheet left right first f ≡ whole
+    first-list =
+        ap (λ (x : List ℕ). listAt sheet left right x f) first-is
+        ∙ apart-kept old at room fits part first-full sheet left right f apart
+
     pub begun-run : (finish : S → Ended) (state : List ℕ → S) (r : Made) (after : List ℕ)
         → EndsIn (finish (through pass (drop 1 (listAt sheet left right first f)) (state (slotIn first at room)))) first at room r after
         → EndsIn (finish (through pass (drop 1 whole) (state part))) old at room r after
@@ -82,19 +90,38 @@ module _ {S : Type 0} (pass : S → ℕ → S) (sheet left right old : List ℕ)
           ∙ slot-again old at room fits part first-full (finish (through pass (drop 1 whole) (state part)) .slot),
     )
       where
-        same : listAt sheet left right first f ≡ whole
-        same =
-            ap (λ (x : List ℕ). listAt sheet left right x f) first-is
-            ∙ apart-kept old at room fits part first-full sheet left right f apart
-
         there : slotIn first at room ≡ part
         there = ap (λ (x : List ℕ). slotIn x at room) first-is ∙ slot-back old at room fits part first-full
 
         last : through pass (drop 1 (listAt sheet left right first f)) (state (slotIn first at room))
             ≡ through pass (drop 1 whole) (state part)
         last =
-            ap (λ (l : List ℕ). through pass (drop 1 l) (state (slotIn first at room))) same
+            ap (λ (l : List ℕ). through pass (drop 1 l) (state (slotIn first at room))) first-list
             ∙ ap (λ (x : List ℕ). through pass (drop 1 whole) (state x)) there
+
+-- the next word of the list, where the loop has it: one is left, of 32 bits, or none is
+module _ (l : List ℕ) (words : Words l) (passed word : ℕ) (e : word ≡ nextWord l passed) where
+  pub is-left : word < noWord → passed < length l
+  is-left h = go (ltb passed (length l)) refl
+    where
+      go : (t : Bool) → ltb passed (length l) ≡ t → passed < length l
+      go true q = ltb-true passed (length l) q
+      go false q = absurd (omega (arith, h, e, no-word-left l passed (ltb-false passed (length l) q)))
+
+  pub word-here : word < noWord → word ≡ getD l passed 0
+  word-here h = e ∙ word-left l passed (is-left h)
+
+  pub small : word < noWord → word < 4294967296
+  small h = rw (word-here h) (words passed)
+
+  pub none-left : noWord ≤ word → length l ≤ passed
+  none-left h = go (ltb passed (length l)) refl
+    where
+      go : (t : Bool) → ltb passed (length l) ≡ t → length l ≤ passed
+      go true q =
+          let n = ltb-true passed (length l) q in
+          absurd (omega (arith, h, e ∙ word-left l passed n, words passed))
+      go false q = ltb-false passed (length l) q
 
 -- the words after it
 module _ {S : Type 0} (pass : S → ℕ → S) (sheet left right old : List ℕ) (f : Source) (at room : ℕ)
@@ -103,52 +130,27 @@ module _ {S : Type 0} (pass : S → ℕ → S) (sheet left right old : List ℕ)
     abbrev list : List ℕ
     list = listAt sheet left right old f
 
-    short : length list < 4294967296
-    short = omega (arith, list-short sheet left right old f, p .few)
-
     -- before the second word
-    pub running-first : (state : List ℕ → S) (word : ℕ) → word ≡ nextWord list 1
-        → Running pass list old at room (state (slotIn old at room)) old 1 word state
-    running-first state word e =
+    pub running-first : (state : List ℕ → S) → Running pass list old at room (state (slotIn old at room)) old 1 state
+    running-first state =
         record {
           slot = slotIn old at room;
           full = slot-long old at room (p .fits);
           work-is = sym (slot-kept old at room (p .fits));
-          word-is = e;
           leads = refl;
         }
 
-    module _ (start : S) (work : List ℕ) (passed word : ℕ) (state : List ℕ → S)
-        (r : Running pass list old at room start work passed word state)
+    module _ (start : S) (work : List ℕ) (passed : ℕ) (state : List ℕ → S)
+        (r : Running pass list old at room start work passed state)
       where
         pub running-length : length work ≡ length old
         running-length = ap length (r .work-is) ∙ with-slot-long old at room (p .fits) (r .slot) (r .full)
 
-        -- a word is left, of 32 bits, or none is
-        pub is-left : word < noWord → passed < length list
-        is-left h = go (ltb passed (length list)) refl
-          where
-            go : (t : Bool) → ltb passed (length list) ≡ t → passed < length list
-            go true e = ltb-true passed (length list) e
-            go false e = absurd (omega (arith, h, r .word-is, no-word-left list passed (ltb-false passed (length list) e)))
-
-        pub few-passed : word < noWord → passed + 1 < 4294967296
-        few-passed h = omega (arith, is-left h, short)
-
-        word-here : word < noWord → word ≡ getD list passed 0
-        word-here h = r .word-is ∙ word-left list passed (is-left h)
-
-        pub small : word < noWord → word < 4294967296
-        small h = rw (word-here h) (p .words passed)
-
-        none-left : noWord ≤ word → length list ≤ passed
-        none-left h = go (ltb passed (length list)) refl
-          where
-            go : (t : Bool) → ltb passed (length list) ≡ t → length list ≤ passed
-            go true e =
-                let q = ltb-true passed (length list) e in
-                absurd (omega (arith, h, r .word-is ∙ word-left list passed q, p .words passed))
-            go false e = ltb-false passed (length list) e
+        -- the list is as it was
+        pub running-list : listAt sheet left right work f ≡ list
+        running-list =
+            ap (λ (w : List ℕ). listAt sheet left right w f) (r .work-is)
+            ∙ apart-kept old at room (p .fits) (r .slot) (r .full) sheet left right f (p .apart)
 
         there : slotIn work at room ≡ r .slot
         there = rw (r .work-is) (slot-back old at room (p .fits) (r .slot) (r .full))
@@ -173,34 +175,46 @@ module _ {S : Type 0} (pass : S → ℕ → S) (sheet left right old : List ℕ)
           pub lent-length : length lent ≡ length old
           lent-length = ap length lent-is ∙ with-slot-long old at room (p .fits) part part-full
 
+          -- the list is as it was
+          pub lent-list : listAt sheet left right lent f ≡ list
+          lent-list =
+              ap (λ (w : List ℕ). listAt sheet left right w f) lent-is
+              ∙ apart-kept old at room (p .fits) part part-full sheet left right f (p .apart)
+
           part-there : take (at + room - at) (drop at work) ≡ r .slot
           part-there = ap (λ (n : ℕ). take n (drop at work)) size ∙ there
 
           -- one turn
-          pub running-turn : (h : word < noWord) (state' : List ℕ → S)
-              → state' part ≡ pass (state (take (at + room - at) (drop at work))) word
-              → (word' : ℕ) → word' ≡ nextWord (listAt sheet left right lent f) (passed + 1)
-              → Running pass list old at room start lent (passed + 1) word' state'
-          running-turn h state' e word' q =
+          pub running-turn : passed < length list → (state' : List ℕ → S)
+              → state' part ≡ pass (state (take (at + room - at) (drop at work))) (getD list passed 0)
+              → Running pass list old at room start lent (passed + 1) state'
+          running-turn h state' e =
               record {
                 slot = part;
                 full = part-full;
                 work-is = lent-is;
-                word-is =
-                    q ∙ ap (λ (l : List ℕ). nextWord l (passed + 1)) (ap (λ (w : List ℕ). listAt sheet left right w f) lent-is
-                    ∙ apart-kept old at room (p .fits) part part-full sheet left right f (p .apart));
-                leads = leads-on pass list passed (state (r .slot)) start (r .leads) (is-left h) (state' part) next;
+                leads =
+                    leads-on pass list passed (state (r .slot)) start (r .leads) h (state' part)
+                    (e ∙ ap (λ (x : List ℕ). pass (state x) (getD list passed 0)) part-there);
               }
-            where
-              next : state' part ≡ pass (state (r .slot)) (getD list passed 0)
-              next = rw (part-there, word-here h) at e
+
+          -- the same of a loop that has the next word
+          pub word-turn : (word : ℕ) → word ≡ nextWord list passed → word < noWord → (state' : List ℕ → S)
+              → state' part ≡ pass (state (take (at + room - at) (drop at work))) word
+              → (word' : ℕ) → word' ≡ nextWord (listAt sheet left right lent f) (passed + 1)
+              → Running pass list old at room start lent (passed + 1) state' × (word' ≡ nextWord list (passed + 1))
+          word-turn word e h state' q word' n = (
+            running-turn (is-left list (p .words) passed word e h) state'
+                (q ∙ ap (pass (state (take (at + room - at) (drop at work)))) (word-here list (p .words) passed word e h)),
+            n ∙ ap (λ (l : List ℕ). nextWord l (passed + 1)) lent-list,
+          )
 
           -- the end: what is still to come is put into the slot
-          pub running-end : noWord ≤ word → (finish : S → Ended) (made : Made)
+          pub running-end : length list ≤ passed → (finish : S → Ended) (made : Made)
               → endedBy made part ≡ finish (state (take (at + room - at) (drop at work)))
               → EndsIn (finish (through pass (drop 1 list) start)) old at room made lent
           running-end h finish made e =
               let last : endedBy made part ≡ finish (through pass (drop 1 list) start) =
               e ∙ ap (λ (x : List ℕ). finish (state x)) part-there
-              ∙ ap finish (leads-home pass list passed (state (r .slot)) start (r .leads) (none-left h)) in
+              ∙ ap finish (leads-home pass list passed (state (r .slot)) start (r .leads) h) in
               (ap (λ (x : Ended). x .made) last, lent-is ∙ ap (λ (x : Ended). withSlot old at room (x .slot)) last)

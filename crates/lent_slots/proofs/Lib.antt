@@ -1,3 +1,4 @@
 -- Whether an engine begins, and what its loop keeps.
 pub mod MayBuild
 pub mod LentRuns
+pub mod WordReaders

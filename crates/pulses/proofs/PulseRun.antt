@@ -1,18 +1,17 @@
 -- The slot with the first word of the pulses in it: what the words lead to from there is what the whole list gives.
 use Prim.Native.Nat.{ℕ, _+_, _-_, _≤_}
-use mathlib.Core.Path.{_≡_, _∙_, ap}
+use mathlib.Core.Path.{_≡_, subst}
 use mathlib.Core.Bool.{true, false}
 use mathlib.Core.List.{List, _++_}
 use lib.ListN.{length, take, drop, set}
 use Rattle.signals.specs.Signal.{num}
-use Rattle.signals.specs.Words.{valueAfter}
+use Rattle.signals.specs.Passing.{heldValue}
 use Rattle.building.specs.Building.{begun}
 use Rattle.building.specs.declared.Made.{Made}
-use Rattle.sources.specs.Sources.{nextWord, listAt, apartFrom, slotIn}
+use Rattle.sources.specs.Sources.{listAt, apartFrom, slotIn}
 use Rattle.sources.specs.declared.Source.{Source}
-use Rattle.sources.proofs.Sourcing.{first-held}
 use Rattle.lent_slots.specs.Lent.{through, EndsIn}
-use Rattle.lent_slots.proofs.LentRuns.{first-part, begun-run}
+use Rattle.lent_slots.proofs.LentRuns.{first-part, first-list, begun-run}
 use Rattle.pulsing.specs.Turns.{stateOf, pastWord, finish, firstState, pulseEngine}
 use Rattle.pulses.proofs.PulseTests.{first-is}
 
@@ -25,15 +24,19 @@ module _ (d : ℕ) (sheet left right old : List ℕ) (f : Source) (at room : ℕ
     abbrev first : List ℕ
     first = take at old ++ (part ++ drop (at + room - at) (drop at old))
 
-    pub begun-pulses : (word : ℕ) → word ≡ nextWord whole 0 → (made : Made) → made ≡ begun false → (r : Made) (after : List ℕ)
+    pub begun-pulses : (made : Made) → made ≡ begun false → (r : Made) (after : List ℕ)
         → EndsIn (finish (through (pastWord d) (drop 1 (listAt sheet left right first f))
-        (stateOf (valueAfter word) 0 made (slotIn first at room)))) first at room r after
+        (stateOf (heldValue (listAt sheet left right first f) 1) 0 made (slotIn first at room)))) first at room r after
         → EndsIn (pulseEngine d whole (slotIn old at room)) old at room r after
     unfolding pulseEngine
-    begun-pulses word e0 made e1 r after ran =
-        let state : stateOf (valueAfter word) 0 made part ≡ firstState whole (slotIn old at room) =
-        first-is whole (slotIn old at room) (valueAfter word) (ap valueAfter e0 ∙ first-held whole) made part
-        (e1, first-part (pastWord d) sheet left right old f at room fits apart part false e) in
+    begun-pulses made e1 r after ran =
+        let state : stateOf (heldValue whole 1) 0 made part ≡ firstState whole (slotIn old at room) =
+        first-is whole (slotIn old at room) made part (e1, first-part (pastWord d) sheet left right old f at room fits apart part false e)
+        in
+        let same : listAt sheet left right first f ≡ whole = first-list (pastWord d) sheet left right old f at room fits apart part false e in
         rw (← state)
-        (begun-run (pastWord d) sheet left right old f at room fits apart part false e finish (stateOf (valueAfter word) 0 made) r after
-        ran)
+        (begun-run (pastWord d) sheet left right old f at room fits apart part false e finish (stateOf (heldValue whole 1) 0 made) r after
+        (subst
+        (λ (l : List ℕ). EndsIn (finish (through (pastWord d) (drop 1 (listAt sheet left right first f))
+        (stateOf (heldValue l 1) 0 made (slotIn first at room)))) first at room r after)
+        same ran))

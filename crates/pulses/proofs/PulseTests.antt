@@ -4,15 +4,23 @@ use mathlib.Core.Path.{_≡_, _∙_, ap}
 use mathlib.Core.Bool.{Bool, true, false}
 use mathlib.Core.List.{List}
 use lib.Dec.{leb, ltb}
-use borrow.Author.Tests.{lt-ltb, le-ltb, eq-eqb, ne-eqb}
+use lib.ListN.{getD}
+use borrow.Author.Tests.{lt-ltb, le-ltb}
 use Rattle.signals.specs.Answers.{sumOf}
 use Rattle.signals.specs.Words.{dateOf, valueAt, valueAfter}
 use Rattle.signals.specs.Passing.{heldValue}
+use Rattle.signals.proofs.Operand.{held-next}
+use Rattle.reading.specs.Reading.{NEVER}
+use Rattle.sources.specs.Sources.{pastOn}
+use Rattle.sources.specs.declared.Cursor.{Cursor}
+use Rattle.sources.specs.declared.Passed.{Passed}
+use Rattle.sources.proofs.Readers.{Reading}
+use Rattle.lent_slots.proofs.WordReaders.{word-left, word-step, word-passed}
 use Rattle.building.specs.Building.{Begins, Emits}
 use Rattle.building.specs.declared.Made.{Made}
 use Rattle.timing.specs.Delay.{dateIn}
 use Rattle.lent_slots.specs.Lent.{Ended, endedBy}
-use Rattle.pulsing.specs.Turns.{State, stateOf, putFrom, closed, startsAt, startedAt, pastWord, firstState}
+use Rattle.pulsing.specs.Turns.{Pulse, pulseOf, putFrom, closed, startedAt, startsAt, pastDate, stateOf, pastWord, firstState}
 
 -- what is put into the slot
 pub put-in : (e : Ended) (date : ℕ) (value : Bool) (made : Made) (slot : List ℕ) → Emits (e .made) date value value (e .slot) made slot
@@ -35,35 +43,48 @@ pub started : (d due date : ℕ) (e ended : Ended) → ended ≡ closed due date
 unfolding startedAt
 started d due date e ended q up u made slot em = put-in ended date up made slot em ∙ rw (q, u)
 
--- whether a word starts one
-module _ (held : Bool) (due w : ℕ) where
-  pub no-rise : (w / 2 % 2 ≡ 1 → ⊥) → false ≡ startsAt held due w
-  unfolding startsAt valueAt
-  no-rise n = rw (ne-eqb (w / 2 % 2) 1 n)
+-- whether a date starts one
+module _ (before at : Bool) (due date : ℕ) where
+  pub not-up : at ≡ false → false ≡ startsAt before at due date
+  unfolding startsAt
+  not-up e = rw e
 
-  pub was-up : w / 2 % 2 ≡ 1 → held ≡ true → false ≡ startsAt held due w
-  unfolding startsAt valueAt
-  was-up r h = rw (eq-eqb (w / 2 % 2) 1 r, h)
+  pub was-up : at ≡ true → before ≡ true → false ≡ startsAt before at due date
+  unfolding startsAt
+  was-up e h = rw (e, h)
 
-  pub rises : w / 2 % 2 ≡ 1 → held ≡ false → leb due (w / 4) ≡ startsAt held due w
-  unfolding startsAt valueAt dateOf
-  rises r h = rw (eq-eqb (w / 2 % 2) 1 r, h)
+  pub rises : at ≡ true → before ≡ false → leb due date ≡ startsAt before at due date
+  unfolding startsAt
+  rises e h = rw (e, h)
 
--- past a word
-module _ (d : ℕ) (s : State) (w : ℕ) (held : Bool) (h : held ≡ valueAfter w) where
-  pub starts-here : true ≡ startsAt (s .held) (s .due) w → (due : ℕ) → due ≡ dateIn (sumOf (dateOf w) d) → (made : Made) (slot : List ℕ)
-      → endedBy made slot ≡ startedAt d (s .due) (dateOf w) (s .built) → stateOf held due made slot ≡ pastWord d s w
-  unfolding pastWord
-  starts-here t due e made slot b =
-      rw (← t, h, e) (ap (λ (x : Ended). record { held = valueAfter w; due = dateIn (sumOf (dateOf w) d); built = x }) b)
+-- past a date
+module _ (d : ℕ) (before at : Bool) (date : ℕ) (p : Pulse) where
+  pub starts-here : true ≡ startsAt before at (p .due) date → (due : ℕ) → due ≡ dateIn (sumOf date d) → (made : Made) (slot : List ℕ)
+      → endedBy made slot ≡ startedAt d (p .due) date (p .built) → pulseOf due made slot ≡ pastDate d before at date p
+  unfolding pastDate
+  starts-here t due e made slot b = rw (← t, e) (ap (λ (x : Ended). record { due = dateIn (sumOf date d); built = x }) b)
 
-  pub goes-on : false ≡ startsAt (s .held) (s .due) w
-      → (record { held = held; due = s .due; built = s .built }) ≡ pastWord d s w
-  unfolding pastWord
-  goes-on t = rw (← t, h)
+  pub goes-on : false ≡ startsAt before at (p .due) date → p ≡ pastDate d before at date p
+  unfolding pastDate
+  goes-on t = rw (← t)
 
 -- before the second word
-pub first-is : (l slot : List ℕ) (held : Bool) → held ≡ heldValue l 1 → (made : Made) (slot' : List ℕ) → Begins false slot made slot'
-    → stateOf held 0 made slot' ≡ firstState l slot
+pub first-is : (l slot : List ℕ) (made : Made) (slot' : List ℕ) → Begins false slot made slot'
+    → stateOf (heldValue l 1) 0 made slot' ≡ firstState l slot
 unfolding firstState
-first-is l slot held h made slot' (m, t) = rw (m, t, h)
+first-is l slot made slot' (m, t) = rw (m, t)
+
+-- A word of the list is passed, as the reader tells it.
+module _ (d : ℕ) (l : List ℕ) (x : Cursor) (g : Reading l x) (early : x .date < NEVER) (u : Passed) (e : u ≡ pastOn l x (x .date)) where
+  pub word-past : (due : ℕ) (made : Made) (slot : List ℕ) (due' : ℕ) (made' : Made) (slot' : List ℕ)
+      → pulseOf due' made' slot' ≡ pastDate d (u .step .before) (u .step .at) (x .date) (pulseOf due made slot)
+      → stateOf (heldValue l (u .next .passed)) due' made' slot'
+      ≡ pastWord d (stateOf (heldValue l (x .passed)) due made slot) (getD l (x .passed) 0)
+  unfolding pastWord
+  word-past due made slot due' made' slot' q =
+      let step = word-step l x g early u e in
+      let held : heldValue l (u .next .passed) ≡ valueAfter (getD l (x .passed) 0) =
+      ap (heldValue l) (word-passed l x g early u e) ∙ held-next l (x .passed) in
+      let date : x .date ≡ dateOf (getD l (x .passed) 0) = word-left l x g early .1 in
+      ap (λ (h : Bool). stateOf h due' made' slot') held
+      ∙ ap (λ (p : Pulse). record { held = valueAfter (getD l (x .passed) 0); pulse = p }) (q ∙ rw (step, date))

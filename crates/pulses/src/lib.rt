@@ -6,24 +6,24 @@ ghost use lib.ListN.{length, drop};
 ghost use Rattle.signals.specs.Answers.{sumOf};
 ghost use Rattle.signals.specs.Signal.{TP};
 ghost use Rattle.signals.specs.Words.{mostWords};
+ghost use Rattle.signals.specs.Passing.{heldValue};
 ghost use Rattle.operations.specs.Calls.{CallOfDelay};
 ghost use Rattle.timing.specs.Delay.{dateIn};
 ghost use Rattle.sources.specs.Sources.{listAt, apartFrom, slotIn};
 ghost use Rattle.lent_slots.specs.Lent.{endedBy, through, EndsIn, BuiltAt};
-ghost use Rattle.pulsing.specs.Turns.{stateOf, closed, startsAt, startedAt, pastWord, finish, pulseEngine};
+ghost use Rattle.pulsing.specs.Turns.{pulseOf, closed, startsAt, startedAt, pastDate, stateOf, pastWord, finish, pulseEngine};
 use building::Made;
 use building::SlotAnswer;
 use building::WORDS;
+use reading::NEVER;
 use signals::Date;
 use signals::Length;
 use signals::M;
 use signals::Written;
 use sources::Source;
 
-// A pulse timer on its way: the value that its input holds, the end of the last pulse, 0 where none has started, and the answer being
-// built.
+// A pulse timer on its way: the end of the last pulse, 0 where none has started, and the answer being built.
 struct Going {
-    held: bool,
     due: Date,
     made: Made,
 }
@@ -35,15 +35,15 @@ fn end_of(date: Date, d: Length) -> Date
     timing::date_in(words::date_plus_length(date, d))
 }
 
-// A word starts a pulse: its input rises, and the last pulse has ended.
-fn starts(held: bool, due: Date, word: u32) -> bool
-    ensures { λ r. ⌜ r ≡ startsAt held (due .0) word ⌝ }
+// A date starts a pulse, by the input's values before it and at it: the input rises, and the last pulse has ended.
+fn starts(before: bool, at: bool, due: Date, date: Date) -> bool
+    ensures { λ r. ⌜ r ≡ startsAt before at (due .0) (date .0) ⌝ }
 {
-    if word / 2 % 2 == 1 {
-        if held {
+    if at {
+        if before {
             return false;
         }
-        return due.0 <= word / 4;
+        return due.0 <= date.0;
     }
     false
 }
@@ -67,25 +67,26 @@ fn start(slot: &mut [u32], d: Length, due: Date, date: Date, made: Made) -> Made
     building::emit(slot, ended, date, up, up)
 }
 
-// Past a word.
-fn pass(slot: &mut [u32], d: Length, held: bool, due: Date, made: Made, word: u32) -> Going
-    ensures { λ r. ⌜ stateOf (r .held) (r .due .0) (r .made) (now (slot .exit))
-        ≡ pastWord (d .0) (stateOf held (due .0) made (now (slot .entry))) word ⌝ }
+// Past a date.
+fn pass(
+    slot: &mut [u32],
+    d: Length,
+    due: Date,
+    made: Made,
+    date: Date,
+    before: bool,
+    at: bool,
+) -> Going
+    ensures { λ r. ⌜ pulseOf (r .due .0) (r .made) (now (slot .exit))
+        ≡ pastDate (d .0) before at (date .0) (pulseOf (due .0) made (now (slot .entry))) ⌝ }
 {
-    let next = word % 2 == 1;
-    if starts(held, due, word) {
-        let date = Date(word / 4);
+    if starts(before, at, due, date) {
         return Going {
-            held: next,
             due: end_of(date, d),
             made: start(slot, d, due, date, made),
         };
     }
-    Going {
-        held: next,
-        due,
-        made,
-    }
+    Going { due, made }
 }
 
 // The words of a list from the second on, then the end of the last pulse, in the slot from a place on.
@@ -97,28 +98,27 @@ fn pass_words(
     work: &mut [u32],
     f: Source,
     at: usize,
-    first: bool,
     begun: Made,
 ) -> Made
     requires { ⌜ (at + mostWords ≤ length (now work)) × (apartFrom f at mostWords ≡ true) ⌝ }
     ensures { λ r.
         ⌜ EndsIn (finish (through (pastWord (d .0))
         (drop 1 (listAt (now (sheet .entry)) (now (left .entry)) (now (right .entry)) (now (work .entry)) f))
-        (stateOf first 0 begun (slotIn (now (work .entry)) at mostWords)))) (now (work .entry)) at mostWords r (now (work .exit)) ⌝ }
+        (stateOf (heldValue (listAt (now (sheet .entry)) (now (left .entry)) (now (right .entry)) (now (work .entry)) f) 1) 0 begun
+        (slotIn (now (work .entry)) at mostWords)))) (now (work .entry)) at mostWords r (now (work .exit)) ⌝ }
 {
     let end = at + WORDS;
-    let mut held = first;
     let mut due = Date(0);
     let mut made = begun;
-    let mut passed: usize = 1;
-    let mut word = sources::next_word(sheet, left, right, work, f, 1);
-    while word < sources::NONE {
-        let going = pass(&mut work[at..end], d, held, due, made, word as u32);
-        held = going.held;
+    let mut reader = sources::start(sheet, left, right, work, f);
+    while reader.date < NEVER {
+        let date = Date(reader.date);
+        let passed = sources::past(sheet, left, right, work, f, reader, date);
+        let step = passed.step;
+        let going = pass(&mut work[at..end], d, due, made, date, step.before, step.at);
         due = going.due;
         made = going.made;
-        passed += 1;
-        word = sources::next_word(sheet, left, right, work, f, passed);
+        reader = passed.next;
     }
     building::emit(&mut work[at..end], made, due, false, false)
 }
@@ -139,10 +139,8 @@ fn run(
         (slotIn (now (work .entry)) at mostWords)) (now (work .entry)) at mostWords r (now (work .exit)) ⌝ }
 {
     let end = at + WORDS;
-    let word = sources::next_word(sheet, left, right, work, f, 0);
-    let held = word % 2 == 1;
     let made = building::begin(&mut work[at..end], false);
-    pass_words(d, sheet, left, right, work, f, at, held, made)
+    pass_words(d, sheet, left, right, work, f, at, made)
 }
 
 // TP of a list that stands anywhere, in a slot of the work area: no entry point, since the slot is scratch.
@@ -167,19 +165,20 @@ pub fn pulse_at(
 
 // The pulses of a slice's list, built in a slot of any length.
 fn pulse_words(d: Length, f: &[u32], slot: &mut [u32]) -> Made
-    requires { ⌜ 1 ≤ length (now f) ⌝ }
+    requires { ⌜ length (now f) ≤ mostWords ⌝ }
     ensures { λ r. ⌜ endedBy r (now (slot .exit)) ≡ pulseEngine (d .0) (now (f .entry)) (now (slot .entry)) ⌝ }
 {
-    let mut held = f[0] % 2 == 1;
     let mut due = Date(0);
     let mut made = building::begin(slot, false);
-    let mut i: usize = 1;
-    while i < f.len() {
-        let going = pass(slot, d, held, due, made, f[i]);
-        held = going.held;
+    let mut reader = sources::start_in(f);
+    while reader.date < NEVER {
+        let date = Date(reader.date);
+        let passed = sources::past_in(f, reader, reader.date);
+        let step = passed.step;
+        let going = pass(slot, d, due, made, date, step.before, step.at);
         due = going.due;
         made = going.made;
-        i += 1;
+        reader = passed.next;
     }
     building::emit(slot, made, due, false, false)
 }

@@ -29,7 +29,8 @@ use Rattle.signals.specs.Answers.{sumOf}
 use Rattle.timing.specs.Delay.{dateIn}
 use Rattle.timing.proofs.DelayTiming.{sum-exact}
 use Rattle.lent_slots.specs.Lent.{Ended, through}
-use Rattle.pulsing.specs.Turns.{State, putFrom, closed, startsAt, startedAt, pastWord, finish, firstState, pulseEngine}
+use Rattle.pulsing.specs.Turns.{Pulse, State, putFrom, closed, startsAt, startedAt, pastDate, pastWord, finish}
+use Rattle.pulsing.specs.Turns.{firstState, pulseEngine}
 use Rattle.pulsing.proofs.Ticks.{falls, at-word, up-before, down-from, shown-at, shown-after}
 
 -- the ticks of moments between two dates
@@ -140,9 +141,9 @@ module _ (d : ℕ) (l old : List ℕ) (accepted : listFault l ≡ 0) (short : d 
     holds : s .held ≡ heldValue l p
     within : k ≤ lastDate l
     before : q ≤ k
-    scanned : Scanned q (s .built)
-    runs : (j : ℕ) → q ≤ j → j ≤ k → ticksLeft d f j ≡ s .due - j
-    ends : s .due ≤ horizon
+    scanned : Scanned q (s .pulse .built)
+    runs : (j : ℕ) → q ≤ j → j ≤ k → ticksLeft d f j ≡ s .pulse .due - j
+    ends : s .pulse .due ≤ horizon
 
   first : Pulsing (firstState l old) 1
   unfolding firstState ticksLeft
@@ -161,8 +162,8 @@ module _ (d : ℕ) (l old : List ℕ) (accepted : listFault l ≡ 0) (short : d 
 
   -- a word is passed
   passes : (s : State) (p : ℕ) → p < length l → Pulsing s p → Pulsing (pastWord d s (getD l p 0)) (p + 1)
-  unfolding pastWord startsAt
-  passes s p h i = go (startsAt (s .held) (s .due) w) refl
+  unfolding pastWord pastDate startsAt
+  passes s p h i = go (startsAt (s .held) (valueAt w) (s .pulse .due) (dateOf w)) refl
     where
       w : ℕ
       w = getD l p 0
@@ -177,32 +178,36 @@ module _ (d : ℕ) (l old : List ℕ) (accepted : listFault l ≡ 0) (short : d 
       later = step .0 .later
 
       -- up to the word, and at it
-      on : Runs (s .due) (i .q) (dateOf w)
+      on : Runs (s .pulse .due) (i .q) (dateOf w)
       on j a b = between (decLe j (i .k))
         where
-          between : Dec (j ≤ i .k) → ticksLeft d f j ≡ s .due - j
+          between : Dec (j ≤ i .k) → ticksLeft d f j ≡ s .pulse .due - j
           between (yes m) = i .runs j a m
           between (no m) =
-              falls d f (i .k) (s .due) (dateOf w) (heldValue l p) (step .0 .still) (i .runs (i .k) (i .before) (omega arith)) j
+              falls d f (i .k) (s .pulse .due) (dateOf w) (heldValue l p) (step .0 .still) (i .runs (i .k) (i .before) (omega arith)) j
               (omega arith) b
 
-      here : ticksLeft d f (dateOf w) ≡ cond (startsAt (s .held) (s .due) w) d (s .due - dateOf w)
+      here : ticksLeft d f (dateOf w) ≡ cond (startsAt (s .held) (valueAt w) (s .pulse .due) (dateOf w)) d (s .pulse .due - dateOf w)
       here =
-          at-word d f (i .k) (s .due) (dateOf w) (heldValue l p) (valueAt w) (valueAfter w) (step .0)
+          at-word d f (i .k) (s .pulse .due) (dateOf w) (heldValue l p) (valueAt w) (valueAfter w) (step .0)
           (i .runs (i .k) (i .before) (omega arith))
-          ∙ ap (λ (v : Bool). cond ((valueAt w && not v) && leb (s .due) (dateOf w)) d (s .due - dateOf w)) (sym (i .holds))
+          ∙ ap (λ (v : Bool). cond ((valueAt w && not v) && leb (s .pulse .due) (dateOf w)) d (s .pulse .due - dateOf w)) (sym (i .holds))
 
       end : dateIn (sumOf (dateOf w) d) ≡ dateOf w + d
       end = sum-exact (dateOf w) d (omega (arith, last, early)) short
 
-      go : (t : Bool) → startsAt (s .held) (s .due) w ≡ t → Pulsing
+      after : Pulse → State
+      after pulse = record { held = valueAfter w; pulse = pulse }
+
+      go : (t : Bool) → startsAt (s .held) (valueAt w) (s .pulse .due) (dateOf w) ≡ t → Pulsing
+          (after
           (cond t
-          (record { held = valueAfter w; due = dateIn (sumOf (dateOf w) d); built = startedAt d (s .due) (dateOf w) (s .built) })
-          (record { held = valueAfter w; due = s .due; built = s .built })) (p + 1)
+          (record { due = dateIn (sumOf (dateOf w) d); built = startedAt d (s .pulse .due) (dateOf w) (s .pulse .built) })
+          (s .pulse))) (p + 1)
       go true e =
           let new : ticksLeft d f (dateOf w) ≡ d = here ∙ rw e in
-          let over : s .due ≤ dateOf w =
-          leb-true (s .due) (dateOf w) (and-right (valueAt w && not (s .held)) (leb (s .due) (dateOf w)) e) in
+          let over : s .pulse .due ≤ dateOf w =
+          leb-true (s .pulse .due) (dateOf w) (and-right (valueAt w && not (s .held)) (leb (s .pulse .due) (dateOf w)) e) in
           record {
             k = dateOf w;
             q = dateOf w;
@@ -211,7 +216,7 @@ module _ (d : ℕ) (l old : List ℕ) (accepted : listFault l ≡ 0) (short : d 
             within = last;
             before = omega arith;
             scanned =
-                start (s .built) (s .due) (i .q) (dateOf w) (i .scanned) on (omega (arith, i .before, later)) over (i .ends)
+                start (s .pulse .built) (s .pulse .due) (i .q) (dateOf w) (i .scanned) on (omega (arith, i .before, later)) over (i .ends)
                 (omega (arith, last)) new;
             runs = λ j a b.
                 let z : j ≡ dateOf w = omega arith in
@@ -232,7 +237,7 @@ module _ (d : ℕ) (l old : List ℕ) (accepted : listFault l ≡ 0) (short : d 
             ends = i .ends;
           }
         where
-          upTo : (j : ℕ) → i .q ≤ j → Dec (j < dateOf w) → j ≤ dateOf w → ticksLeft d f j ≡ s .due - j
+          upTo : (j : ℕ) → i .q ≤ j → Dec (j < dateOf w) → j ≤ dateOf w → ticksLeft d f j ≡ s .pulse .due - j
           upTo j a (yes m) b = on j a m
           upTo j a (no m) b = let z : j ≡ dateOf w = omega arith in rw z (here ∙ rw e)
 
@@ -243,33 +248,33 @@ module _ (d : ℕ) (l old : List ℕ) (accepted : listFault l ≡ 0) (short : d 
   done s p h i =
       scanning-done (TP d f) horizon old (c .since) (finish s .slot) (finish s .made) (c .scanned) (λ t l. stays t l (decLt t (instant n)))
     where
-      ever : (n j : ℕ) → i .q ≤ j → j < n → ticksLeft d f j ≡ s .due - j
+      ever : (n j : ℕ) → i .q ≤ j → j < n → ticksLeft d f j ≡ s .pulse .due - j
       ever n j a b = between (decLe j (i .k))
         where
-          between : Dec (j ≤ i .k) → ticksLeft d f j ≡ s .due - j
+          between : Dec (j ≤ i .k) → ticksLeft d f j ≡ s .pulse .due - j
           between (yes m) = i .runs j a m
           between (no m) =
-              falls d f (i .k) (s .due) n (heldValue l p) (λ t g o. at-end f l p (i .k) (i .at) h t g)
+              falls d f (i .k) (s .pulse .due) n (heldValue l p) (λ t g o. at-end f l p (i .k) (i .at) h t g)
               (i .runs (i .k) (i .before) (omega arith)) j (omega arith) b
 
       -- a date after both
       n : ℕ
-      n = suc (i .q + s .due)
+      n = suc (i .q + s .pulse .due)
 
       c : Stands (finish s) n
-      c = down (s .built) (s .due) (i .q) n (i .scanned) (ever n) (omega arith) (omega arith) (i .ends)
+      c = down (s .pulse .built) (s .pulse .due) (i .q) n (i .scanned) (ever n) (omega arith) (omega arith) (i .ends)
 
-      low : (t : ℕ) → gap (i .q + s .due) ≤ t → TP d f t ≡ false
+      low : (t : ℕ) → gap (i .q + s .pulse .due) ≤ t → TP d f t ≡ false
       low t g =
-          let on = tick-low (i .q + s .due) t g in
-          down-from d f (s .due) t (ever (suc (tick t)) (tick t) (omega arith) (omega arith)) (omega arith)
+          let on = tick-low (i .q + s .pulse .due) t g in
+          down-from d f (s .pulse .due) t (ever (suc (tick t)) (tick t) (omega arith) (omega arith)) (omega arith)
 
       stays : (t : ℕ) → gap (c .since) ≤ t → Dec (t < instant n) → TP d f t ≡ TP d f (gap (c .since))
       stays t g (yes b) = c .still t g b
       stays t g (no b) =
           low t (omega arith)
-          ∙ sym (low (gap (i .q + s .due)) (omega arith))
-          ∙ c .still (gap (i .q + s .due)) (omega (arith, c .before)) (omega arith)
+          ∙ sym (low (gap (i .q + s .pulse .due)) (omega arith))
+          ∙ c .still (gap (i .q + s .pulse .due)) (omega (arith, c .before)) (omega arith)
 
   runs-out : (n p : ℕ) → p + n ≡ length l → (s : State) → Pulsing s p
       → Built (exactOfDelay (TP d) d l) old (finish (through (pastWord d) (drop p l) s) .slot)

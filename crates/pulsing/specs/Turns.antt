@@ -14,14 +14,13 @@ use Rattle.building.specs.declared.Made.{Made}
 use Rattle.timing.specs.Delay.{dateIn}
 use Rattle.lent_slots.specs.Lent.{Ended, endedBy, Engine, through}
 
--- the value that the input holds, the end of the last pulse, 0 where none has started, and what is built so far
-pub record State : Type 0 where
-  pub held : Bool
+-- the end of the last pulse, 0 where none has started, and what is built so far
+pub record Pulse : Type 0 where
   pub due : ℕ
   pub built : Ended
 
-abbrev pub stateOf : Bool → ℕ → Made → List ℕ → State
-stateOf held due made slot = record { held = held; due = due; built = endedBy made slot }
+abbrev pub pulseOf : ℕ → Made → List ℕ → Pulse
+pulseOf due made slot = record { due = due; built = endedBy made slot }
 
 -- a date from which on the timer shows a value
 abbrev pub putFrom : Ended → ℕ → Bool → Ended
@@ -31,24 +30,36 @@ putFrom e date value = endedBy (emitted (e .made) date value value) (emittedIn (
 unfoldable pub closed : ℕ → ℕ → Ended → Ended
 closed due next e = cond (ltb due next) (putFrom e due false) e
 
--- a word starts a pulse: the input rises, and the last pulse has ended
-unfoldable pub startsAt : Bool → ℕ → ℕ → Bool
-startsAt held due w = (valueAt w && not held) && leb due (dateOf w)
-
--- a pulse of d ticks starts, none at all where d is 0
+-- a pulse of d ticks starts at a date, none at all where d is 0
 unfoldable pub startedAt : ℕ → ℕ → ℕ → Ended → Ended
 startedAt d due date e = putFrom (closed due date e) date (ltb 0 d)
 
+-- a date starts a pulse, by the input's values before it and at it: the input rises, and the last pulse has ended
+unfoldable pub startsAt : Bool → Bool → ℕ → ℕ → Bool
+startsAt before at due date = (at && not before) && leb due date
+
+-- past a date
+unfoldable pub pastDate : ℕ → Bool → Bool → ℕ → Pulse → Pulse
+pastDate d before at date p =
+    cond (startsAt before at (p .due) date)
+    (record { due = dateIn (sumOf date d); built = startedAt d (p .due) date (p .built) })
+    p
+
+-- the value that the input holds, and the pulses
+pub record State : Type 0 where
+  pub held : Bool
+  pub pulse : Pulse
+
+abbrev pub stateOf : Bool → ℕ → Made → List ℕ → State
+stateOf held due made slot = record { held = held; pulse = pulseOf due made slot }
+
 -- past a word
 unfoldable pub pastWord : ℕ → State → ℕ → State
-pastWord d s w =
-    cond (startsAt (s .held) (s .due) w)
-    (record { held = valueAfter w; due = dateIn (sumOf (dateOf w) d); built = startedAt d (s .due) (dateOf w) (s .built) })
-    (record { held = valueAfter w; due = s .due; built = s .built })
+pastWord d s w = record { held = valueAfter w; pulse = pastDate d (s .held) (valueAt w) (dateOf w) (s .pulse) }
 
 -- past the last word: the last pulse ends
 abbrev pub finish : State → Ended
-finish s = putFrom (s .built) (s .due) false
+finish s = putFrom (s .pulse .built) (s .pulse .due) false
 
 -- before the second word: the answer has its first
 unfoldable pub firstState : List ℕ → List ℕ → State

@@ -4,10 +4,10 @@ use native.Mathlib.Omega.{arith}
 use mathlib.Core.Path.{_≡_, refl, ap}
 use lib.ListN.{length}
 use Rattle.signals.specs.Words.{mostWords}
-use Rattle.sources.specs.Sources.{listAt, slotIn}
+use Rattle.sources.specs.Sources.{listAt, nextWord, slotIn}
 use Rattle.sources.proofs.Sourcing.{words-at}
-use Rattle.lent_slots.proofs.LentRuns.{Placed, Running, running-first, running-length, is-left, few-passed, small}
-use Rattle.lent_slots.proofs.LentRuns.{lent-length, running-turn, running-end}
+use Rattle.lent_slots.proofs.LentRuns.{Placed, few-words, Running, running-first, running-length, lent-length, word-turn}
+use Rattle.lent_slots.proofs.LentRuns.{running-end, is-left, small, none-left}
 use Rattle.delaying.specs.Turns.{stateOf, pastWord}
 use Rattle.delay_parts.specs.DelayAt.{ended}
 use Rattle.delay_parts.proofs.DelayRun.{finish, past-through}
@@ -19,7 +19,8 @@ abbrev Inv-loop : tie.InvT-loop
 Inv-loop level d sheet left right work₀ f at end timer₀ made₀ passed₀ word₀ work timer made passed word =
     (end ≡ at + mostWords) × Placed sheet left right work₀ f at mostWords
     × Running (pastWord level (d .0)) (listAt sheet left right work₀ f) work₀ at mostWords
-    (stateOf timer₀ made₀ (slotIn work₀ at mostWords)) work passed word (stateOf timer made)
+    (stateOf timer₀ made₀ (slotIn work₀ at mostWords)) work passed (stateOf timer made)
+    × (word ≡ nextWord (listAt sheet left right work₀ f) passed)
 
 abbrev μ-loop : tie.MeasureT-loop
 μ-loop level d sheet left right work₀ f at end timer₀ made₀ passed₀ word₀ work timer made passed word =
@@ -52,7 +53,7 @@ next-word-requires c κs = search needs
 loop-holds : tie.Need-loop-holds Inv-loop μ-loop
 loop-holds c =
     let p = placed (c .before .before) in
-    (refl, p, running-first _ _ _ _ _ _ _ _ p _ _ (c .next-word .ensures))
+    (refl, p, running-first _ _ _ _ _ _ _ _ p _, c .next-word .ensures)
 
 -- the slot is in the work area
 mul-pass : tie.Need-mul-pass Inv-loop μ-loop
@@ -67,12 +68,12 @@ part-pass-start c = search needs
 part-pass-end : tie.Need-part-pass-end Inv-loop μ-loop
 part-pass-end c =
     let here = c .before .loop .inv in
-    omega (arith, here .0, here .1 .fits, running-length _ _ _ _ _ _ _ _ (here .1) _ _ _ _ _ (here .2))
+    omega (arith, here .0, here .1 .fits, running-length _ _ _ _ _ _ _ _ (here .1) _ _ _ _ (here .2))
 
 cast-pass : tie.Need-cast-pass Inv-loop μ-loop
 cast-pass c =
     let here = c .before .before .loop .inv in
-    omega (arith, small _ _ _ _ _ _ _ _ (here .1) _ _ _ _ _ (here .2) (c .before .loop-test .taken))
+    omega (arith, small _ (here .1 .words) _ _ (here .3) (c .before .loop-test .taken))
 
 pass-requires : tie.Need-pass-requires Inv-loop μ-loop
 pass-requires c κs = search needs
@@ -81,7 +82,7 @@ add-passed : tie.Need-add-passed Inv-loop μ-loop
 add-passed c =
     let test = c .before .before .before .before .before .before in
     let here = test .before .loop .inv in
-    omega (arith, few-passed _ _ _ _ _ _ _ _ (here .1) _ _ _ _ _ (here .2) (test .loop-test .taken))
+    omega (arith, is-left _ (here .1 .words) _ _ (here .3) (test .loop-test .taken), few-words _ _ _ _ _ _ _ (here .1))
 
 next-word-requires-2 : tie.Need-next-word-requires-2 Inv-loop μ-loop
 next-word-requires-2 c κs = search needs
@@ -90,17 +91,20 @@ loop-less : tie.Need-loop-less Inv-loop μ-loop
 loop-less c =
     let test = c .before .before .before .before .before .before .before .before in
     let here = test .before .loop .inv in
-    omega (arith, is-left _ _ _ _ _ _ _ _ (here .1) _ _ _ _ _ (here .2) (test .loop-test .taken))
+    omega (arith, is-left _ (here .1 .words) _ _ (here .3) (test .loop-test .taken))
 
 loop-again : tie.Need-loop-again Inv-loop μ-loop
 loop-again c =
     let passed = c .before .before .before .before .before .before in
     let test = passed .before .before in
-    let here = test .before .loop .inv in (
+    let here = test .before .loop .inv in
+    let turn =
+    word-turn _ _ _ _ _ _ _ _ (here .1) _ _ _ _ (here .2) _ (passed .pass .kept .0) _ (here .3) (test .loop-test .taken) _
+    (passed .pass .ensures) _ (c .next-word2 .ensures) in (
       here .0,
       here .1,
-      running-turn _ _ _ _ _ _ _ _ (here .1) _ _ _ _ _ (here .2) _ (passed .pass .kept .0) (test .loop-test .taken) _
-          (passed .pass .ensures) _ (c .next-word2 .ensures),
+      turn .0,
+      turn .1,
     )
 
 mul-settle : tie.Need-mul-settle Inv-loop μ-loop
@@ -115,7 +119,7 @@ part-settle-start c = search needs
 part-settle-end : tie.Need-part-settle-end Inv-loop μ-loop
 part-settle-end c =
     let here = c .before .loop .inv in
-    omega (arith, here .0, here .1 .fits, running-length _ _ _ _ _ _ _ _ (here .1) _ _ _ _ _ (here .2))
+    omega (arith, here .0, here .1 .fits, running-length _ _ _ _ _ _ _ _ (here .1) _ _ _ _ (here .2))
 
 settle-requires : tie.Need-settle-requires Inv-loop μ-loop
 settle-requires c κs = search needs
@@ -124,7 +128,7 @@ same-length : tie.Need-same-length Inv-loop μ-loop
 same-length c =
     let settled = c .before .before .before in
     let here = settled .before .before .before .loop .inv in
-    lent-length _ _ _ _ _ _ _ _ (here .1) _ _ _ _ _ (here .2) (settled .settle .last .0) (settled .settle .kept .0)
+    lent-length _ _ _ _ _ _ _ _ (here .1) _ _ _ _ (here .2) (settled .settle .last .0) (settled .settle .kept .0)
 
 returns : tie.Need-returns Inv-loop μ-loop
 returns c =
@@ -132,7 +136,8 @@ returns c =
     let test = settled .before .before in
     let here = test .before .loop .inv in
     rw (past-through _ _ _ _)
-    (running-end _ _ _ _ _ _ _ _ (here .1) _ _ _ _ _ (here .2) _ (settled .settle .kept .0) (test .loop-test .left) (finish _) _
+    (running-end _ _ _ _ _ _ _ _ (here .1) _ _ _ _ (here .2) _ (settled .settle .kept .0)
+    (none-left _ (here .1 .words) _ _ (here .3) (test .loop-test .left)) (finish _) _
     (ap ended (settled .settle .ensures)))
 
 pub pass-words-spec : {M : Type 1} → statement M

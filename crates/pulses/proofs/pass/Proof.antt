@@ -1,7 +1,6 @@
--- `pulses::pass` starts a pulse where the word does, and goes on where it does not.
-use mathlib.Core.Path.{refl, sym, _∙_}
-use Rattle.signals.specs.Words.{dateOf, valueAfter}
-use Rattle.pulsing.specs.Turns.{stateOf}
+-- `pulses::pass` starts a pulse where the date does, and goes on where it does not.
+use mathlib.Core.Path.{sym, _∙_}
+use Rattle.pulsing.specs.Turns.{pulseOf}
 use Rattle.pulses.proofs.PulseTests.{starts-here, goes-on}
 use borrow.Author.Needs.{needs}
 use Rattle.pulses.proofs.pass.Statement.{statement}
@@ -20,15 +19,13 @@ same-length : tie.Need-same-length
 same-length c = search needs
 
 returns : tie.Need-returns
-unfolding dateOf valueAfter
 returns c =
     let test = c .before .before .before .before .before in
-    starts-here _ (stateOf _ _ _ _) _ _ refl (sym (test .if1 .taken) ∙ test .before .starts .ensures) _
+    starts-here _ _ _ _ (pulseOf _ _ _) (sym (test .if1 .taken) ∙ test .before .starts .ensures) _
     (c .before .before .before .before .end-of .ensures) _ _ (c .before .before .start .ensures)
 
 returns-2 : tie.Need-returns-2
-unfolding valueAfter
-returns-2 c = goes-on _ (stateOf _ _ _ _) _ _ refl (sym (c .if1 .left) ∙ c .before .starts .ensures)
+returns-2 c = goes-on _ _ _ _ (pulseOf _ _ _) (sym (c .if1 .left) ∙ c .before .starts .ensures)
 
 pub pass-spec : {M : Type 1} → statement M
 pass-spec = tie.close (tie.spec starts-requires end-of-requires start-requires same-length returns returns-2)

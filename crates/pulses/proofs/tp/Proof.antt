@@ -2,7 +2,7 @@
 use native.Mathlib.Omega.{arith}
 use mathlib.Core.Path.{refl, sym, _∙_}
 use lib.ListN.{replicate}
-use Rattle.signals.proofs.Normal.{accepted-start}
+use Rattle.signals.proofs.Normal.{accepted-normal}
 use Rattle.operations.proofs.JudgedCalls.{refused, passes-on}
 use Rattle.operations.proofs.DelayJudged.{fault-order, list-first, length-next, neither}
 use Rattle.pulses.proofs.PulseAnswers.{pulse-answers}
@@ -29,7 +29,7 @@ slice-aggregate-pulse-words c = search needs
 pulse-words-requires : tie.Need-pulse-words-requires
 pulse-words-requires c κs =
     let test = c .before .before in
-    omega (arith, accepted-start _ (sym (test .before .list-fault .ensures) ∙ test .if1 .left) .within)
+    omega (arith, accepted-normal _ .0 (sym (test .before .list-fault .ensures) ∙ test .if1 .left) .1)
 
 slice-aggregate-deliver : tie.Need-slice-aggregate-deliver
 slice-aggregate-deliver c = search needs
