@@ -183,7 +183,10 @@ fn pulse_words(d: Length, f: &[u32], slot: &mut [u32]) -> Made
     building::emit(slot, made, due, false, false)
 }
 
-// TP(d,f), the pulse timer: faults list, 8, 5, 6, 7.
+// The words of a slot for the answer of a short list: fewer are cleared for it.
+const SHORT: usize = 32;
+
+// TP(d,f), the pulse timer: faults list, 8, 5, 6, 7. Its answer has fewer than two words for each word of the list.
 pub fn tp(d: Length, f: &[u32], out: &mut [u32]) -> Written
     ensures { λ r. ⌜ CallOfDelay (TP (d .0)) (d .0) (now (f .entry)) (now (out .entry)) r (now (out .exit)) ⌝ }
 {
@@ -194,6 +197,11 @@ pub fn tp(d: Length, f: &[u32], out: &mut [u32]) -> Written
     let ticks = d.0;
     if M < ticks {
         return Written::Refused(8);
+    }
+    if 2 * f.len() <= SHORT {
+        let mut slot = [0u32; SHORT];
+        let made = pulse_words(d, f, &mut slot);
+        return building::deliver(&slot, made, out);
     }
     let mut slot = [0u32; WORDS];
     let made = pulse_words(d, f, &mut slot);

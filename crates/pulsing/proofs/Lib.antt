@@ -1,3 +1,4 @@
 -- A pulse timer built word by word is the exact answer of an accepted list.
 pub mod Ticks
 pub mod PulsedExact
+pub mod FewWords

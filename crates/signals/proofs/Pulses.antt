@@ -179,10 +179,35 @@ module _ (d : ℕ) (f : Signal) where
     )
 
 -- the sentences, one by one
-up-from-start : (d : ℕ) (f : Signal) (a : ℕ) → ((t : ℕ) → t < instant a → Up (f t)) → ¬ Starts d f a
-up-from-start d f a h s =
-    let r = starts-say d f a .0 s .0 in
-    not-both (h (gap (a - 1)) (omega (arith, r .0))) (r .1)
+rises-tie : (f : Signal) (a : ℕ) → Rises f a ↔ Up (rising f (instant a))
+unfolding isGap
+rises-tie f zero = ((λ r. absurd (omega (arith, r .0))), λ u. not-both refl (rising-up f (instant zero) u .0))
+rises-tie f (suc k) = (of-rises f k, rises-of f k)
+
+up-from-start : (f : Signal) (a : ℕ) → ((t : ℕ) → t < instant a → Up (f t)) → ¬ Rises f a
+up-from-start f a h r = not-both (h (gap (a - 1)) (omega (arith, r .0))) (r .1)
+
+down-meanwhile : (d : ℕ) (f : Signal) (t : ℕ) → ((u : ℕ) → u ≤ t → Up (f u)) → TP d f t ≡ false
+down-meanwhile d f t h =
+    down-of (TP d f t)
+    (λ u. let p = TP-up d f t u in up-from-start f (p .0) (λ n l. h n (omega (arith, p .2))) (starts-say d f (p .0) .0 (p .1) .0))
+
+at-end : (d : ℕ) (f : Signal) (a : ℕ) → Starts d f a → Rises f (a + d) → Starts d f (a + d)
+at-end d f a s r = starts-say d f (a + d) .1 (r, λ b m z. ended b m z (decLe b a))
+  where
+    ended : (b : ℕ) → b < a + d → Starts d f b → Dec (b ≤ a) → b + d ≤ a + d
+    ended b m z (yes l) = omega arith
+    ended b m z (no n) = absurd (omega (arith, starts-say d f b .0 z .1 a (omega arith) s))
+
+join : (d : ℕ) (f : Signal) (a : ℕ) → 1 ≤ d → Starts d f a → Rises f (a + d)
+    → Up (TP d f (gap (a + d - 1))) × Up (TP d f (instant (a + d))) × Up (TP d f (gap (a + d)))
+join d f a l s r =
+    let n = at-end d f a s r in
+    let one : 1 ≤ a = starts-say d f a .0 s .0 .0 in (
+      TP-of d f (gap (a + d - 1)) (a, s, omega arith, omega arith),
+      TP-of d f (instant (a + d)) (a + d, n, omega arith, omega arith),
+      TP-of d f (gap (a + d)) (a + d, n, omega arith, omega arith),
+    )
 
 zero-down : (f : Signal) (t : ℕ) → TP 0 f t ≡ false
 zero-down f t = down-of (TP 0 f t) (λ u. let h = TP-up 0 f t u in omega (arith, h .2, h .3))
@@ -190,12 +215,16 @@ zero-down f t = down-of (TP 0 f t) (λ u. let h = TP-up 0 f t u in omega (arith,
 pub pulses : Pulses
 pulses =
     record {
+      rises = rises-tie;
       starts = starts-say;
       only = starts-only;
       up = in-pulse;
       ticks = in-ticks;
       ignored = λ d f a e s l u z. omega (arith, starts-say d f e .0 z .1 a l s);
       again = λ d f a e last l r. starts-say d f e .1 (r, λ b m s. omega (arith, last b m s));
+      atEnd = at-end;
+      joined = join;
       upFromStart = up-from-start;
+      downMeanwhile = down-meanwhile;
       lengthZero = zero-down;
     }

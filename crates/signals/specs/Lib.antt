@@ -1,4 +1,4 @@
--- Document 01 as definitions, in its order, and the statements of the theorems about them.
+-- Document 01 as definitions, in its order, with document 02's TP, and the statements of the theorems about them.
 pub mod Moment
 pub mod Signal
 pub mod Words

@@ -16,10 +16,14 @@ pub record PulseCases : Type 0 where
   -- a lone instant is a rise: TP(3,e)=[0,23,32]; up after 5 is none: TP(3,l)=[0]
   pub loneInstant : Gives (TP 3 e) (0 ∷ 23 ∷ 32 ∷ [])
   pub afterInstant : Gives (TP 3 l) (0 ∷ [])
+  -- so is coming back up after a lone instant down; a rise at instant 1 is one
+  pub downAtInstant : Gives (TP 3 (signalOf (1 ∷ 21 ∷ []))) (0 ∷ [])
+  pub firstInstant : Gives (TP 3 (signalOf (0 ∷ 7 ∷ []))) (0 ∷ 7 ∷ 16 ∷ [])
   -- rises at 5 and 7, before a+d: one pulse, down at 8
   pub before : Gives (TP 3 (signalOf (0 ∷ 23 ∷ 24 ∷ 31 ∷ 36 ∷ []))) (0 ∷ 23 ∷ 32 ∷ [])
   -- rises at 5 and 8, a+d exactly: one stretch, 5 to 11, with no word at 8
   pub exactly : Gives (TP 3 (signalOf (0 ∷ 23 ∷ 24 ∷ 35 ∷ 36 ∷ []))) (0 ∷ 23 ∷ 44 ∷ [])
+  pub exactlyOne : Gives (TP 1 (signalOf (0 ∷ 6 ∷ 10 ∷ []))) (0 ∷ 7 ∷ 12 ∷ [])
   -- rises at 5 and 9, after a+d: two pulses
   pub after : Gives (TP 3 (signalOf (0 ∷ 23 ∷ 24 ∷ 39 ∷ 40 ∷ []))) (0 ∷ 23 ∷ 32 ∷ 39 ∷ 48 ∷ [])
   -- two rises within one pulse, lone instants 6 and 7, do not move its end; that at 8 starts the next

@@ -1,5 +1,5 @@
--- Statement: Document 01, "Operations", with real quantifiers as the document writes them, and the statement that the definitions that
--- compute agree.
+-- Statement: Document 01, "Operations", and document 02's TP, with real quantifiers as the documents write them, and the statement that
+-- the definitions that compute agree.
 use Prim.Native.Nat.{ℕ, _+_, _*_, _≤_, _<_}
 use mathlib.Core.Path.{_≡_}
 use mathlib.Core.Logic.{_⊎_, _↔_}
@@ -75,7 +75,7 @@ abbrev pub Among : ℕ → List ℕ → Type 0
 Among a [] = ⊥
 Among a (b ∷ bs) = (a ≡ b) ⊎ Among a bs
 
--- instant a starts a pulse: the one predicate of which the sentence in `Pulses` is true
+-- instant a starts a pulse; `Pulses` says that its sentence is true of this predicate and of no other, and where TP is up by any such
 abbrev pub Starts : ℕ → Signal → ℕ → Type 0
 Starts d f a = Among a (starts d f a)
 

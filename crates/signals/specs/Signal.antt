@@ -78,7 +78,7 @@ TON d f t = started d t && every (λ t1. implied (fromTo d t t1) (f t1)) t
 unfoldable pub TOF : ℕ → Signal → Signal
 TOF d f t = some (λ t1. fromTo d t t1 && f t1) t
 
--- TP: a pulse that started at one of these dates, b, is still running at date k: k < b+d
+-- TP: a pulse that started at one of these dates, b, none of which is after k, is still running at date k: k < b+d
 unfoldable pub running : ℕ → List ℕ → ℕ → Bool
 running d [] k = false
 running d (b ∷ bs) k = ltb k (b + d) || running d bs k

@@ -165,6 +165,9 @@ operations-CallFaults-NeverMet = Rattle.operations.proofs.NeverMet.never-met
 pub operations-OperationsGive-OperationsGive : Rattle.operations.specs.OperationsGive.OperationsGive
 operations-OperationsGive-OperationsGive = Rattle.operations.proofs.OperationsGive.operations-give
 
+pub pulsing-FewWords-PulsesFew : Rattle.pulsing.specs.FewWords.PulsesFew
+pulsing-FewWords-PulsesFew = Rattle.pulsing.proofs.FewWords.pulses-few
+
 pub questions-Equality-Equality : Rattle.questions.specs.Equality.Equality
 questions-Equality-Equality = Rattle.questions.proofs.Equality.equality
 
