@@ -116,7 +116,7 @@ def summed(date, length):
 
 
 def operate(operation, d, operands, room, slot):
-    """In a slot, which must have 256 words, the words up to M of an answer that changes after M stay."""
+    """In a slot, which must have 256 words, the first 256 up to M of an answer that is too long or changes after M stay."""
     fault = next(filter(None, map(list_fault, operands)), 0) or (8 if d > M else 0)
     answer = [] if fault else operation(*map(Signal, operands))
     if not slot:
@@ -124,7 +124,7 @@ def operate(operation, d, operands, room, slot):
     if fault or room < 256:
         return "not begun, " + shown([7] * room)
     fault = answer_fault(answer)
-    left = [word for word in answer if word // 4 <= M]
+    left = [word for word in answer if word // 4 <= M][:256]
     said = {0: len(answer), 5: "too long", 6: "too late"}[fault]
     return "%s, %s" % (said, shown(left + [7] * (room - len(left))))
 

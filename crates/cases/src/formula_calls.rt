@@ -104,7 +104,7 @@ fn on_sheet(call: usize, space: &Space, ends: &Ends) {
     let sheet = argument(space, ends, 0);
     let first = argument(space, ends, 1);
     let last = notation::number(space, ends, 3) as usize;
-    if call == 25 {
+    if call == 26 {
         evaluate(
             sheet,
             first,
@@ -118,8 +118,8 @@ fn on_sheet(call: usize, space: &Space, ends: &Ends) {
 
 pub fn shown(call: usize, space: &Space, ends: &Ends) {
     match call {
-        24 => read(argument(space, ends, 0)),
-        27 => report(space, notation::length(ends)),
+        25 => read(argument(space, ends, 0)),
+        28 => report(space, notation::length(ends)),
         _ => on_sheet(call, space, ends),
     }
 }

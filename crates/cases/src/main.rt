@@ -54,22 +54,22 @@ fn called(
     kept: &mut Space,
     n: usize,
 ) -> usize {
-    if call < 24 {
+    if call < 25 {
         on_lists(call, space, all, ends);
         return n;
     }
-    if call < 28 {
+    if call < 29 {
         formula_calls::shown(call, space, ends);
         return n;
     }
     let grown = on_sheets(call, space, all, ends, kept);
-    if call < 35 { n } else { grown }
+    if call < 36 { n } else { grown }
 }
 
 fn call_of(name: &[u8]) -> usize {
     place(
         b"list_fault,value_at,value_in,equal,implies,date_plus_length,tidy,not,rising,falling,sr,rs,ton,tof,tp,connective,\
-        not_in,rising_in,falling_in,sr_in,rs_in,ton_in,tof_in,connective_in,read,evaluate,claim,report,\
+        not_in,rising_in,falling_in,sr_in,rs_in,ton_in,tof_in,tp_in,connective_in,read,evaluate,claim,report,\
         sheet_fault,lookup_fault,lookup,locate,well_named,begin,append,grow,keep,",
         name,
     )

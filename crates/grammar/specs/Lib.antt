@@ -1,4 +1,4 @@
--- Document 01, "Formulas", as definitions.
+-- Document 01, "Formulas", as definitions; with the block TP of document 02's request 1.
 pub mod Tree
 pub mod Grammar
 pub mod Code

@@ -1,6 +1,6 @@
 -- Mirrored: A reader that computes: sum, product and factor readers by fuel. Tied to what is believed by `ReaderExact`.
 use Prim.Native.Nat.{ℕ, zero, suc, _+_, _*_, _-_, max}
-use mathlib.Core.Bool.{Bool, true, false, cond, _&&_}
+use mathlib.Core.Bool.{Bool, true, false, cond, _&&_, _||_}
 use mathlib.Core.List.{List, [], _∷_, _++_}
 use lib.Dec.{leb, ltb, eqb}
 use lib.ListN.{length, getD, take, drop}
@@ -79,7 +79,7 @@ blockKind l =
 
 -- how many bytes the word and bracket of a block have, by its kind: those of TON and TOF have four
 unfoldable pub blockBytes : ℕ → ℕ
-blockBytes kind = cond (ltb kind kinds.TP) 4 3
+blockBytes kind = cond (eqb kind kinds.TON || eqb kind kinds.TOF) 4 3
 
 -- the kind of the block that is next; 0 for none and when all is not well
 unfoldable pub blockAt : {X : Type 0} → List ℕ → State X → ℕ

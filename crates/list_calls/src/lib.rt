@@ -91,6 +91,12 @@ fn delay_in(level: bool, d: u32, a: &[u32], out: &mut [u32]) -> SlotAnswer {
     delay_parts::delay_at(level, Length(d), &none[..0], a, a, out, list, 0)
 }
 
+fn pulse_in(d: u32, a: &[u32], out: &mut [u32]) -> SlotAnswer {
+    let none = [0u8; 1];
+    let list = whole(Memory::Left, a);
+    pulses::pulse_at(Length(d), &none[..0], a, a, out, list, 0)
+}
+
 fn operation_in(
     call: usize,
     t: [[bool; 2]; 2],
@@ -110,6 +116,7 @@ fn operation_in(
         20 => merge_in(Operation::ResetWins, invert, a, b, out),
         21 => delay_in(true, d, b, out),
         22 => delay_in(false, d, b, out),
+        23 => pulse_in(d, b, out),
         _ => merge_in(Operation::Connective, t, b, c, out),
     }
 }
@@ -135,7 +142,7 @@ pub fn room_at(call: usize) -> usize {
     match call {
         0 | 1 | 2 | 3 | 4 | 5 => 8,
         6 | 7 | 8 | 9 | 16 | 17 | 18 => 1,
-        15 | 23 => 3,
+        15 | 24 => 3,
         _ => 2,
     }
 }

@@ -2,7 +2,7 @@
 use Prim.Native.Nat.{ℕ, zero, suc, _+_, _≤_, _<_}
 use native.Mathlib.Omega.{arith}
 use mathlib.Core.Path.{_≡_, refl, sym, ap, _∙_, subst}
-use mathlib.Core.Bool.{true, false, cond}
+use mathlib.Core.Bool.{true, false, cond, _||_}
 use mathlib.Core.List.{List, [], _∷_}
 use lib.Dec.{ltb, eqb}
 use lib.ListN.{length, drop, length-append, length-drop}
@@ -87,7 +87,7 @@ blocks text m =
 
 block-some : (kind : ℕ) → 0 < blockBytes kind
 unfolding blockBytes
-block-some kind = by-cond (λ (k : ℕ). 0 < k) (ltb kind kinds.TP) (λ e. omega arith) (λ e. omega arith)
+block-some kind = by-cond (λ (k : ℕ). 0 < k) (eqb kind kinds.TON || eqb kind kinds.TOF) (λ e. omega arith) (λ e. omega arith)
 
 pub none-bytes : (kind : ℕ) → kind ≤ 0 → openBytes kind ≡ 0
 unfolding openBytes

@@ -118,7 +118,7 @@ pub fn opening_bytes(first: u64) -> usize
     if first == kind::BRACKET {
         return 1;
     }
-    if first < kind::TP {
+    if (first == kind::TON) | (first == kind::TOF) {
         return 4;
     }
     3

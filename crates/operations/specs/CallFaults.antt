@@ -32,7 +32,7 @@ Breaks8 d = M < d
 abbrev pub AnswerChecks : List ℕ → ℕ → ℕ → Type 0
 AnswerChecks exact n = Check 5 (Breaks5 exact) (Check 6 (Breaks6 exact) (Check 7 (Breaks7 exact n) NoFault))
 
--- 1 to 4 of the operands, first operand first; a delay's length; then the answer
+-- 1 to 4 of the operands, first operand first; a timer's length; then the answer
 pub record CallFaultsExact : Type 0 where
   pub one : (operation : Signal → Signal) (a : List ℕ) (n : ℕ)
       → Exactly (FaultCheck (listFault a) (AnswerChecks (exactOfOne operation a) n)) (faultOfOne operation a n)

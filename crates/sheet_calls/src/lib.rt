@@ -34,16 +34,16 @@ fn looked_up(sheet: &[u8], name: &[u8]) {
 // A call that writes nothing.
 fn question(call: usize, sheet: &[u8], name: &[u8]) {
     match call {
-        28 => answer(number(sheets::sheet_fault(sheet))),
-        29 => answer(number(lookups::lookup_fault(sheet, name))),
-        30 => looked_up(sheet, name),
-        31 => place(lookups::locate(sheet, name)),
+        29 => answer(number(sheets::sheet_fault(sheet))),
+        30 => answer(number(lookups::lookup_fault(sheet, name))),
+        31 => looked_up(sheet, name),
+        32 => place(lookups::locate(sheet, name)),
         _ => answer(yes(names::well_named(sheet))),
     }
 }
 
 fn appended(call: usize, sheet: &[u8], name: &[u8], list: &[u32], out: &mut [u8]) -> Written {
-    if call == 33 {
+    if call == 34 {
         appending::begin(out)
     } else {
         appending::append(sheet, name, list, out)
@@ -53,7 +53,7 @@ fn appended(call: usize, sheet: &[u8], name: &[u8], list: &[u32], out: &mut [u8]
 // How many bytes `grow` wrote.
 fn grown(call: usize, answer: Written) -> usize {
     match answer {
-        Written::Count(count) => { if call == 35 { count } else { 0 } }
+        Written::Count(count) => { if call == 36 { count } else { 0 } }
         Written::Refused(fault) => 0,
     }
 }
@@ -106,11 +106,11 @@ pub fn kept(
     room: usize,
     kept: &mut Space,
 ) -> usize {
-    if call < 33 {
+    if call < 34 {
         question(call, sheet, name);
         return 0;
     }
-    if call < 36 {
+    if call < 37 {
         return write_to(call, sheet, name, list, room, kept);
     }
     keep(sheet, kept)
@@ -118,5 +118,5 @@ pub fn kept(
 
 // Which argument is the length of the output.
 pub fn room_at(call: usize) -> usize {
-    if call == 33 { 0 } else { 3 }
+    if call == 34 { 0 } else { 3 }
 }

@@ -24,7 +24,7 @@ returns-4 c =
       ne-eqb _ _ (c .before .before .before .if1 .left),
       le-ltb _ _ (c .before .before .if2 .left),
       ne-eqb _ _ (c .before .if3 .left),
-      lt-ltb _ _ (c .if4 .taken),
+      c .if4 .taken,
     )
 
 returns-5 : tie.Need-returns-5
@@ -34,7 +34,7 @@ returns-5 c =
       ne-eqb _ _ (c .before .before .before .if1 .left),
       le-ltb _ _ (c .before .before .if2 .left),
       ne-eqb _ _ (c .before .if3 .left),
-      le-ltb _ _ (c .if4 .left),
+      c .if4 .left,
     )
 
 pub opening-bytes-spec : {M : Type 1} → statement M
