@@ -33,7 +33,8 @@ module _ (d : ℕ) (sheet left right old : List ℕ) (f : Source) (at room : ℕ
         let state : stateOf (heldValue whole 1) 0 made part ≡ firstState whole (slotIn old at room) =
         first-is whole (slotIn old at room) made part (e1, first-part (pastWord d) sheet left right old f at room fits apart part false e)
         in
-        let same : listAt sheet left right first f ≡ whole = first-list (pastWord d) sheet left right old f at room fits apart part false e in
+        let same : listAt sheet left right first f ≡ whole =
+        first-list (pastWord d) sheet left right old f at room fits apart part false e in
         rw (← state)
         (begun-run (pastWord d) sheet left right old f at room fits apart part false e finish (stateOf (heldValue whole 1) 0 made) r after
         (subst

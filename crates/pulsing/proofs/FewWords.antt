@@ -31,10 +31,11 @@ module _ (e : Ended) (date : ℕ) where
   unfolding emitted idle
   put value = go (made .value) value refl
     where
+      more : Bool → Made
+      more b = record { value = b; count = oneMore (made .count); late = lateWith (made .late) date }
+
       go : (v b : Bool) → made .value ≡ v
-          → (cond (Bool·beq b v && Bool·beq b v) made (record { value = b; count = oneMore (made .count); late = lateWith (made .late) date }))
-          .count + num ((cond (Bool·beq b v && Bool·beq b v) made
-          (record { value = b; count = oneMore (made .count); late = lateWith (made .late) date })) .value)
+          → (cond (Bool·beq b v && Bool·beq b v) made (more b)) .count + num ((cond (Bool·beq b v && Bool·beq b v) made (more b)) .value)
           ≤ made .count + num (made .value) + 2 * num b
       go true true q = omega arith
       go true false q = rw q (omega arith)
