@@ -6,7 +6,7 @@ use mathlib.Core.Bool.{Bool, true, false, cond}
 use mathlib.Core.List.{List}
 use lib.Dec.{ltb}
 use lib.ListN.{length, getD}
-use borrow.Author.Tests.{ltb-true, ltb-false, lt-ltb, le-ltb, eq-eqb}
+use borrow.Author.Tests.{ltb-true, ltb-false, lt-ltb, eq-eqb}
 use Rattle.signals.specs.Words.{dateOf, valueAt, valueAfter}
 use Rattle.signals.specs.Passing.{heldValue, isNext, atDate, afterDate, passedDate}
 use Rattle.signals.proofs.WordFacts.{date-le}

@@ -1,5 +1,5 @@
 -- What the code of the pulse timer makes of a word, from the tests that it makes.
-use Prim.Native.Nat.{ℕ, _/_, _%_, _≤_, _<_}
+use Prim.Native.Nat.{ℕ, _≤_, _<_}
 use mathlib.Core.Path.{_≡_, _∙_, ap}
 use mathlib.Core.Bool.{Bool, true, false}
 use mathlib.Core.List.{List}
@@ -7,7 +7,7 @@ use lib.Dec.{leb, ltb}
 use lib.ListN.{getD}
 use borrow.Author.Tests.{lt-ltb, le-ltb}
 use Rattle.signals.specs.Answers.{sumOf}
-use Rattle.signals.specs.Words.{dateOf, valueAt, valueAfter}
+use Rattle.signals.specs.Words.{dateOf, valueAfter}
 use Rattle.signals.specs.Passing.{heldValue}
 use Rattle.signals.proofs.Operand.{held-next}
 use Rattle.reading.specs.Reading.{NEVER}

@@ -5,7 +5,7 @@ use mathlib.Core.Path.{_≡_, refl}
 use mathlib.Core.Bool.{Bool, true, false, cond, Bool·beq, _&&_}
 use mathlib.Core.List.{List, [], _∷_}
 use lib.Dec.{ltb}
-use lib.ListN.{length, drop}
+use lib.ListN.{length}
 use Rattle.signals.specs.Signal.{num}
 use Rattle.signals.specs.Words.{dateOf, valueAt}
 use Rattle.signals.specs.Answers.{sumOf}

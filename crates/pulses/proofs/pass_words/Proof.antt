@@ -1,5 +1,5 @@
 -- `pulses::pass_words` passes word by word what is left of the list: its loop keeps `Running`.
-use Prim.Native.Nat.{ℕ, _+_, _-_}
+use Prim.Native.Nat.{_+_, _-_}
 use native.Mathlib.Omega.{arith}
 use mathlib.Core.Path.{_≡_, refl}
 use lib.ListN.{length}

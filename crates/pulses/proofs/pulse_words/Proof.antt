@@ -1,5 +1,5 @@
 -- `pulses::pulse_words` passes the words of a slice in turn: those left lead where all lead from the first.
-use Prim.Native.Nat.{ℕ, _-_}
+use Prim.Native.Nat.{_-_}
 use native.Mathlib.Omega.{arith}
 use mathlib.Core.Path.{_≡_, refl, _∙_, ap}
 use lib.ListN.{length, drop}
