@@ -113,7 +113,7 @@ fn timed_at(code: u64, sheet: &[u8], work: &mut [u32], a: Source, at: u32) -> Wr
             at,
         ));
     }
-    part_answer(pulses::pulse_at(d, sheet, &CONSTANTS, &CONSTANTS, work, a, at))
+    part_answer(pulse_parts::pulse_at(d, sheet, &CONSTANTS, &CONSTANTS, work, a, at))
 }
 
 // The operation: of the first list where it has one operand, as a merge with the list that is always down or as a timer; else of both.

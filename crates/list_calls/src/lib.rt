@@ -94,7 +94,7 @@ fn delay_in(level: bool, d: u32, a: &[u32], out: &mut [u32]) -> SlotAnswer {
 fn pulse_in(d: u32, a: &[u32], out: &mut [u32]) -> SlotAnswer {
     let none = [0u8; 1];
     let list = whole(Memory::Left, a);
-    pulses::pulse_at(Length(d), &none[..0], a, a, out, list, 0)
+    pulse_parts::pulse_at(Length(d), &none[..0], a, a, out, list, 0)
 }
 
 fn operation_in(

@@ -1,5 +1,2 @@
--- What the code of the pulse timer makes, from the values that it works out.
-pub mod PulseTests
-pub mod PulseRun
-pub mod PulseLoops
+-- The call of the pulse timer.
 pub mod PulseAnswers

@@ -9,8 +9,9 @@ use Rattle.lent_slots.specs.Lent.{through}
 use Rattle.lent_slots.proofs.LentRuns.{leads-home}
 use Rattle.lent_slots.proofs.WordReaders.{word-left, none-left, word-passed, word-on}
 use Rattle.pulsing.specs.Turns.{stateOf, pastWord, finish, pulseEngine}
-use Rattle.pulses.proofs.PulseTests.{put-in, first-is}
-use Rattle.pulses.proofs.PulseLoops.{leads-first, leads-next}
+use Rattle.pulsing.proofs.PulseTests.{put-in}
+use Rattle.pulsing.proofs.PulseWords.{first-is}
+use Rattle.pulsing.proofs.PulseLoops.{leads-first, leads-next}
 use borrow.Author.Needs.{needs}
 use Rattle.pulses.proofs.pulse_words.Statement.{statement}
 use Rattle.pulses.proofs.pulse_words.Tie as tie

@@ -1,10 +1,10 @@
--- `pulses::start` ends the last pulse, and is up from the date on.
+-- `pulsing::start` ends the last pulse, and is up from the date on.
 use Rattle.lent_slots.specs.Lent.{endedBy}
-use Rattle.pulses.proofs.PulseTests.{started}
+use Rattle.pulsing.proofs.PulseTests.{started}
 use mathlib.Core.Path.{refl}
 use borrow.Author.Needs.{needs}
-use Rattle.pulses.proofs.start.Statement.{statement}
-use Rattle.pulses.proofs.start.Tie as tie
+use Rattle.pulsing.proofs.start.Statement.{statement}
+use Rattle.pulsing.proofs.start.Tie as tie
 
 close-requires : tie.Need-close-requires
 close-requires c κs = search needs

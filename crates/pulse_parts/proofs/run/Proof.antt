@@ -1,4 +1,4 @@
--- `pulses::run` puts the first word into the slot; the words left lead to the rest.
+-- `pulse_parts::run` puts the first word into the slot; the words left lead to the rest.
 use Prim.Native.Nat.{_+_, _-_}
 use native.Mathlib.Omega.{arith}
 use mathlib.Core.Path.{_≡_, _∙_}
@@ -8,10 +8,10 @@ use lib.ListN.{length, take, drop}
 use Rattle.signals.specs.Words.{mostWords}
 use Rattle.lent_slots.proofs.LentRuns.{first-length}
 use Rattle.pulsing.specs.Turns.{pastWord}
-use Rattle.pulses.proofs.PulseRun.{begun-pulses}
+use Rattle.pulse_parts.proofs.PulseRun.{begun-pulses}
 use borrow.Author.Needs.{needs}
-use Rattle.pulses.proofs.run.Statement.{statement}
-use Rattle.pulses.proofs.run.Tie as tie
+use Rattle.pulse_parts.proofs.run.Statement.{statement}
+use Rattle.pulse_parts.proofs.run.Tie as tie
 
 abbrev start : tie.After-slice-known → tie.Start
 start c = c .before .before .before .before

@@ -1,9 +1,9 @@
--- `pulses::close` puts the end of the last pulse into the slot where it comes before a date.
+-- `pulsing::close` puts the end of the last pulse into the slot where it comes before a date.
 use Rattle.lent_slots.specs.Lent.{endedBy}
-use Rattle.pulses.proofs.PulseTests.{ends-before, ends-later}
+use Rattle.pulsing.proofs.PulseTests.{ends-before, ends-later}
 use borrow.Author.Needs.{needs}
-use Rattle.pulses.proofs.close.Statement.{statement}
-use Rattle.pulses.proofs.close.Tie as tie
+use Rattle.pulsing.proofs.close.Statement.{statement}
+use Rattle.pulsing.proofs.close.Tie as tie
 
 emit-requires : tie.Need-emit-requires
 emit-requires c κs = search needs

@@ -1,4 +1,4 @@
--- `pulses::pass_words` passes word by word what is left of the list: its loop keeps `Running`.
+-- `pulse_parts::pass_words` passes word by word what is left of the list: its loop keeps `Running`.
 use Prim.Native.Nat.{_+_, _-_}
 use native.Mathlib.Omega.{arith}
 use mathlib.Core.Path.{_≡_, refl}
@@ -12,11 +12,11 @@ use Rattle.lent_slots.specs.Lent.{endedBy}
 use Rattle.lent_slots.proofs.LentRuns.{Placed, few-words, running-length, lent-length, running-end}
 use Rattle.lent_slots.proofs.WordReaders.{word-left, none-left}
 use Rattle.pulsing.specs.Turns.{stateOf, finish}
-use Rattle.pulses.proofs.PulseTests.{put-in}
-use Rattle.pulses.proofs.PulseLoops.{Runs, runs-first, past-one, runs-next}
+use Rattle.pulsing.proofs.PulseTests.{put-in}
+use Rattle.pulsing.proofs.PulseLoops.{Runs, runs-first, past-one, runs-next}
 use borrow.Author.Needs.{needs}
-use Rattle.pulses.proofs.pass_words.Statement.{statement}
-use Rattle.pulses.proofs.pass_words.Tie as tie
+use Rattle.pulse_parts.proofs.pass_words.Statement.{statement}
+use Rattle.pulse_parts.proofs.pass_words.Tie as tie
 
 abbrev Inv-loop : tie.InvT-loop
 Inv-loop d sheet left right work₀ f at end due₀ made₀ reader₀ work due made reader =

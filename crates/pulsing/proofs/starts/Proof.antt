@@ -1,7 +1,7 @@
--- `pulses::starts` tests for a rise, then for the end of the last pulse.
-use Rattle.pulses.proofs.PulseTests.{not-up, was-up, rises}
-use Rattle.pulses.proofs.starts.Statement.{statement}
-use Rattle.pulses.proofs.starts.Tie as tie
+-- `pulsing::starts` tests for a rise, then for the end of the last pulse.
+use Rattle.pulsing.proofs.PulseTests.{not-up, was-up, rises}
+use Rattle.pulsing.proofs.starts.Statement.{statement}
+use Rattle.pulsing.proofs.starts.Tie as tie
 
 returns : tie.Need-returns
 returns c = was-up _ _ _ _ (c .before .if1 .taken) (c .if2 .taken)

@@ -1,10 +1,10 @@
--- `pulses::pass` starts a pulse where the date does, and goes on where it does not.
+-- `pulsing::pass` starts a pulse where the date does, and goes on where it does not.
 use mathlib.Core.Path.{sym, _∙_}
 use Rattle.pulsing.specs.Turns.{pulseOf}
-use Rattle.pulses.proofs.PulseTests.{starts-here, goes-on}
+use Rattle.pulsing.proofs.PulseTests.{starts-here, goes-on}
 use borrow.Author.Needs.{needs}
-use Rattle.pulses.proofs.pass.Statement.{statement}
-use Rattle.pulses.proofs.pass.Tie as tie
+use Rattle.pulsing.proofs.pass.Statement.{statement}
+use Rattle.pulsing.proofs.pass.Tie as tie
 
 starts-requires : tie.Need-starts-requires
 starts-requires c κs = search needs

@@ -14,8 +14,8 @@ use Rattle.sources.proofs.Readers.{Reading, start-passed}
 use Rattle.lent_slots.specs.Lent.{through}
 use Rattle.lent_slots.proofs.LentRuns.{Placed, leads-on, Running, running-first, running-list, running-turn}
 use Rattle.lent_slots.proofs.WordReaders.{word-left, word-passed, word-on}
 use Rattle.pulsing.specs.Turns.{State, pulseOf, pastDate, stateOf, pastWord}
-use Rattle.pulses.proofs.PulseTests.{word-past}
+use Rattle.pulsing.proofs.PulseWords.{word-past}
 
 module _ (d : ℕ) (l : List ℕ) where
   -- the state past so many words

@@ -13,7 +13,7 @@ use Rattle.sources.specs.declared.Source.{Source}
 use Rattle.lent_slots.specs.Lent.{through, EndsIn}
 use Rattle.lent_slots.proofs.LentRuns.{first-part, first-list, begun-run}
 use Rattle.pulsing.specs.Turns.{stateOf, pastWord, finish, firstState, pulseEngine}
-use Rattle.pulses.proofs.PulseTests.{first-is}
+use Rattle.pulsing.proofs.PulseWords.{first-is}
 
 module _ (d : ℕ) (sheet left right old : List ℕ) (f : Source) (at room : ℕ) (fits : at + room ≤ length old)
     (apart : apartFrom f at room ≡ true) (part : List ℕ) (e : part ≡ set (take (at + room - at) (drop at old)) 0 (num false))

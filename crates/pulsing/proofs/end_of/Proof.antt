@@ -1,9 +1,9 @@
--- `pulses::end_of` is the one sum of a date and a length.
+-- `pulsing::end_of` is the one sum of a date and a length.
 use mathlib.Core.Path.{_∙_, ap}
 use Rattle.timing.specs.Delay.{dateIn}
 use borrow.Author.Needs.{needs}
-use Rattle.pulses.proofs.end_of.Statement.{statement}
-use Rattle.pulses.proofs.end_of.Tie as tie
+use Rattle.pulsing.proofs.end_of.Statement.{statement}
+use Rattle.pulsing.proofs.end_of.Tie as tie
 
 date-plus-length-requires : tie.Need-date-plus-length-requires
 date-plus-length-requires c κs = search needs

@@ -1,9 +1,9 @@
--- `pulses::pulse_at` meets its contract: it begins where it may, and then the engine builds its answer in the slot.
+-- `pulse_parts::pulse_at` meets its contract: it begins where it may, and then the engine builds its answer in the slot.
 use mathlib.Core.Path.{sym, _∙_}
 use Rattle.lent_slots.proofs.MayBuild.{may-all, at-rest, at-work}
 use borrow.Author.Needs.{needs}
-use Rattle.pulses.proofs.pulse_at.Statement.{statement}
-use Rattle.pulses.proofs.pulse_at.Tie as tie
+use Rattle.pulse_parts.proofs.pulse_at.Statement.{statement}
+use Rattle.pulse_parts.proofs.pulse_at.Tie as tie
 
 begins-requires : tie.Need-begins-requires
 begins-requires c κs = search needs
