@@ -16,7 +16,7 @@ pub record PulseCases : Type 0 where
   -- a lone instant is a rise: TP(3,e)=[0,23,32]; up after 5 is none: TP(3,l)=[0]
   pub loneInstant : Gives (TP 3 e) (0 ∷ 23 ∷ 32 ∷ [])
   pub afterInstant : Gives (TP 3 l) (0 ∷ [])
-  -- so is coming back up after a lone instant down; a rise at instant 1 is one
+  -- nor is coming back up after a lone instant down; a rise may be at instant 1
   pub downAtInstant : Gives (TP 3 (signalOf (1 ∷ 21 ∷ []))) (0 ∷ [])
   pub firstInstant : Gives (TP 3 (signalOf (0 ∷ 7 ∷ []))) (0 ∷ 7 ∷ 16 ∷ [])
   -- rises at 5 and 7, before a+d: one pulse, down at 8
