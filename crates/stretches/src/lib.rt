@@ -1,0 +1,7 @@
+// The up-time page of document 02 as definitions and theorems, and what the call answers.
+
+// What the up-time call answers: how many words it wrote, two a stretch, and the total in ticks; or the fault number that refuses it.
+pub enum UpTime {
+    Told { count: usize, total: u32 },
+    Refused(u32),
+}

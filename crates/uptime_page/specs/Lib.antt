@@ -1,0 +1,4 @@
+-- The up-time page of an input, as definitions and statements.
+pub mod Page
+pub mod Printing
+pub mod PageSays
