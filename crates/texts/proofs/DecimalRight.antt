@@ -166,7 +166,7 @@ only-text (b ∷ w) e h = go (eqb b 48) refl w (and-right (isDigit b) _ e) h
         → value (b ∷ u) < 10 ^ 10 → decimal (value (b ∷ u)) ≡ b ∷ u
     go false q u a l = only-from b u (and-left (isDigit b) _ e) (and-left (allOf isDigit u) _ a) q l
     go true q [] a l = zero-text b (eqb-true b 48 q)
-    go true q (c ∷ u) a l = 
+    go true q (c ∷ u) a l =
         true-false (sym (rw (q, ne-eqb (length (c ∷ u)) 0 (λ z. omega arith)) at (and-right (allOf isDigit (c ∷ u)) _ a)))
 
 pub decimal-right : DecimalRight

@@ -3,3 +3,6 @@ pub mod Putting
 pub mod WordLines
 pub mod Filling
 pub mod HorizonRead
+pub mod PageTells
+pub mod PageFaults
+pub mod PageSays

@@ -50,11 +50,10 @@ put-ended-requires c κs =
     let put = c .before .before .before in
     let o₁ = put .before .before .before .before .before in
     let entry = o₁ .before .before .before in
-    let a = entry .args in
-    (
+    let a = entry .args in (
       put-length (now (a .out)) (a .at) (decimal (a .first) ++ (32 ∷ [])) _ _
-      (omega (arith, entry .pre .0, entry .pre .1, byte-length (a .first) 32)) (first-put put)
-      ∙ entry .pre .0,
+          (omega (arith, entry .pre .0, entry .pre .1, byte-length (a .first) 32)) (first-put put)
+          ∙ entry .pre .0,
       omega (arith, room o₁),
     )
 
