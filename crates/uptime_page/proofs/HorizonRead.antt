@@ -42,3 +42,13 @@ horizon-fault text = go (isLength text) (ltb M (value text)) refl
     go true true e = rw (e, lt-ltb M (capped (value text)) (omega (arith, ltb-true M (value text) e)))
     go true false e = rw (e, le-ltb M (capped (value text)) (omega (arith, ltb-false M (value text) e)))
     go false b e = refl
+
+-- without that fault, the horizon that was read is the number written
+pub horizon-value : (text : List ℕ) → horizonTextFault text ≡ 0 → horizonIn text ≡ value text
+unfolding horizonTextFault horizonFault horizonIn capped
+horizon-value text h = go (isLength text) (ltb M (value text)) refl h
+  where
+    go : (a b : Bool) → ltb M (value text) ≡ b → _≡_ {A = ℕ} (cond a (cond b 19 0) 19) 0 → cond a (capped (value text)) (M + 1) ≡ value text
+    go true true e z = absurd (omega arith)
+    go true false e z = omega (arith, ltb-false M (value text) e)
+    go false b e z = absurd (omega arith)

@@ -6,3 +6,4 @@ pub mod HorizonRead
 pub mod PageTells
 pub mod PageFaults
 pub mod PageSays
+pub mod Answering
