@@ -7,93 +7,76 @@ use mathlib.Core.Bool.{Bool, true, false, cond}
 use mathlib.Core.List.{List, _++_}
 use lib.Dec.{ltb, eqb}
 use lib.ListN.{length, take, drop}
-use lib.Seq.{take-at, length-take-le}
-use borrow.Author.Tests.{eq-eqb, ne-eqb, le-ltb, ltb-false}
+use lib.Seq.{take-at}
+use borrow.Author.Tests.{eqb-true, eq-eqb, ne-eqb, le-ltb}
 use Rattle.slices.specs.Bytes.{Bytes}
-use Rattle.signals.specs.Moment.{M}
 use Rattle.signals.specs.Words.{mostWords}
 use Rattle.signals.specs.Answers.{firstOf, outputOf}
 use Rattle.signals.specs.declared.Verdict.the-variants.{Refused as Verdict·Refused}
-use Rattle.signals.proofs.FirstFault.{first-is, next-is, first-with-none, both-none}
+use Rattle.signals.proofs.FirstFault.{first-is, first-with-none, both-none}
 use Rattle.format.specs.Calls.{lookupFault}
-use Rattle.stretches.specs.Stretches.{Stretch, sumOfTicks, stretchWords}
+use Rattle.stretches.specs.Stretches.{sumOfTicks}
 use Rattle.stretches.specs.Calls.{faultOfUpTime, countOfUpTime, totalOfUpTime, upTimeFor, stretchesOn, horizonFault, upTimeWords, upTimeFault}
 use Rattle.stretches.specs.Calls.{CallOfUpTime}
 use Rattle.stretches.specs.Sentences.{GivenUpTime}
 use Rattle.stretches.specs.declared.UpTime.{UpTime}
 use Rattle.stretches.specs.declared.UpTime.the-variants.{Told, Refused}
 use Rattle.stretches.proofs.CallGives.{suffices, up-time-says}
-use Rattle.texts.specs.Lengths.{isLength, value, capped}
+use Rattle.texts.specs.Lengths.{value}
 use Rattle.inputs.specs.Input.{firstLine, secondLine, sheetIn}
 use Rattle.verdict_line.specs.Line.{lineOf}
-use Rattle.verdict_line.specs.Written.{Filled}
 use Rattle.uptime_page.specs.Page.{totalLine, pageText}
-use Rattle.uptime_page.specs.Printing.{horizonTextFault, pageFault, printed, mostBytes}
-use Rattle.uptime_page.specs.Words.{wordLines, wordsPage, horizonIn}
+use Rattle.uptime_page.specs.Printing.{horizonTextFault, pageFault, printed}
+use Rattle.uptime_page.specs.Words.{wordLines, wordsPage, horizonIn, faultOn, pageOn}
 use Rattle.uptime_page.proofs.HorizonRead.{horizon-fault, horizon-value}
-use Rattle.uptime_page.proofs.PageSays.{lines-of, refused-so}
+use Rattle.uptime_page.proofs.PageSays.{lines-of}
 
--- the call with room for as many words as a list may have has the program's fault: 7 cannot come
-call-fault : (sheet name text : List ℕ) (room : ℕ) → Bytes sheet → room ≡ mostWords
-    → upTimeFault sheet name (horizonIn text) room ≡ firstOf (lookupFault sheet name) (horizonTextFault text)
-unfolding upTimeFault
-call-fault sheet name text room b r = go (ℕ-discrete (lookupFault sheet name) 0)
+-- the call with room for as many words as a list may have: 7 cannot come
+call-fault : (sheet name : List ℕ) (H room : ℕ) → Bytes sheet → room ≡ mostWords → upTimeFault sheet name H room ≡ faultOn sheet name H
+unfolding upTimeFault faultOn
+call-fault sheet name H room b r = go (ℕ-discrete (lookupFault sheet name) 0)
   where
     short : ℕ
-    short = cond (ltb room (length (upTimeWords sheet name (horizonIn text)))) 7 0
+    short = cond (ltb room (length (upTimeWords sheet name H))) 7 0
 
     go : Dec (lookupFault sheet name ≡ 0)
-        → firstOf (lookupFault sheet name) (firstOf (horizonFault (horizonIn text)) short)
-        ≡ firstOf (lookupFault sheet name) (horizonTextFault text)
+        → firstOf (lookupFault sheet name) (firstOf (horizonFault H) short) ≡ firstOf (lookupFault sheet name) (horizonFault H)
     go (no o) = first-is (lookupFault sheet name) _ o ∙ sym (first-is (lookupFault sheet name) _ o)
     go (yes z) =
-        let long : short ≡ 0 =
-        rw (le-ltb room (length (upTimeWords sheet name (horizonIn text))) (omega (arith, r, suffices sheet name (horizonIn text) b z))) in
-        ap (firstOf (lookupFault sheet name))
-        (ap (firstOf (horizonFault (horizonIn text))) long ∙ first-with-none (horizonFault (horizonIn text)) ∙ horizon-fault text)
+        let long : short ≡ 0 = rw (le-ltb room (length (upTimeWords sheet name H)) (omega (arith, r, suffices sheet name H b z))) in
+        ap (firstOf (lookupFault sheet name)) (ap (firstOf (horizonFault H)) long ∙ first-with-none (horizonFault H))
 
--- the parts of the input, H as it was read, an output with that room, and what the call answers
+-- an output with that room, and what the call answers
 module _
-    (input sheet name text out after : List ℕ) (answer : UpTime) (s : sheet ≡ sheetIn input) (m : name ≡ firstLine input)
-    (t : text ≡ secondLine input) (bytes : Bytes sheet) (room : length out ≡ mostWords)
-    (call : CallOfUpTime sheet name (horizonIn text) out answer after)
+    (sheet name : List ℕ) (H : ℕ) (out after : List ℕ) (answer : UpTime) (bytes : Bytes sheet) (room : length out ≡ mostWords)
+    (call : CallOfUpTime sheet name H out answer after)
   where
     abbrev words : List ℕ
-    words = upTimeWords sheet name (horizonIn text)
+    words = upTimeWords sheet name H
 
     abbrev total : ℕ
-    total = sumOfTicks (stretchesOn sheet name (horizonIn text))
+    total = sumOfTicks (stretchesOn sheet name H)
 
-    fault-told : faultOfUpTime answer ≡ upTimeFault sheet name (horizonIn text) (length out)
-    fault-told =
-        ap faultOfUpTime (call .0) ∙ up-time-says .fault (upTimeFault sheet name (horizonIn text) (length out)) (length words) total
+    told-fault : faultOfUpTime answer ≡ upTimeFault sheet name H (length out)
+    told-fault = ap faultOfUpTime (call .0) ∙ up-time-says .fault (upTimeFault sheet name H (length out)) (length words) total
 
-    own-fault : faultOfUpTime answer ≡ firstOf (lookupFault sheet name) (horizonTextFault text)
-    own-fault = fault-told ∙ call-fault sheet name text (length out) bytes room
+    own-fault : faultOfUpTime answer ≡ faultOn sheet name H
+    own-fault = told-fault ∙ call-fault sheet name H (length out) bytes room
 
-    program-fault : faultOfUpTime answer ≡ pageFault input
-    unfolding pageFault
-    program-fault = rw (← s, ← m, ← t) own-fault
-
-    pub refusal-printed : (fault : ℕ) → answer ≡ Refused fault → lineOf (Verdict·Refused fault) ≡ printed input
-    refusal-printed fault e =
-        let f : fault ≡ pageFault input = sym (ap faultOfUpTime e) ∙ program-fault in
+    pub refusal-on : (fault : ℕ) → answer ≡ Refused fault → lineOf (Verdict·Refused fault) ≡ pageOn sheet name H
+    unfolding pageOn
+    refusal-on fault e =
+        let f : fault ≡ faultOn sheet name H = sym (ap faultOfUpTime e) ∙ own-fault in
         let some : 1 ≤ fault = subst GivenUpTime (sym (call .0) ∙ e) (up-time-says .given _ (length words) total) in
-        ap (λ (n : ℕ). lineOf (Verdict·Refused n)) f ∙ sym (refused-so input (λ z. omega (arith, f, z, some)))
+        rw (ne-eqb (faultOn sheet name H) 0 (λ z. omega (arith, f, z, some)), f)
 
     -- stretches, with so many words and this sum
     module _ (count sum : ℕ) (e : answer ≡ Told count sum) where
-      none : upTimeFault sheet name (horizonIn text) (length out) ≡ 0
-      none = sym fault-told ∙ ap faultOfUpTime e
-
-      lookup-none : lookupFault sheet name ≡ 0
-      lookup-none = both-none (lookupFault sheet name) (horizonTextFault text) (sym own-fault ∙ ap faultOfUpTime e) .0
-
-      H-is : horizonIn text ≡ value text
-      H-is = horizon-value text (both-none (lookupFault sheet name) (horizonTextFault text) (sym own-fault ∙ ap faultOfUpTime e) .1)
+      none : faultOn sheet name H ≡ 0
+      none = sym own-fault ∙ ap faultOfUpTime e
 
       told : Told count sum ≡ upTimeFor 0 (length words) total
-      told = sym e ∙ call .0 ∙ ap (λ (f : ℕ). upTimeFor f (length words) total) none
+      told = sym e ∙ call .0 ∙ ap (λ (f : ℕ). upTimeFor f (length words) total) (sym told-fault ∙ ap faultOfUpTime e)
 
       count-is : count ≡ length words
       count-is = ap countOfUpTime told ∙ up-time-says .value (length words) total .0
@@ -103,19 +86,38 @@ module _
 
       after-is : after ≡ words ++ drop (length words) out
       unfolding outputOf
-      after-is = rw (eq-eqb (upTimeFault sheet name (horizonIn text) (length out)) 0 none) at (call .1)
+      after-is = rw (eq-eqb (upTimeFault sheet name H (length out)) 0 (sym told-fault ∙ ap faultOfUpTime e)) at (call .1)
 
       words-are : take count after ≡ words
       words-are = ap (take count) after-is ∙ take-at words (drop (length words) out) count (sym count-is)
 
       pub few-told : count ≤ mostWords
-      few-told = omega (arith, count-is, suffices sheet name (horizonIn text) bytes lookup-none)
+      unfolding faultOn
+      few-told = omega (arith, count-is, suffices sheet name H bytes (both-none (lookupFault sheet name) (horizonFault H) none .0))
 
-      pub page-printed : wordsPage (take count after) sum ≡ printed input
-      unfolding wordsPage pageText upTimeWords printed
-      page-printed =
+      pub page-on : wordsPage (take count after) sum ≡ pageOn sheet name H
+      unfolding wordsPage pageText upTimeWords pageOn
+      page-on =
           ap (λ (ws : List ℕ). wordLines ws ++ totalLine sum) words-are
           ∙ ap (λ (n : ℕ). wordLines words ++ totalLine n) sum-is
-          ∙ ap (λ (l : List ℕ). l ++ totalLine total) (lines-of (stretchesOn sheet name (horizonIn text)))
-          ∙ ap (λ (k : ℕ). pageText (stretchesOn sheet name k)) H-is
-          ∙ rw (eq-eqb (pageFault input) 0 (sym program-fault ∙ ap faultOfUpTime e), s, m, t)
+          ∙ ap (λ (l : List ℕ). l ++ totalLine total) (lines-of (stretchesOn sheet name H))
+          ∙ rw (eq-eqb (faultOn sheet name H) 0 none)
+
+-- the page of the parts of an input
+pub printed-on : (input sheet name text : List ℕ) → sheet ≡ sheetIn input → name ≡ firstLine input → text ≡ secondLine input
+    → pageOn sheet name (horizonIn text) ≡ printed input
+unfolding pageOn printed faultOn pageFault
+printed-on input sheet name text s m t =
+    rw (s, m, t)
+    (rw (horizon-fault (secondLine input)) (go (eqb (pageFault input) 0) refl))
+  where
+    P : ℕ → List ℕ
+    P H = pageText (stretchesOn (sheetIn input) (firstLine input) H)
+
+    go : (b : Bool) → eqb (pageFault input) 0 ≡ b
+        → cond b (P (horizonIn (secondLine input))) (lineOf (Verdict·Refused (pageFault input)))
+        ≡ cond b (P (value (secondLine input))) (lineOf (Verdict·Refused (pageFault input)))
+    go false e = refl
+    go true e =
+        let z = both-none (lookupFault (sheetIn input) (firstLine input)) (horizonTextFault (secondLine input)) (eqb-true (pageFault input) 0 e) in
+        ap P (horizon-value (secondLine input) (z .1))

@@ -64,7 +64,7 @@ bytes-past stop (x ∷ l) b i = go (eqb x stop) (bytes-past stop l (λ k. b (suc
     go true h = b (suc i)
     go false h = h
 
-pub bytes-sheet : (input : List ℕ) → Bytes input → Bytes (sheetIn input)
+bytes-sheet : (input : List ℕ) → Bytes input → Bytes (sheetIn input)
 unfolding sheetIn counted
 bytes-sheet input b = bytes-past 10 _ (bytes-past 10 _ (bytes-take limit input b))
 
@@ -73,12 +73,12 @@ page-of : (input : List ℕ) (H : ℕ) → lookupFault (sheetIn input) (firstLin
 unfolding printed
 page-of input H z h = rw (eq-eqb (pageFault input) 0 (page-fine input H z h), horizon-value (secondLine input) H h)
 
-pub refused-so : (input : List ℕ) → ¬ (pageFault input ≡ 0) → printed input ≡ lineOf (Refused (pageFault input))
+refused-so : (input : List ℕ) → ¬ (pageFault input ≡ 0) → printed input ≡ lineOf (Refused (pageFault input))
 unfolding printed
 refused-so input n = rw (ne-eqb (pageFault input) 0 n)
 
 -- by whether there is a fault
-pub by-fault : (P : List ℕ → Type 0) (input : List ℕ)
+by-fault : (P : List ℕ → Type 0) (input : List ℕ)
     → (lookupFault (sheetIn input) (firstLine input) ≡ 0
     → P (pageText (stretchesOn (sheetIn input) (firstLine input) (value (secondLine input)))))
     → P (lineOf (Refused (pageFault input))) → P (printed input)

@@ -9,10 +9,13 @@ ghost use Rattle.texts.specs.Decimal.{decimal};
 ghost use Rattle.verdict_line.specs.Line.{lineOf};
 ghost use Rattle.verdict_line.specs.Written.{Filled};
 ghost use Rattle.uptime_page.specs.Page.{pairLine};
-ghost use Rattle.uptime_page.specs.Printing.{mostBytes};
-ghost use Rattle.uptime_page.specs.Words.{Put, wordLines, wordsPage, horizonIn};
+ghost use Rattle.uptime_page.specs.Printing.{mostBytes, PageOfInput};
+ghost use Rattle.uptime_page.specs.Words.{Put, wordLines, wordsPage, horizonIn, pageOn};
+use inputs::BYTES;
 use signals::M;
 use signals::Verdict;
+use signals::WORDS;
+use stretches::UpTime;
 use texts::Read;
 
 // The bytes of the longest page.
@@ -101,4 +104,28 @@ fn horizon(text: &[u8]) -> u32
         Read::NotALength => M + 1,
         Read::AboveM => M + 1,
     }
+}
+
+// The page of a name's signal on a sheet before a horizon. There is room for the words of every list's stretches, so that it is never
+// refused with 7.
+fn page_on(sheet: &[u8], name: &[u8], h: u32) -> Page
+    ensures { λ r. ⌜ Filled mostBytes (pageOn (now (sheet .entry)) (now (name .entry)) h) (r .«bytes») (r .«count») ⌝ }
+{
+    let mut words = [0u32; WORDS];
+    let answer = uptimes::uptime(sheet, name, h, &mut words);
+    match answer {
+        UpTime::Told { count, total } => page_for(&words[..count], total),
+        UpTime::Refused(fault) => refusal(fault),
+    }
+}
+
+// The page that the first n bytes of an input make: the name, the horizon and the sheet. The type of the input has the bytes that count, and
+// the page has those of the longest.
+pub fn page_of(input: &[u8; BYTES], n: usize) -> Page
+    ensures { λ r. ⌜ PageOfInput (now (input .entry)) n (r .«bytes») (r .«count») ⌝ }
+{
+    let name = inputs::first_line(input, n);
+    let h = horizon(inputs::second_line(input, n));
+    let sheet = inputs::sheet(input, n);
+    page_on(sheet, name, h)
 }
