@@ -1,14 +1,16 @@
 -- `uptime_page::page_of` meets its contract.
 use borrow.Author.Needs.{needs}
+use mathlib.Core.Path.{ap, sym, _∙_, subst}
+use mathlib.Core.List.{List}
+use Prim.Native.Nat.{ℕ}
+use lib.ListN.{take}
+use denote.Ref.{now}
+use Rattle.verdict_line.specs.Written.{Filled}
+use Rattle.uptime_page.specs.Printing.{mostBytes}
+use Rattle.uptime_page.specs.Words.{pageOn}
+use Rattle.uptime_page.proofs.Answering.{printed-on}
 use Rattle.uptime_page.proofs.page_of.Statement.{statement}
 use Rattle.uptime_page.proofs.page_of.Tie as tie
-use Rattle.uptime_page.proofs.page_of.Reads as reads
-use Rattle.uptime_page.proofs.page_of.Lts as lts
-use Rattle.inputs.proofs.first_line.Reads as first-line-reads
-use Rattle.inputs.proofs.second_line.Reads as second-line-reads
-use Rattle.inputs.proofs.sheet.Reads as sheet-reads
-use Rattle.uptime_page.proofs.horizon.Reads as horizon-reads
-use Rattle.uptime_page.proofs.page_on.Reads as page-on-reads
 
 first-line-requires : tie.Need-first-line-requires
 first-line-requires c κs = search needs
@@ -26,15 +28,21 @@ page-on-requires : tie.Need-page-on-requires
 page-on-requires c κs = search needs
 
 returns : tie.Need-returns
-returns c = ?
+returns c =
+    let sheet = c .before in
+    let h = sheet .before in
+    let text = h .before in
+    let name = text .before in
+    let a = name .before .args in
+    let is =
+    ap (pageOn (now (sheet .sheet .result)) (now (name .first-line .result))) (h .horizon .ensures)
+    ∙ printed-on (take (a .n) (now (a .input))) (now (sheet .sheet .result)) (now (name .first-line .result)) (now (text .second-line .result))
+    (sheet .sheet .ensures .1) (name .first-line .ensures .1) (text .second-line .ensures .1) in (
+      name .first-line .ensures .0,
+      subst (λ (l : List ℕ). Filled mostBytes l (c .page-on .result .«bytes») (c .page-on .result .«count»)) is (c .page-on .ensures),
+    )
 
 pub page-of-spec : {M : Type 1} → statement M
 page-of-spec =
     tie.close
-    (tie.spec
-    first-line-requires
-    second-line-requires
-    horizon-requires
-    sheet-requires
-    page-on-requires
-    returns)
+    (tie.spec first-line-requires second-line-requires horizon-requires sheet-requires page-on-requires returns)
