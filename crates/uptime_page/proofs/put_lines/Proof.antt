@@ -56,7 +56,7 @@ loop-again : tie.Need-loop-again Inv-loop μ-loop
 loop-again c =
     let put = c .before .before in
     let test = put .before .before .before .before in
-    line-more _ _ _ _ _ (kept (test .before)) _ _ (test .loop-test .taken) (put .put-line .ensures)
+    line-more _ _ _ _ _ (kept (test .before)) _ _ (omega (arith, test .loop-test .taken)) (put .put-line .ensures)
 
 same-length : tie.Need-same-length Inv-loop μ-loop
 same-length c = lines-length _ _ _ _ _ (kept (c .before)) ∙ sym (kept (c .before) .whole)
