@@ -100,7 +100,9 @@ Kept w = (k : ℕ) → valueFrom 0 w < 10 ^ k → leading k (valueFrom 0 w) ≡ 
 kept-more : (w : List ℕ) (b : ℕ) → isDigit b ≡ true → 0 < valueFrom 0 w * 10 + (b - 48) → Kept w → Kept (w ++ (b ∷ []))
 unfolding leading isDigit
 kept-more w b d h kept zero l = absurd (omega (arith, l, from-more 0 w b))
-kept-more w b d h kept (suc k) l = rw (from-more 0 w b) (rw (ne-eqb n 0 (λ e. omega arith)) (rw (tens, last) (ap (λ (u : List ℕ). u ++ (b ∷ [])) (kept k below))))
+kept-more w b d h kept (suc k) l =
+    rw (from-more 0 w b)
+    (rw (ne-eqb n 0 (λ e. omega arith)) (rw (tens, last) (ap (λ (u : List ℕ). u ++ (b ∷ [])) (kept k below))))
   where
     n : ℕ
     n = valueFrom 0 w * 10 + (b - 48)

@@ -9,7 +9,10 @@ fn print(input: &[u8; inputs::BYTES], n: usize) {
     let bytes = page.bytes;
     let count = page.count;
     if !io::write_all(STDOUT_FILENO, &bytes[..count]) {
-        io::write_all(STDERR_FILENO, b"uptime: standard output cannot be written\n");
+        io::write_all(
+            STDERR_FILENO,
+            b"uptime: standard output cannot be written\n",
+        );
     }
 }
 

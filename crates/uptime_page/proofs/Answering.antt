@@ -16,8 +16,8 @@ use Rattle.signals.specs.declared.Verdict.the-variants.{Refused as Verdict·Ref
 use Rattle.signals.proofs.FirstFault.{first-is, first-with-none, both-none}
 use Rattle.format.specs.Calls.{lookupFault}
 use Rattle.stretches.specs.Stretches.{sumOfTicks}
-use Rattle.stretches.specs.Calls.{faultOfUpTime, countOfUpTime, totalOfUpTime, upTimeFor, stretchesOn, horizonFault, upTimeWords, upTimeFault}
-use Rattle.stretches.specs.Calls.{CallOfUpTime}
+use Rattle.stretches.specs.Calls.{faultOfUpTime, countOfUpTime, totalOfUpTime, upTimeFor, stretchesOn}
+use Rattle.stretches.specs.Calls.{horizonFault, upTimeWords, upTimeFault, CallOfUpTime}
 use Rattle.stretches.specs.Sentences.{GivenUpTime}
 use Rattle.stretches.specs.declared.UpTime.{UpTime}
 use Rattle.stretches.specs.declared.UpTime.the-variants.{Told, Refused}
@@ -119,5 +119,5 @@ printed-on input sheet name text s m t =
         ≡ cond b (P (value (secondLine input))) (lineOf (Verdict·Refused (pageFault input)))
     go false e = refl
     go true e =
-        let z = both-none (lookupFault (sheetIn input) (firstLine input)) (horizonTextFault (secondLine input)) (eqb-true (pageFault input) 0 e) in
-        ap P (horizon-value (secondLine input) (z .1))
+        let none = both-none (lookupFault (sheetIn input) (firstLine input)) (horizonTextFault (secondLine input)) in
+        ap P (horizon-value (secondLine input) (none (eqb-true (pageFault input) 0 e) .1))

@@ -2,7 +2,7 @@
 use Prim.Native.Nat.{ℕ, _+_, _*_, _≤_}
 use native.Mathlib.Nat.{zero-add}
 use native.Mathlib.Omega.{arith}
-use mathlib.Core.Path.{_≡_, refl, sym, ap, _∙_}
+use mathlib.Core.Path.{_≡_, sym, ap, _∙_}
 use mathlib.Core.List.{List, [], _∷_, _++_}
 use lib.ListN.{length, take, drop, replicate, length-append, length-replicate}
 use lib.Seq.{take-at}
@@ -22,7 +22,8 @@ put-filled : (room : ℕ) (text bytes : List ℕ) (count : ℕ) → length text 
 unfolding over
 put-filled room text bytes count h p =
     let r : length (replicate {A = ℕ} room 0) ≡ room = length-replicate room 0 in
-    filled room text bytes count (put-length (replicate room 0) 0 text count bytes (omega (arith, r)) p ∙ r) h (p .0 ∙ zero-add (length text))
+    filled room text bytes count (put-length (replicate room 0) 0 text count bytes (omega (arith, r)) p ∙ r) h
+    (p .0 ∙ zero-add (length text))
     (p .1 ∙ ap (λ (k : ℕ). text ++ drop k (replicate room 0)) (zero-add (length text)))
 
 pub lines-size : (words : List ℕ) → length (wordLines words) ≤ 11 * length words

@@ -1,5 +1,5 @@
 -- The faults of the program's input in their order: those of a lookup, then 19.
-use Prim.Native.Nat.{ℕ, _≤_, _<_}
+use Prim.Native.Nat.{ℕ, _≤_}
 use native.Mathlib.Omega.{arith}
 use mathlib.Core.Path.{_≡_, refl, sym, ap, _∙_}
 use mathlib.Core.Bool.{Bool, true, false, cond}
@@ -18,7 +18,6 @@ use Rattle.format.proofs.FaultNumbers.{sheet-of}
 use Rattle.stretches.specs.Calls.{horizonFault}
 use Rattle.stretches.proofs.CallFaults.{lookup-then}
 use Rattle.texts.specs.Lengths.{isLength, value}
-use Rattle.texts.specs.Decimal.{decimal}
 use Rattle.texts.proofs.DecimalRight.{decimal-right}
 use Rattle.inputs.specs.Input.{firstLine, secondLine, sheetIn}
 use Rattle.uptime_page.specs.Printing.{horizonTextFault, pageFault}

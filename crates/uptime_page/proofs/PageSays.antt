@@ -1,7 +1,7 @@
 -- What is printed of an input: the page or the refusal, how long it is, where it ends.
-use Prim.Native.Nat.{ℕ, zero, suc, _+_, _≤_, _<_}
+use Prim.Native.Nat.{ℕ, zero, suc, _≤_, _<_}
 use native.Mathlib.Omega.{arith}
-use mathlib.Core.Path.{_≡_, refl, sym, ap, _∙_, subst}
+use mathlib.Core.Path.{_≡_, refl, sym, ap}
 use mathlib.Core.Bool.{Bool, true, false, cond}
 use mathlib.Core.List.{List, [], _∷_, _++_, append-assoc}
 use lib.Dec.{eqb}
@@ -77,27 +77,32 @@ refused-so : (input : List ℕ) → ¬ (pageFault input ≡ 0) → printed input
 unfolding printed
 refused-so input n = rw (ne-eqb (pageFault input) 0 n)
 
+-- the stretches that an input asks for
+abbrev stretchesIn : List ℕ → List Stretch
+stretchesIn input = stretchesOn (sheetIn input) (firstLine input) (value (secondLine input))
+
 -- by whether there is a fault
 by-fault : (P : List ℕ → Type 0) (input : List ℕ)
     → (lookupFault (sheetIn input) (firstLine input) ≡ 0
-    → P (pageText (stretchesOn (sheetIn input) (firstLine input) (value (secondLine input)))))
+    → P (pageText (stretchesIn input)))
     → P (lineOf (Refused (pageFault input))) → P (printed input)
 unfolding printed pageFault
 by-fault P input page line = go (eqb (pageFault input) 0) refl
   where
     go : (t : Bool) → eqb (pageFault input) 0 ≡ t
-        → P (cond t (pageText (stretchesOn (sheetIn input) (firstLine input) (value (secondLine input)))) (lineOf (Refused (pageFault input))))
+        → P (cond t (pageText (stretchesIn input)) (lineOf (Refused (pageFault input))))
     go true e = page (both-none (lookupFault (sheetIn input) (firstLine input)) _ (eqb-true (pageFault input) 0 e) .0)
     go false e = line
 
-few-words : (sheet name : List ℕ) (H : ℕ) → Bytes sheet → lookupFault sheet name ≡ 0 → length (stretchWords (stretchesOn sheet name H)) ≤ mostWords
+few-words : (sheet name : List ℕ) (H : ℕ) → Bytes sheet → lookupFault sheet name ≡ 0
+    → length (stretchWords (stretchesOn sheet name H)) ≤ mostWords
 unfolding upTimeWords
 few-words sheet name H b z = suffices sheet name H b z
 
 page-fits : (input : List ℕ) → Bytes input → length (printed input) ≤ mostBytes
 page-fits input b =
     by-fault (λ text. length text ≤ mostBytes) input
-    (λ z. page-length (stretchesOn (sheetIn input) (firstLine input) (value (secondLine input)))
+    (λ z. page-length (stretchesIn input)
     (few-words (sheetIn input) (firstLine input) (value (secondLine input)) (bytes-sheet input b) z))
     (omega (arith, line-fits (Refused (pageFault input))))
 
@@ -109,7 +114,7 @@ page-ends : (input : List ℕ) → Ends (printed input)
 unfolding pageText totalLine lineOf line
 page-ends input =
     by-fault Ends input
-    (λ z. let ss = stretchesOn (sheetIn input) (firstLine input) (value (secondLine input)) in (
+    (λ z. let ss = stretchesIn input in (
       stretchLines ss ++ (totalText ++ decimal (sumOfTicks ss)),
       sym (append-assoc (stretchLines ss) (totalText ++ decimal (sumOfTicks ss)) (10 ∷ [])),
     ))

@@ -80,13 +80,16 @@ not-total s ss rest total h e =
     after : List ℕ
     after = 32 ∷ (decimal (s .ticks) ++ (10 ∷ (stretchLines ss ++ rest)))
 
-told-from : (ss rs : List Stretch) (n m : ℕ) → Small ss → Small rs → stretchLines ss ++ totalLine n ≡ stretchLines rs ++ totalLine m → ss ≡ rs
+told-from : (ss rs : List Stretch) (n m : ℕ) → Small ss → Small rs → stretchLines ss ++ totalLine n ≡ stretchLines rs ++ totalLine m
+    → ss ≡ rs
 unfolding stretchLines
 told-from [] [] n m a b e = refl
 told-from [] (r ∷ rs) n m a b e = absurd (not-total r rs (totalLine m) n (b .0) (sym e))
 told-from (s ∷ ss) [] n m a b e = absurd (not-total s ss (totalLine n) m (a .0) e)
 told-from (s ∷ ss) (r ∷ rs) n m a b e =
-    let f = same-number 32 (omega arith) (s .first) (r .first) _ _ (a .0) (b .0) (sym (opened s ss (totalLine n)) ∙ e ∙ opened r rs (totalLine m)) in
+    let f =
+    same-number 32 (omega arith) (s .first) (r .first) _ _ (a .0) (b .0)
+    (sym (opened s ss (totalLine n)) ∙ e ∙ opened r rs (totalLine m)) in
     let t = same-number 10 (omega arith) (s .ticks) (r .ticks) _ _ (a .1) (b .1) (f .1) in
     let h : s ≡ r =
     ap (λ (k : ℕ). record { first = k; ticks = s .ticks }) (f .0) ∙ ap (λ (k : ℕ). record { first = r .first; ticks = k }) (t .0) in

@@ -1,11 +1,11 @@
 -- Texts, numbers and lines put into an output, one after the other.
 use Prim.Native.Nat.{ℕ, _+_, _≤_}
 use native.Mathlib.Omega.{arith}
-use mathlib.Core.Path.{_≡_, refl, sym, ap, _∙_, subst}
+use mathlib.Core.Path.{_≡_, refl, ap, _∙_}
 use mathlib.Core.List.{List, [], _∷_, _++_, append-assoc}
 use lib.ListN.{length, take, drop, length-append, length-drop}
 use lib.Seq.{length-take-le}
-use Rattle.slices.specs.Slices.{placed, putAt}
+use Rattle.slices.specs.Slices.{putAt}
 use Rattle.slices.proofs.Placing.{then-put, put-fits}
 use Rattle.texts.specs.Decimal.{decimal, PutNumber}
 use Rattle.texts.proofs.Digits.{decimal-length}

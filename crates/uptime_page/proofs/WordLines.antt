@@ -43,7 +43,8 @@ module _ (out₀ words out : List ℕ) (at i : ℕ) (p : LinesPut out₀ words o
       put-length out₀ 0 (p .text) at out (omega (arith, p .size, p .whole, p .within, p .few)) (p .put) ∙ p .whole
 
   -- one line more
-  pub line-more : (exit : List ℕ) (next : ℕ) → i + 1 < length words → Put out at (pairLine (getD words i 0) (getD words (i + 1) 0)) next exit
+  pub line-more : (exit : List ℕ) (next : ℕ) → i + 1 < length words
+      → Put out at (pairLine (getD words i 0) (getD words (i + 1) 0)) next exit
       → LinesPut out₀ words exit next (i + 2)
   unfolding wordLines
   line-more exit next h q =

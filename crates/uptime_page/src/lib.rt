@@ -119,8 +119,8 @@ fn page_on(sheet: &[u8], name: &[u8], h: u32) -> Page
     }
 }
 
-// The page that the first n bytes of an input make: the name, the horizon and the sheet. The type of the input has the bytes that count, and
-// the page has those of the longest.
+// The page that the first n bytes of an input make: the name, the horizon and the sheet. The type of the input has the bytes that count,
+// and the page has those of the longest.
 pub fn page_of(input: &[u8; BYTES], n: usize) -> Page
     ensures { λ r. ⌜ PageOfInput (now (input .entry)) n (r .«bytes») (r .«count») ⌝ }
 {

@@ -26,7 +26,8 @@ add-result-2 c = search needs
 returns : tie.Need-returns
 returns c =
     let read = c .before .before .before in
-    horizon-is (now (read .before .before .args .text)) (read .read-length .result) _ (read .read-length .ensures) (c .before .read .given .1)
+    horizon-is (now (read .before .before .args .text)) (read .read-length .result) _ (read .read-length .ensures)
+    (c .before .read .given .1)
 
 returns-2 : tie.Need-returns-2
 returns-2 c =

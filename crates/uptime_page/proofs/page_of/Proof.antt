@@ -1,8 +1,8 @@
 -- `uptime_page::page_of` meets its contract.
 use borrow.Author.Needs.{needs}
-use mathlib.Core.Path.{ap, sym, _∙_, subst}
-use mathlib.Core.List.{List}
 use Prim.Native.Nat.{ℕ}
+use mathlib.Core.Path.{ap, _∙_, subst}
+use mathlib.Core.List.{List}
 use lib.ListN.{take}
 use denote.Ref.{now}
 use Rattle.verdict_line.specs.Written.{Filled}
@@ -34,10 +34,12 @@ returns c =
     let text = h .before in
     let name = text .before in
     let a = name .before .args in
+    let s = now (sheet .sheet .result) in
+    let m = now (name .first-line .result) in
     let is =
-    ap (pageOn (now (sheet .sheet .result)) (now (name .first-line .result))) (h .horizon .ensures)
-    ∙ printed-on (take (a .n) (now (a .input))) (now (sheet .sheet .result)) (now (name .first-line .result)) (now (text .second-line .result))
-    (sheet .sheet .ensures .1) (name .first-line .ensures .1) (text .second-line .ensures .1) in (
+    ap (pageOn s m) (h .horizon .ensures)
+    ∙ printed-on (take (a .n) (now (a .input))) s m (now (text .second-line .result)) (sheet .sheet .ensures .1)
+    (name .first-line .ensures .1) (text .second-line .ensures .1) in (
       name .first-line .ensures .0,
       subst (λ (l : List ℕ). Filled mostBytes l (c .page-on .result .«bytes») (c .page-on .result .«count»)) is (c .page-on .ensures),
     )

@@ -2,7 +2,7 @@
 use borrow.Author.Needs.{needs}
 use Prim.Native.Nat.{ℕ, _≤_}
 use native.Mathlib.Omega.{arith}
-use mathlib.Core.Path.{_≡_, refl, sym, _∙_, subst}
+use mathlib.Core.Path.{refl, sym, subst}
 use mathlib.Core.List.{List}
 use lib.ListN.{replicate, length-take}
 use lib.Seq.{length-take-le}
@@ -46,8 +46,8 @@ slice-aggregate-page-for c =
 
 page-for-requires : tie.Need-page-for-requires
 page-for-requires c κs =
-    let few-words = few (c .before .before) in
-    omega (arith, length-take (c .before .before .answer .given .0 .0) (c .before .before .before .before .before .uptime .last .1 .1 .1 .0), few-words)
+    let told = c .before .before in
+    omega (arith, length-take (told .answer .given .0 .0) (told .before .before .before .uptime .last .1 .1 .1 .0), few told)
 
 enum-known-answer-2 : tie.Need-enum-known-answer-2
 enum-known-answer-2 c = search needs

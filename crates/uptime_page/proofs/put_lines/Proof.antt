@@ -1,6 +1,5 @@
 -- `uptime_page::put_lines` meets its contract.
-use borrow.Author.Needs.{needs}
-use Prim.Native.Nat.{_-_}
+use Prim.Native.Nat.{_-_, _≤_}
 use native.Mathlib.Omega.{arith}
 use mathlib.Core.Path.{sym, _∙_}
 use lib.ListN.{length}
@@ -15,8 +14,11 @@ abbrev μ-loop : tie.MeasureT-loop
 μ-loop out₀ words at₀ i₀ out at i = length words - i
 
 kept : (c : tie.At-loop Inv-loop μ-loop)
-    → LinesPut (c .before .before .before .args .out .now) (c .before .before .before .args .words .now) (c .loop .out) (c .loop .at) (c .loop .i)
+    → let a = c .before .before .before .args in LinesPut (a .out .now) (a .words .now) (c .loop .out) (c .loop .at) (c .loop .i)
 kept c = c .loop .inv
+
+small : (c : tie.At-loop Inv-loop μ-loop) → c .loop .i ≤ 256
+small c = omega (arith, kept c .within, kept c .few)
 
 loop-holds : tie.Need-loop-holds Inv-loop μ-loop
 loop-holds c =
@@ -24,19 +26,19 @@ loop-holds c =
     none-put (entry .args .out .now) (entry .args .words .now) (entry .pre .0) (entry .pre .1)
 
 add-loop : tie.Need-add-loop Inv-loop μ-loop
-add-loop c = omega (arith, kept c .within, kept c .few)
+add-loop c = omega (arith, small c)
 
 mul-put-line : tie.Need-mul-put-line Inv-loop μ-loop
-mul-put-line c = omega (arith, kept (c .before .before) .within, kept (c .before .before) .few)
+mul-put-line c = omega (arith, small (c .before .before))
 
 shared-slice-read-put-line : tie.Need-shared-slice-read-put-line Inv-loop μ-loop
 shared-slice-read-put-line c = omega (arith, c .before .before .loop-test .taken)
 
 add-put-line : tie.Need-add-put-line Inv-loop μ-loop
-add-put-line c = omega (arith, kept (c .before .before .before) .within, kept (c .before .before .before) .few)
+add-put-line c = omega (arith, small (c .before .before .before))
 
 mul-put-line-2 : tie.Need-mul-put-line-2 Inv-loop μ-loop
-mul-put-line-2 c = omega (arith, kept (c .before .before .before) .within, kept (c .before .before .before) .few)
+mul-put-line-2 c = omega (arith, small (c .before .before .before))
 
 shared-slice-read-put-line-2 : tie.Need-shared-slice-read-put-line-2 Inv-loop μ-loop
 shared-slice-read-put-line-2 c = omega (arith, c .before .before .before .loop-test .taken)
@@ -47,7 +49,7 @@ put-line-requires c κs =
     (lines-length _ _ _ _ _ k, omega (arith, lines-at _ _ _ _ _ k, c .before .before .before .loop-test .taken, k .few))
 
 add-i : tie.Need-add-i Inv-loop μ-loop
-add-i c = omega (arith, kept (c .before .before .before .before .before .before .before) .few, c .before .before .before .before .before .before .loop-test .taken)
+add-i c = omega (arith, small (c .before .before .before .before .before .before .before))
 
 loop-less : tie.Need-loop-less Inv-loop μ-loop
 loop-less c = omega (arith, c .before .before .before .before .before .before .loop-test .taken)
