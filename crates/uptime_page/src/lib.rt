@@ -18,7 +18,7 @@ use signals::WORDS;
 use stretches::UpTime;
 use texts::Read;
 
-// The bytes of the longest page.
+// No page has more bytes: 128 lines of two numbers of ten digits, and the total's.
 pub const PAGE: usize = 2833;
 
 // A page: as many bytes as the count says, those past them being zeros.
@@ -120,7 +120,7 @@ fn page_on(sheet: &[u8], name: &[u8], h: u32) -> Page
 }
 
 // The page that the first n bytes of an input make: the name, the horizon and the sheet. The type of the input has the bytes that count,
-// and the page has those of the longest.
+// and the page has room for every one.
 pub fn page_of(input: &[u8; BYTES], n: usize) -> Page
     ensures { λ r. ⌜ PageOfInput (now (input .entry)) n (r .«bytes») (r .«count») ⌝ }
 {
