@@ -1,11 +1,11 @@
--- `claim::read_input` is safe and ends: each turn leaves fewer bytes of the buffer.
+-- `standard_input::read` is safe and ends: each turn leaves fewer bytes of the buffer.
 use borrow.Author.Needs.{needs}
 use Prim.Native.Nat.{_-_, _≤_}
 use native.Mathlib.Omega.{arith}
 use mathlib.Core.Path.{_≡_}
 use lib.ListN.{length}
-use Rattle.claim.proofs.read_input.Statement.{statement}
-use Rattle.claim.proofs.read_input.Tie as tie
+use Rattle.standard_input.proofs.read.Statement.{statement}
+use Rattle.standard_input.proofs.read.Tie as tie
 
 abbrev Inv-loop : tie.InvT-loop
 Inv-loop space₀ done₀ space done = (done ≤ length space) × (length space ≡ 65536)
@@ -58,8 +58,8 @@ loop-again c = search needs
 returns-3 : tie.Need-returns-3 Inv-loop μ-loop
 returns-3 c = search needs
 
-pub read-input-spec : {M : Type 1} → statement M
-read-input-spec =
+pub read-spec : {M : Type 1} → statement M
+read-spec =
     tie.close
     (tie.spec
     Inv-loop
