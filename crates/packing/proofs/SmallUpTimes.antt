@@ -32,7 +32,9 @@ up-time-small sheet name H room b = go (eqb (upTimeFault sheet name H room) 0) r
   where
     go : (t : Bool) → eqb (upTimeFault sheet name H room) 0 ≡ t
         → SmallUpTime
-        (cond t (Told (length (upTimeWords sheet name H)) (sumOfTicks (stretchesOn sheet name H))) (Refused (upTimeFault sheet name H room)))
+        (cond t
+        (Told (length (upTimeWords sheet name H)) (sumOfTicks (stretchesOn sheet name H)))
+        (Refused (upTimeFault sheet name H room)))
     go true e =
         let first = both-none (lookupFault sheet name) _ (eqb-true (upTimeFault sheet name H room) 0 e) in
         (omega arith, omega (arith, suffices sheet name H b (first .0)))

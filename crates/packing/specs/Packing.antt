@@ -47,7 +47,8 @@ packPlace answer = 281474976710656 * faultOfPlace answer + 16777216 * firstByte 
 unfoldable pub packUpTime : UpTime → ℕ
 packUpTime answer = 281474976710656 * faultOfUpTime answer + 65536 * totalOfUpTime answer + countOfUpTime answer
 
--- The same in 32 bits, or in 64 for a verdict, a place and an up-time, whatever the answer: of each number the low bits that its place has room for.
+-- The same in 32 bits, or in 64 for a verdict, a place and an up-time, whatever the answer: of each number the low bits that its place
+-- has room for.
 unfoldable pub faultBits : ℕ → ℕ
 faultBits f = packFault (f % 65536)
 

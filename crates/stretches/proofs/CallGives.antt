@@ -29,7 +29,9 @@ gives sheet name H out answer after call z =
     record {
       stretches = stretchesBefore (environmentOn sheet name) H;
       those = stretches-of (environmentOn sheet name) H;
-      answered = (rw (eq-eqb _ 0 z) at (call .0)) ∙ ap (Told (length (upTimeWords sheet name H))) (totals .total (environmentOn sheet name) H);
+      answered =
+          (rw (eq-eqb _ 0 z) at (call .0))
+          ∙ ap (Told (length (upTimeWords sheet name H))) (totals .total (environmentOn sheet name) H);
       written = rw (eq-eqb _ 0 z) at (call .1);
     }
 

@@ -64,7 +64,8 @@ walked-few H up from (w ∷ ws) =
 pub few-words : (l : List ℕ) (H : ℕ) → Accepted l → length (stretchWords (stretchesBefore (signalOf l) H)) ≤ mostWords
 few-words [] H a = absurd (accepted-normal [] .0 a .0)
 few-words (h ∷ ws) H a =
-    subst (λ (ss : List Stretch). length (stretchWords ss) ≤ mostWords) (walk-exact h ws H a) (go (headValue h) (walked-few H (headValue h) 0 ws))
+    subst (λ (ss : List Stretch). length (stretchWords ss) ≤ mostWords) (walk-exact h ws H a)
+    (go (headValue h) (walked-few H (headValue h) 0 ws))
   where
     go : (b : Bool) → 2 * length (walked H (headValue h) 0 ws) ≤ length ws + 1 + num b
         → length (stretchWords (walked H (headValue h) 0 ws)) ≤ mostWords

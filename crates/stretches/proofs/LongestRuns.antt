@@ -100,7 +100,8 @@ module _ (f : Signal) (Q : ℕ → Type 0) (longest : Longest f Q) (k : ℕ) (at
       below l (inr h) =
           let q' : suc (back f k - 1) ≡ back f k = omega (arith, h) in
           not-both
-          (longest .run .up (back f k - 1) (longest .run .unbroken i (back f k - 1) k (omega (arith, h)) (omega (arith, back-most f k)) q at))
+          (longest .run .up (back f k - 1)
+          (longest .run .unbroken i (back f k - 1) k (omega (arith, h)) (omega (arith, back-most f k)) q at))
           (begins-down f (back f k - 1) (subst (λ (m : ℕ). Up (begins f m)) (sym q') (back-begins f k up-here)))
 
       go : (i ≤ k) ⊎ (k < i) → RunOf f (back f k) i
@@ -174,8 +175,8 @@ tail-ordered s [] o = tt
 tail-ordered s (x ∷ xs) o = o .1
 
 -- lists in order with the same stretches are one list
-pub one-list : (a b : List Stretch) → InOrder a → InOrder b → ((s : Stretch) → IsAmong a s → IsAmong b s) → ((s : Stretch) → IsAmong b s → IsAmong a s)
-    → a ≡ b
+one-list : (a b : List Stretch) → InOrder a → InOrder b → ((s : Stretch) → IsAmong a s → IsAmong b s)
+    → ((s : Stretch) → IsAmong b s → IsAmong a s) → a ≡ b
 one-list [] [] p q g h = refl
 one-list [] (r ∷ rs) p q g h = absurd (h r (inl refl))
 one-list (s ∷ ss) [] p q g h = absurd (g s (inl refl))

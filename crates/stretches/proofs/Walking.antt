@@ -33,7 +33,9 @@ skip f k (suc m) n h =
     ∙ skip f (suc k) m n (λ j a b. h j (omega arith) (omega arith)) ∙ ap (λ (i : ℕ). stretchesFrom f i n) g
   where
     one : (b : Bool) → Down b
-        → cond b ((record { first = k; ticks = upFor f k (suc (m + n)) }) ∷ stretchesFrom f (suc k) (m + n)) (stretchesFrom f (suc k) (m + n))
+        → cond b
+        ((record { first = k; ticks = upFor f k (suc (m + n)) }) ∷ stretchesFrom f (suc k) (m + n))
+        (stretchesFrom f (suc k) (m + n))
         ≡ stretchesFrom f (suc k) (m + n)
     one true e = true-false e
     one false e = refl

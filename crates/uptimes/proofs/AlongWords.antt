@@ -93,7 +93,8 @@ module _ (l : List ℕ) (H : ℕ) (out₀ : List ℕ) (p : ℕ) (s : State) (g :
           so-far = rw (lt-ltb (s .from) (dateOf w) (rising .0)) at (ended-done out₀ (g .done) s (g .so-far) (dateOf w));
           leads =
               append-snoc (g .done) (between (s .from) (dateOf w)) (walked H (heldValue l (p + 1)) (dateOf w) others)
-              ∙ ap (λ (v : Bool). g .done ++ between (s .from) (dateOf w) ∷ walked H v (dateOf w) others) (held false f) ∙ past true false e f;
+              ∙ ap (λ (v : Bool). g .done ++ between (s .from) (dateOf w) ∷ walked H v (dateOf w) others) (held false f)
+              ∙ past true false e f;
           rises = rising .1;
           before = omega (arith, rising .0, g .before);
           few = omega (arith, g .few);
