@@ -26,9 +26,9 @@ abbrev pub totalOfUpTime : UpTime → ℕ
 totalOfUpTime (Told count total) = total
 totalOfUpTime (Refused fault) = 0
 
--- the answer of a call with this fault (0 for none) and these stretches
-unfoldable pub upTimeFor : ℕ → List Stretch → UpTime
-upTimeFor fault stretches = cond (eqb fault 0) (Told (length (stretchWords stretches)) (sumOfTicks stretches)) (Refused fault)
+-- the answer of a call with this fault (0 for none), so many words and this total
+unfoldable pub upTimeFor : ℕ → ℕ → ℕ → UpTime
+upTimeFor fault count total = cond (eqb fault 0) (Told count total) (Refused fault)
 
 -- the stretches of a name's signal on a sheet
 unfoldable pub stretchesOn : List ℕ → List ℕ → ℕ → List Stretch
@@ -38,13 +38,18 @@ stretchesOn sheet name H = stretchesBefore (environmentOn sheet name) H
 unfoldable pub horizonFault : ℕ → ℕ
 horizonFault H = cond (ltb M H) 19 0
 
+-- their words, two a stretch
+unfoldable pub upTimeWords : List ℕ → List ℕ → ℕ → List ℕ
+upTimeWords sheet name H = stretchWords (stretchesOn sheet name H)
+
 -- It takes sheet, 16, 13, 19, then 7, where the output has `room` words.
 unfoldable pub upTimeFault : List ℕ → List ℕ → ℕ → ℕ → ℕ
 upTimeFault sheet name H room =
-    firstOf (lookupFault sheet name) (firstOf (horizonFault H) (cond (ltb room (length (stretchWords (stretchesOn sheet name H)))) 7 0))
+    firstOf (lookupFault sheet name) (firstOf (horizonFault H) (cond (ltb room (length (upTimeWords sheet name H))) 7 0))
 
 -- The call: the sheet, the name, the horizon, the output at entry, the answer, the output at exit.
 abbrev pub CallOfUpTime : List ℕ → List ℕ → ℕ → List ℕ → UpTime → List ℕ → Type 0
 CallOfUpTime sheet name H out answer after =
-    (answer ≡ upTimeFor (upTimeFault sheet name H (length out)) (stretchesOn sheet name H))
-    × (after ≡ outputOf (upTimeFault sheet name H (length out)) (stretchWords (stretchesOn sheet name H)) out)
+    let fault = upTimeFault sheet name H (length out) in
+    (answer ≡ upTimeFor fault (length (upTimeWords sheet name H)) (sumOfTicks (stretchesOn sheet name H)))
+    × (after ≡ outputOf fault (upTimeWords sheet name H) out)

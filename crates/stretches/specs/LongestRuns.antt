@@ -15,7 +15,7 @@ pub record Run (f : Signal) (Q : ℕ → Type 0) : Type 0 where
   pub unbroken : (i j k : ℕ) → i ≤ j → j ≤ k → Q i → Q k → Q j
   pub up : (k : ℕ) → Q k → Up (f (gap k))
 
--- a longest one: no run of up gaps has more gaps than all of its
+-- a longest one: a run of up gaps that has all of its gaps has no others
 pub record Longest (f : Signal) (Q : ℕ → Type 0) : Type 1 where
   pub run : Run f Q
   pub whole : (R : ℕ → Type 0) → Run f R → ((k : ℕ) → Q k → R k) → (k : ℕ) → R k → Q k
@@ -26,9 +26,9 @@ pub record Cut (H : ℕ) (Q : ℕ → Type 0) (s : Stretch) : Type 0 where
   pub gaps : (k : ℕ) → (Q k × (k < H)) ↔ ((s .first ≤ k) × (k < s .first + s .ticks))
 
 -- a stretch is one of these
-abbrev pub OneOf : List Stretch → Stretch → Type 0
-OneOf [] s = ⊥
-OneOf (r ∷ rs) s = (s ≡ r) ⊎ OneOf rs s
+abbrev pub IsAmong : List Stretch → Stretch → Type 0
+IsAmong [] s = ⊥
+IsAmong (r ∷ rs) s = (s ≡ r) ⊎ IsAmong rs s
 
 -- in order of time, none touching the next: a gap of neither lies between two
 abbrev pub InOrder : List Stretch → Type 0
@@ -39,9 +39,9 @@ InOrder (s ∷ r ∷ rs) = (s .first + s .ticks < r .first) × InOrder (r ∷ rs
 -- these are the stretches of f before H
 pub record StretchesOf (f : Signal) (H : ℕ) (given : List Stretch) : Type 1 where
   -- each is a longest run, cut at H
-  pub each : (s : Stretch) → OneOf given s → (Q : ℕ → Type 0) × Longest f Q × Cut H Q s
+  pub each : (s : Stretch) → IsAmong given s → (Q : ℕ → Type 0) × Longest f Q × Cut H Q s
   -- each longest run that has a gap before H is one of them, cut at H
-  pub every : (Q : ℕ → Type 0) → Longest f Q → (k : ℕ) → Q k → k < H → (s : Stretch) × OneOf given s × Cut H Q s
+  pub every : (Q : ℕ → Type 0) → Longest f Q → (k : ℕ) → Q k → k < H → (s : Stretch) × IsAmong given s × Cut H Q s
   pub ordered : InOrder given
 
 pub record LongestRuns : Type 1 where

@@ -1,10 +1,10 @@
 -- Believed: Document 02, request 2: "in order of time, each up stretch (a longest run of up gaps) before H, cut at H, [..] its first gap
--- [..] and its length in ticks", and the totals, gap by gap. `LongestRuns` says the same with quantifiers.
+-- [..] and its length in ticks", gap by gap, and the total. `LongestRuns` says the same with quantifiers.
 use Prim.Native.Nat.{ℕ, zero, suc, _+_}
 use mathlib.Core.Bool.{Bool, not, cond, _&&_}
 use mathlib.Core.List.{List, [], _∷_}
 use Rattle.signals.specs.Moment.{gap}
-use Rattle.signals.specs.Signal.{Signal, num}
+use Rattle.signals.specs.Signal.{Signal}
 
 -- A stretch: its first gap, and the number of its gaps, which is its length in ticks.
 pub record Stretch : Type 0 where
@@ -35,9 +35,6 @@ stretchesBefore f H = stretchesFrom f 0 H
 unfoldable pub sumOfTicks : List Stretch → ℕ
 sumOfTicks [] = 0
 sumOfTicks (s ∷ ss) = s .ticks + sumOfTicks ss
-
-unfoldable pub totalBefore : Signal → ℕ → ℕ
-totalBefore f H = sumOfTicks (stretchesBefore f H)
 
 -- stretches as words: of each its first gap, then its length
 unfoldable pub stretchWords : List Stretch → List ℕ

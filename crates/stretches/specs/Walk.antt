@@ -26,6 +26,6 @@ walked H up from (w ∷ ws) =
     (cond (valueAfter w) (walked H true from ws) (between from (dateOf w) ∷ walked H false (dateOf w) ws))
     (walked H (valueAfter w) (dateOf w) ws))
 
--- All the words after the first give the stretches of the list's signal.
+-- All the words after the first, of an accepted list, give the stretches of its signal before H.
 abbrev pub WalkExact : Type 0
 WalkExact = (h : ℕ) (ws : List ℕ) (H : ℕ) → Accepted (h ∷ ws) → walked H (headValue h) 0 ws ≡ stretchesBefore (signalOf (h ∷ ws)) H
