@@ -11,8 +11,8 @@ Inv-loop text i₀ i = 0 ≤ 0
 abbrev μ-loop : tie.MeasureT-loop
 μ-loop text i₀ i = length text - i
 
-pub shown_lines-spec : {M : Type 1} → statement M
-shown_lines-spec =
+pub shown-lines-spec : {M : Type 1} → statement M
+shown-lines-spec =
     tie.close
     (tie.spec Inv-loop μ-loop (λ c. search needs) (λ c κs. search needs) (λ c. search needs) (λ c. search needs) (λ c. search needs)
     (λ c. search needs))
