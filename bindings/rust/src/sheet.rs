@@ -47,6 +47,15 @@ impl Sheet {
     }
 
     /// When a signal was up before the date h: its up stretches, and their total in ticks.
+    ///
+    /// ```
+    /// # use rascrunel::Sheet;
+    /// let sheet = Sheet::begin()?.append("drive", &[0, 23, 36])?; // up from 5, down from 9
+    /// let uptime = sheet.uptime("drive", 8)?;
+    /// assert_eq!((uptime.stretches[0].first, uptime.stretches[0].length, uptime.total), (5, 3, 3));
+    /// assert_eq!(uptime.to_string(), "5 3\ntotal 3");
+    /// # Ok::<(), rascrunel::Fault>(())
+    /// ```
     pub fn uptime(&self, name: &str, h: u32) -> Result<UpTime, Fault> {
         // as many words as a list has: no signal has more than half as many stretches
         let mut out = [0; LIST_WORDS];
