@@ -5,3 +5,6 @@ pub mod LongestRuns
 pub mod Walking
 pub mod FewStretches
 pub mod Totals
+pub mod StretchCases
+pub mod CallFaults
+pub mod CallGives

@@ -76,7 +76,7 @@ listed-at f k H u h =
     let a : back f k < H = omega (arith, back-most f k, h) in
     let e : 0 + H ≡ H = omega arith in (
       subst (λ (m : ℕ). IsAmong (stretchesFrom f 0 H) (cutAt f m (back f k))) e
-      (begun-listed f 0 H (back f k) (back-begins f k u) (omega arith) (omega (arith, a))),
+          (begun-listed f 0 H (back f k) (back-begins f k u) (omega arith) (omega (arith, a))),
       cut-of f H (back f k) (back-begins f k u) a,
     )
 
@@ -119,9 +119,11 @@ listed-each : (f : Signal) (H : ℕ) (s : Stretch) → IsAmong (stretchesBefore 
 unfolding stretchesBefore
 listed-each f H s o =
     let e : 0 + H ≡ H = omega arith in
-    let b = subst (λ (m : ℕ). Begun f 0 m s) e (listed-begun f 0 H s o) in
-    (RunOf f (s .first), longest-of f (s .first) (b .begun),
-    subst (Cut H (RunOf f (s .first))) (sym (b .cut)) (cut-of f H (s .first) (b .begun) (b .before)))
+    let b = subst (λ (m : ℕ). Begun f 0 m s) e (listed-begun f 0 H s o) in (
+      RunOf f (s .first),
+      longest-of f (s .first) (b .begun),
+      subst (Cut H (RunOf f (s .first))) (sym (b .cut)) (cut-of f H (s .first) (b .begun) (b .before)),
+    )
 
 pub stretches-of : (f : Signal) (H : ℕ) → StretchesOf f H (stretchesBefore f H)
 unfolding stretchesBefore
@@ -207,7 +209,7 @@ longest-runs =
     record {
       exact = stretches-of;
       only = λ f H given p.
-      let q = stretches-of f H in
-      one-list given (stretchesBefore f H) (p .ordered) (q .ordered) (in-other f H given (stretchesBefore f H) p q)
-      (in-other f H (stretchesBefore f H) given q p);
+          let q = stretches-of f H in
+          one-list given (stretchesBefore f H) (p .ordered) (q .ordered) (in-other f H given (stretchesBefore f H) p q)
+          (in-other f H (stretchesBefore f H) given q p);
     }

@@ -108,7 +108,7 @@ abbrev Says : Signal → ℕ → Bool → List ℕ → Type 0
 Says f from up ws = (j : ℕ) → from ≤ j → f (gap j) ≡ valueFrom up ws (gap j)
 
 -- words dated later than one gap are dated later than an earlier one
-rise-below : (k j : ℕ) (ws : List ℕ) → j ≤ k → Rising k ws → Rising j ws
+pub rise-below : (k j : ℕ) (ws : List ℕ) → j ≤ k → Rising k ws → Rising j ws
 rise-below k j [] l r = tt
 rise-below k j (w ∷ ws) l r = (omega (arith, r .0), r .1)
 

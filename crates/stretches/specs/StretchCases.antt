@@ -1,11 +1,11 @@
--- Statement: Document 02, request 2: its own cases and those at the edges, each with its stretches.
+-- Statement: Document 02, request 2: its own case and those at the edges, each with its stretches.
 use Prim.Native.Nat.{ℕ, _-_, _<_}
 use mathlib.Core.Path.{_≡_}
 use mathlib.Core.List.{[], _∷_}
 use Rattle.signals.specs.Moment.{M}
 use Rattle.signals.specs.Signal.{NOT}
 use Rattle.signals.specs.Starred.{f, e, l, one}
-use Rattle.stretches.specs.Stretches.{Stretch, stretchesBefore}
+use Rattle.stretches.specs.Stretches.{Stretch, stretchesBefore, sumOfTicks, stretchWords}
 
 -- the stretch that begins with gap `first` and has so many ticks
 abbrev pub stretch : ℕ → ℕ → Stretch
@@ -13,8 +13,10 @@ stretch first ticks = record { first = first; ticks = ticks }
 
 -- f is up from 5, down from 9; e is up at 5 only; l is up after 5; one is up at every moment
 pub record StretchCases : Type 0 where
-  -- "01's f with H 8 prints 5 3"
+  -- "01's f with H 8 prints 5 3, then total 3"
   pub f8 : stretchesBefore f 8 ≡ stretch 5 3 ∷ []
+  pub f8words : stretchWords (stretchesBefore f 8) ≡ 5 ∷ 3 ∷ []
+  pub f8total : sumOfTicks (stretchesBefore f 8) ≡ 3
   -- H where the stretch begins, one later, where it ends, later, M
   pub f5 : stretchesBefore f 5 ≡ []
   pub f6 : stretchesBefore f 6 ≡ stretch 5 1 ∷ []

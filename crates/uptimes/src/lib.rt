@@ -1,0 +1,133 @@
+// The up-time of a name's signal on a sheet: its up stretches before a horizon, and their total.
+ghost use mathlib.Core.Path.{_≡_};
+ghost use Prim.Native.Nat.{_≤_};
+ghost use Rattle.signals.specs.Moment.{M as Moment·M};
+ghost use Rattle.signals.specs.Words.{listFault};
+ghost use Rattle.format.specs.Theorems.{decoded};
+ghost use Rattle.stretches.specs.Calls.{CallOfUpTime};
+ghost use Rattle.uptimes.specs.Turns.{CanGoOn, stateOf, putTwo, ended, pastWord, FoundIn, TellsUpTime};
+use format::Place;
+use signals::Date;
+use signals::M;
+use sources::Memory;
+use sources::Source;
+use stretches::UpTime;
+
+// On the way along a list: the gap since which the value is held, the words of the stretches so far, and their ticks.
+struct Going {
+    from: u32,
+    count: usize,
+    total: u32,
+}
+
+// Two words at a place of the output, where both fit.
+fn put_two(out: &mut [u32], at: usize, first: u32, second: u32)
+    requires { ⌜ at ≤ 1024 ⌝ }
+    ensures { λ r. ⌜ now (out .exit) ≡ putTwo (now (out .entry)) at first second ⌝ }
+{
+    let next = at + 1;
+    if next < out.len() {
+        out[at] = first;
+        out[next] = second;
+    }
+}
+
+// Ends before a gap the stretch that is under way, where it has any gap: its words go to the output where they fit, and are counted.
+fn end_before(out: &mut [u32], going: Going, end: u32) -> Going
+    requires { ⌜ CanGoOn going ⌝ }
+    ensures { λ r. ⌜ stateOf r (now (out .exit)) ≡ ended end (stateOf going (now (out .entry))) ⌝ }
+{
+    if going.from < end {
+        let ticks = end - going.from;
+        put_two(out, going.count, going.from, ticks);
+        return Going {
+            from: end,
+            count: going.count + 2,
+            total: going.total + ticks,
+        };
+    }
+    going
+}
+
+// Past a date, by the values before it and after it.
+fn pass(out: &mut [u32], going: Going, date: u32, before: bool, after: bool) -> Going
+    requires { ⌜ CanGoOn going ⌝ }
+    ensures { λ r. ⌜ stateOf r (now (out .exit)) ≡ pastWord date before after (stateOf going (now (out .entry))) ⌝ }
+{
+    if before {
+        if after {
+            return going;
+        }
+        return end_before(out, going, date);
+    }
+    Going {
+        from: date,
+        count: going.count,
+        total: going.total,
+    }
+}
+
+// The stretches of an accepted list, given as its bytes: how many words and ticks, and the words in the output where all of them fit.
+fn stretches_in(part: &[u8], h: u32, out: &mut [u32]) -> Going
+    requires { ⌜ listFault (decoded (now part)) ≡ 0 ⌝ }
+    requires { ⌜ h ≤ Moment·M ⌝ }
+    ensures { λ r. ⌜ FoundIn (decoded (now (part .entry))) h (r .«count») (r .total) (now (out .entry)) (now (out .exit)) ⌝ }
+{
+    let list = Source {
+        memory: Memory::Sheet,
+        at: 0,
+        count: (part.len() / 4) as u32,
+    };
+    let none = [0u32; 1];
+    let mut going = Going {
+        from: 0,
+        count: 0,
+        total: 0,
+    };
+    let mut reader = sources::start(part, &none, &none, &none, list);
+    while reader.date < h {
+        let date = reader.date;
+        let passed = sources::past(part, &none, &none, &none, list, reader, Date(date));
+        let step = passed.step;
+        going = pass(out, going, date, step.before, step.after);
+        reader = passed.next;
+    }
+    if reader.last % 2 == 1 {
+        return end_before(out, going, h);
+    }
+    going
+}
+
+// The up-time of an accepted list: measured first, since a refused call writes nothing.
+fn up_time_of(part: &[u8], h: u32, out: &mut [u32]) -> UpTime
+    requires { ⌜ listFault (decoded (now part)) ≡ 0 ⌝ }
+    requires { ⌜ h ≤ Moment·M ⌝ }
+    ensures { λ r. ⌜ TellsUpTime (decoded (now (part .entry))) h (now (out .entry)) r (now (out .exit)) ⌝ }
+{
+    let mut nowhere = [0u32; 1];
+    let found = stretches_in(part, h, &mut nowhere);
+    if out.len() < found.count {
+        return UpTime::Refused(7);
+    }
+    let written = stretches_in(part, h, out);
+    UpTime::Told {
+        count: written.count,
+        total: written.total,
+    }
+}
+
+// The up stretches of a name's signal before a horizon, the first gap and the length of each, and their total: faults sheet, 16, 13, 19, 7.
+pub fn uptime(sheet: &[u8], name: &[u8], h: u32, out: &mut [u32]) -> UpTime
+    ensures { λ r. ⌜ CallOfUpTime (now (sheet .entry)) (now (name .entry)) h (now (out .entry)) r (now (out .exit)) ⌝ }
+{
+    match lookups::locate(sheet, name) {
+        Place::At { start, count } => {
+            if M < h {
+                return UpTime::Refused(19);
+            }
+            let end = start + count;
+            up_time_of(&sheet[start..end], h, out)
+        }
+        Place::Refused(fault) => UpTime::Refused(fault),
+    }
+}
