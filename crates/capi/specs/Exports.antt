@@ -10,9 +10,11 @@ use Rattle.operations.specs.Calls.{faultOfOne, exactOfOne, faultOfTwo, exactOfT
 use Rattle.signals.specs.Words.{tidied}
 use Rattle.tidying.specs.Calls.{tidyingFault}
 use Rattle.format.specs.Calls.{appendFault, appended}
+use Rattle.stretches.specs.Stretches.{sumOfTicks}
+use Rattle.stretches.specs.Calls.{upTimeFor, stretchesOn, upTimeWords, upTimeFault}
 use Rattle.calls.specs.Calls.{callAnswer, callOutput, claimAnswer}
 use Rattle.calls.specs.Work.{firstFault, firstClaimFault, KeptWhen}
-use Rattle.packing.specs.Packing.{packWritten, packVerdict}
+use Rattle.packing.specs.Packing.{packWritten, packVerdict, packUpTime}
 
 -- a call with this fault (0 for none) and these words: the number, and the output at exit from the output at entry
 abbrev pub Exported : ℕ → List ℕ → List ℕ → ℕ → List ℕ → Type 0
@@ -32,6 +34,13 @@ ExportedTidying a out = Exported (tidyingFault a (length out)) (tidied a) out
 
 abbrev pub ExportedAppend : List ℕ → List ℕ → List ℕ → List ℕ → ℕ → List ℕ → Type 0
 ExportedAppend sheet name list out = Exported (appendFault sheet name list (length out)) (appended sheet name list) out
+
+-- sheet, name, horizon and output at entry; the number; the output at exit
+abbrev pub ExportedUpTime : List ℕ → List ℕ → ℕ → List ℕ → ℕ → List ℕ → Type 0
+ExportedUpTime sheet name H out r after =
+    let fault = upTimeFault sheet name H (length out) in
+    (r ≡ packUpTime (upTimeFor fault (length (upTimeWords sheet name H)) (sumOfTicks (stretchesOn sheet name H))))
+    × (after ≡ outputOf fault (upTimeWords sheet name H) out)
 
 -- sheet, formula, work area and output at entry; the number; output and work area at exit
 abbrev pub ExportedFormula : List ℕ → List ℕ → List ℕ → List ℕ → ℕ → List ℕ → List ℕ → Type 0

@@ -10,7 +10,7 @@ ghost use Rattle.format.specs.Writing.{sheetBytes};
 ghost use Rattle.format.specs.Calls.{beginFault, placeOf};
 ghost use Rattle.packing.specs.Packing.{packFault, packTold, packVerdict, packPlace, tableIn};
 ghost use Rattle.capi.specs.Exports.{Exported, ExportedOne, ExportedTwo, ExportedDelay, ExportedTidying, ExportedAppend};
-ghost use Rattle.capi.specs.Exports.{ExportedFormula, ExportedClaim};
+ghost use Rattle.capi.specs.Exports.{ExportedUpTime, ExportedFormula, ExportedClaim};
 use signals::Length;
 
 // The fault of a list.
@@ -164,6 +164,14 @@ pub extern "C" fn sgl_append(sheet: &[u8], name: &[u8], list: &[u32], out: &mut 
         r (now (out .exit)) ⌝ }
 {
     packing::pack_written(appending::append(sheet, name, list, out))
+}
+
+// The up stretches of a name's signal before a horizon, two words each, and their total.
+#[no_mangle]
+pub extern "C" fn sgl_uptime(sheet: &[u8], name: &[u8], h: u32, out: &mut [u32]) -> u64
+    ensures { λ r. ⌜ ExportedUpTime (now (sheet .entry)) (now (name .entry)) h (now (out .entry)) r (now (out .exit)) ⌝ }
+{
+    packing::pack_uptime(uptimes::uptime(sheet, name, h, out))
 }
 
 // The list of a formula's signal on a sheet. Refused by check 18 or an earlier one it leaves the work area as it was; else that is free.

@@ -4,3 +4,4 @@ pub mod SmallLists
 pub mod SmallOperations
 pub mod SmallSheets
 pub mod SmallCalls
+pub mod SmallUpTimes

@@ -14,12 +14,14 @@ use Rattle.signals.specs.declared.Written.{Written}
 use Rattle.signals.specs.declared.Told.{Told}
 use Rattle.format.specs.Calls.{faultOfPlace, firstByte, byteCount}
 use Rattle.format.specs.declared.Place.{Place}
+use Rattle.stretches.specs.Calls.{faultOfUpTime, countOfUpTime, totalOfUpTime}
+use Rattle.stretches.specs.declared.UpTime.{UpTime}
 use Rattle.signals.specs.declared.Written.the-variants as written
 use Rattle.signals.specs.declared.Verdict.{Verdict}
 use Rattle.signals.proofs.AnswersSay.{answers-say}
 use Rattle.signals.proofs.ListFaults.{list-fault-range}
-use Rattle.packing.specs.Packing.{packFault, packWritten, packTold, packVerdict, packPlace}
-use Rattle.packing.specs.Packing.{faultBits, writtenBits, toldBits, verdictBits, placeBits}
+use Rattle.packing.specs.Packing.{packFault, packWritten, packTold, packVerdict, packPlace, packUpTime}
+use Rattle.packing.specs.Packing.{faultBits, writtenBits, toldBits, verdictBits, placeBits, upTimeBits}
 
 -- Answers whose numbers have room: faults and counts below 65,536, a first byte and a byte count below 2^24.
 abbrev pub SmallWritten : Written → Type 0
@@ -33,6 +35,9 @@ SmallVerdict answer = faultOfVerdict answer < 65536
 
 abbrev pub SmallPlace : Place → Type 0
 SmallPlace answer = (faultOfPlace answer < 65536) × (firstByte answer < 16777216) × (byteCount answer < 16777216)
+
+abbrev pub SmallUpTime : UpTime → Type 0
+SmallUpTime answer = (faultOfUpTime answer < 65536) × (countOfUpTime answer < 65536)
 
 -- Packed in 32 or 64 bits they are what they are packed as.
 pub packed-fault : (f g : ℕ) → f ≡ g → g < 65536 → faultBits f ≡ packFault g
@@ -54,6 +59,10 @@ packed-verdict w v e h = ap verdictBits e ∙ omega (arith, h)
 pub packed-place : (w v : Place) → w ≡ v → SmallPlace v → placeBits w ≡ packPlace v
 unfolding placeBits packPlace
 packed-place w v e h = ap placeBits e ∙ omega (arith, h .0, h .1, h .2)
+
+pub packed-uptime : (w v : UpTime) → w ≡ v → SmallUpTime v → upTimeBits w ≡ packUpTime v
+unfolding upTimeBits packUpTime
+packed-uptime w v e h = ap upTimeBits e ∙ omega (arith, h .0, h .1)
 
 pub choice : (t : Bool) (m n : ℕ) → m < 65536 → n < 65536 → cond t m n < 65536
 choice true m n a b = a

@@ -45,7 +45,7 @@ unfolding beginFault
 begin-small room =
     written-small _ _ (choice (ltb room (length (sheetBytes []))) 7 0 (omega arith) (omega arith)) (λ z. empty-short)
 
-lookup-small : (sheet name : List ℕ) → lookupFault sheet name < 65536
+pub lookup-small : (sheet name : List ℕ) → lookupFault sheet name < 65536
 unfolding lookupFault firstOf
 lookup-small sheet name =
     choice (eqb (sheetFault sheet) 0) _ (sheetFault sheet)

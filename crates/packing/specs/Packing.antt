@@ -7,6 +7,8 @@ use lib.Dec.{eqb}
 use Rattle.signals.specs.Signal.{Table, num}
 use Rattle.signals.specs.Answers.{faultIn, countIn, faultOfTold, valueIn, faultOfVerdict}
 use Rattle.format.specs.Calls.{faultOfPlace, firstByte, byteCount}
+use Rattle.stretches.specs.Calls.{faultOfUpTime, countOfUpTime, totalOfUpTime}
+use Rattle.stretches.specs.declared.UpTime.{UpTime}
 use Rattle.signals.specs.declared.Written.{Written}
 use Rattle.signals.specs.declared.Told.{Told}
 use Rattle.signals.specs.declared.Verdict.{Verdict}
@@ -41,7 +43,11 @@ packVerdict answer = 1099511627776 * faultOfVerdict answer + packMoment answer
 unfoldable pub packPlace : Place → ℕ
 packPlace answer = 281474976710656 * faultOfPlace answer + 16777216 * firstByte answer + byteCount answer
 
--- The same in 32 bits, or in 64 for a verdict and a place, whatever the answer: of each number the low bits that its place has room for.
+-- 2^48 × fault + 2^16 × total + count; the last two are 0 when refused
+unfoldable pub packUpTime : UpTime → ℕ
+packUpTime answer = 281474976710656 * faultOfUpTime answer + 65536 * totalOfUpTime answer + countOfUpTime answer
+
+-- The same in 32 bits, or in 64 for a verdict, a place and an up-time, whatever the answer: of each number the low bits that its place has room for.
 unfoldable pub faultBits : ℕ → ℕ
 faultBits f = packFault (f % 65536)
 
@@ -57,6 +63,10 @@ verdictBits answer = 1099511627776 * (faultOfVerdict answer % 16777216) + packMo
 unfoldable pub placeBits : Place → ℕ
 placeBits answer =
     281474976710656 * (faultOfPlace answer % 65536) + 16777216 * (firstByte answer % 16777216) + byteCount answer % 16777216
+
+unfoldable pub upTimeBits : UpTime → ℕ
+upTimeBits answer =
+    281474976710656 * (faultOfUpTime answer % 65536) + 65536 * totalOfUpTime answer + countOfUpTime answer % 65536
 
 -- the bit of weight i of a number
 unfoldable pub bit : ℕ → ℕ → Bool

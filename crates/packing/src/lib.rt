@@ -1,11 +1,12 @@
 // The answers of the library packed into one number each, and the table that a number stands for. Of each number of an answer the low
 // bits are kept that its place has room for: for the answers that a call gives, these are all.
 ghost use mathlib.Core.Path.{_≡_};
-ghost use Rattle.packing.specs.Packing.{faultBits, writtenBits, toldBits, verdictBits, placeBits, tableIn};
+ghost use Rattle.packing.specs.Packing.{faultBits, writtenBits, toldBits, verdictBits, placeBits, upTimeBits, tableIn};
 use format::Place;
 use signals::Told;
 use signals::Verdict;
 use signals::Written;
+use stretches::UpTime;
 
 // A fault.
 pub fn pack_fault(fault: u32) -> u32
@@ -56,6 +57,16 @@ pub fn pack_place(answer: Place) -> u64
             16777216 * ((start % 16777216) as u64) + (count % 16777216) as u64
         }
         Place::Refused(fault) => 281474976710656 * ((fault % 65536) as u64),
+    }
+}
+
+// What the up-time call answers.
+pub fn pack_uptime(answer: UpTime) -> u64
+    ensures { λ r. ⌜ r ≡ upTimeBits answer ⌝ }
+{
+    match answer {
+        UpTime::Told { count, total } => 65536 * (total as u64) + (count % 65536) as u64,
+        UpTime::Refused(fault) => 281474976710656 * ((fault % 65536) as u64),
     }
 }
 
