@@ -4,16 +4,16 @@ use native.Mathlib.Omega.{arith}
 use mathlib.Core.Path.{_≡_, refl}
 use mathlib.Core.List.{List}
 use Rattle.signals.specs.declared.Verdict.the-variants.{Refused}
+use Rattle.inputs.specs.Input.{firstLine, secondLine, sheetIn}
 use Rattle.verdict_line.proofs.Lines.{line-fits, line-ends, longest-line}
 use Rattle.verdict_line.proofs.Reading.{line-tells}
-use Rattle.claim_line.specs.Input.{formulaF, formulaG, sheetIn}
 use Rattle.claim_line.specs.OneLine.{OneLine}
 use Rattle.claim_line.specs.Printing.{claimOf, printed}
 use Rattle.claim_line.proofs.Refusals.{Given, refused-given}
 
 given : (input : List ℕ) (n : ℕ) → claimOf input ≡ Refused n → Given n
 unfolding claimOf
-given input n e = refused-given (sheetIn input) (formulaF input) (formulaG input) n e
+given input n e = refused-given (sheetIn input) (firstLine input) (secondLine input) n e
 
 pub one-line : OneLine
 unfolding printed

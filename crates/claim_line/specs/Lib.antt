@@ -1,4 +1,3 @@
--- The program's input, its claim and the line that it prints, as definitions.
-pub mod Input
+-- The claim that the program's input makes, and the line that it prints, as definitions.
 pub mod Printing
 pub mod OneLine

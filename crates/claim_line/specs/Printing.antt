@@ -5,13 +5,13 @@ use mathlib.Core.List.{List}
 use lib.ListN.{length, take}
 use Rattle.signals.specs.declared.Verdict.{Verdict}
 use Rattle.calls.specs.Calls.{claimAnswer, neededWork}
+use Rattle.inputs.specs.Input.{limit, firstLine, secondLine, sheetIn}
 use Rattle.verdict_line.specs.Line.{lineOf}
 use Rattle.verdict_line.specs.Written.{Lined}
-use Rattle.claim_line.specs.Input.{limit, formulaF, formulaG, sheetIn}
 
--- the answer of the claim that an input makes, with the work words that it needs
+-- the answer of the claim that an input makes, of the formulas on its two lines, with the work words that it needs
 unfoldable pub claimOf : List ℕ → Verdict
-claimOf input = claimAnswer (sheetIn input) (formulaF input) (formulaG input) (neededWork (sheetIn input))
+claimOf input = claimAnswer (sheetIn input) (firstLine input) (secondLine input) (neededWork (sheetIn input))
 
 -- the line that is printed for an input
 unfoldable pub printed : List ℕ → List ℕ

@@ -258,11 +258,35 @@ signals-Wording-Tests = Rattle.signals.proofs.Wording.tests
 pub signals-Wording-Wording : Rattle.signals.specs.Wording.Wording
 signals-Wording-Wording = Rattle.signals.proofs.Wording.wording
 
+pub stretches-LongestRuns-LongestRuns : Rattle.stretches.specs.LongestRuns.LongestRuns
+stretches-LongestRuns-LongestRuns = Rattle.stretches.proofs.LongestRuns.longest-runs
+
+pub stretches-Sentences-UpTimeFaultsExact : Rattle.stretches.specs.Sentences.UpTimeFaultsExact
+stretches-Sentences-UpTimeFaultsExact = Rattle.stretches.proofs.CallFaults.up-time-faults-exact
+
+pub stretches-Sentences-UpTimeGives : Rattle.stretches.specs.Sentences.UpTimeGives
+stretches-Sentences-UpTimeGives = Rattle.stretches.proofs.CallGives.up-time-gives
+
+pub stretches-Sentences-UpTimeSays : Rattle.stretches.specs.Sentences.UpTimeSays
+stretches-Sentences-UpTimeSays = Rattle.stretches.proofs.CallGives.up-time-says
+
+pub stretches-StretchCases-StretchCases : Rattle.stretches.specs.StretchCases.StretchCases
+stretches-StretchCases-StretchCases = Rattle.stretches.proofs.StretchCases.stretch-cases
+
+pub stretches-Totals-Totals : Rattle.stretches.specs.Totals.Totals
+stretches-Totals-Totals = Rattle.stretches.proofs.Totals.totals
+
+pub stretches-Walk-WalkExact : Rattle.stretches.specs.Walk.WalkExact
+stretches-Walk-WalkExact = Rattle.stretches.proofs.Walking.walk-exact
+
 pub texts-DecimalRight-DecimalRight : Rattle.texts.specs.DecimalRight.DecimalRight
 texts-DecimalRight-DecimalRight = Rattle.texts.proofs.DecimalRight.decimal-right
 
 pub tidying-TidyingGives-TidyingGives : Rattle.tidying.specs.TidyingGives.TidyingGives
 tidying-TidyingGives-TidyingGives = Rattle.tidying.proofs.TidyingGives.tidying-gives
+
+pub uptime_page-PageSays-PageSays : Rattle.uptime_page.specs.PageSays.PageSays
+uptime_page-PageSays-PageSays = Rattle.uptime_page.proofs.PageSays.page-says
 
 pub working-Layout-LayoutFits : Rattle.working.specs.Layout.LayoutFits
 working-Layout-LayoutFits = Rattle.working.proofs.WorkLayout.layout-fits

@@ -10,7 +10,7 @@ use Rattle.signals.specs.declared.Verdict.{Verdict}
 use Rattle.slices.specs.Slices.{placed, putAt}
 use Rattle.slices.proofs.Placing.{then-put, put-fits}
 use Rattle.verdict_line.specs.Line.{line, lineOf, holdsText}
-use Rattle.verdict_line.specs.Written.{longest, over, Lined}
+use Rattle.verdict_line.specs.Written.{longest, over, Filled, Lined}
 use Rattle.texts.specs.Decimal.{decimal, PutNumber}
 use Rattle.texts.proofs.Digits.{decimal-length}
 use Rattle.verdict_line.proofs.Lines.{length-line}
@@ -30,10 +30,10 @@ line-put text digits out o₁ o₂ o₃ h e f g = all ∙ ap (λ (k : ℕ). line
         then-put out o₂ o₃ 0 (length text + length digits) (text ++ digits) (10 ∷ []) both g
         (rw (length-append text digits) (omega arith)) (omega arith)
 
--- a line that was written to an array of zeros as long as the longest
-lined : (l bytes : List ℕ) (count : ℕ) → length bytes ≡ longest → length l ≤ longest → count ≡ length l
-    → bytes ≡ over l (replicate longest 0) → Lined l bytes count
-lined l bytes count k h e f =
+-- a text that was written to an array of zeros that has room for it
+pub filled : (room : ℕ) (text bytes : List ℕ) (count : ℕ) → length bytes ≡ room → length text ≤ room → count ≡ length text
+    → bytes ≡ over text (replicate room 0) → Filled room text bytes count
+filled room text bytes count k h e f =
     let b : count ≤ length bytes = omega arith in
     (e, f, b, sym (length-take-le count bytes b))
 
@@ -45,7 +45,7 @@ number-put text o₁ o₂ o₃ n count t k l m e p g =
     let d = decimal-length n in
     let s = length-line text (decimal n) in
     rw (p .0)
-    (lined (line text (decimal n)) o₃ (length text + length (decimal n) + 1) m (omega arith) (sym s)
+    (filled longest (line text (decimal n)) o₃ (length text + length (decimal n) + 1) m (omega arith) (sym s)
     (line-put text (decimal n) (replicate longest 0) o₁ o₂ o₃ (omega arith)
     (e ∙ put-fits _ _ _ (omega arith))
     (p .1 ∙ put-fits _ _ _ (omega arith))

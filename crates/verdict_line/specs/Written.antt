@@ -1,4 +1,5 @@
--- Believed: A line by value: an array as long as the longest line, with the line's bytes first and zeros past them, and how many they are.
+-- Believed: A text by value: an array that has room for the longest, with the text's bytes first and zeros past them, and how many they
+-- are. The line of a claim's answer so.
 use Prim.Native.Nat.{ℕ, _≤_}
 use mathlib.Core.Path.{_≡_}
 use mathlib.Core.List.{List, _++_}
@@ -10,17 +11,21 @@ use Rattle.verdict_line.specs.Line.{lineOf}
 abbrev pub longest : ℕ
 longest = 23
 
--- an output that a line was written to: its bytes, those past them being the old ones
+-- an output that a text was written to: its bytes, those past them being the old ones
 unfoldable pub over : List ℕ → List ℕ → List ℕ
-over line old = line ++ drop (length line) old
+over text old = text ++ drop (length text) old
 
--- a line of so many bytes in an array of zeros, within its bytes
-abbrev pub Lined : List ℕ → List ℕ → ℕ → Type 0
-Lined line bytes count =
-    (count ≡ length line)
-    × (bytes ≡ over line (replicate longest 0))
+-- a text of so many bytes in an array of zeros, `room` of them, within its bytes
+abbrev pub Filled : ℕ → List ℕ → List ℕ → ℕ → Type 0
+Filled room text bytes count =
+    (count ≡ length text)
+    × (bytes ≡ over text (replicate room 0))
     × (count ≤ length bytes)
     × (count ≡ length (take count bytes))
+
+-- a line in an array as long as the longest
+abbrev pub Lined : List ℕ → List ℕ → ℕ → Type 0
+Lined line bytes count = Filled longest line bytes count
 
 -- the line of a claim's answer
 abbrev pub LineOfVerdict : Verdict → List ℕ → ℕ → Type 0

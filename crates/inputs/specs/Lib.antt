@@ -1,0 +1,2 @@
+-- What a program takes from its input, as definitions.
+pub mod Input

@@ -1,0 +1,2 @@
+-- What can be said of a reading of standard input.
+pub mod Reading
