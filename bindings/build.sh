@@ -1,6 +1,6 @@
 #!/bin/sh
 # Builds the proved archive in a copy outside the repository and runs the tests of the bindings against it, in C and in Rust, of the
-# tool `sheet` and of bin/claim.
+# tool `sheet`, of bin/claim and of bin/uptime.
 #   bindings/build.sh          builds, tests, removes the copy
 #   bindings/build.sh --into DIR   the same, and leaves libcapi.a and the tool `sheet` in DIR
 set -eu
@@ -16,8 +16,8 @@ elif [ $# -ne 0 ]; then
 fi
 
 copy=$(mktemp -d)
-claims=
-trap 'if [ -n "$claims" ]; then kill "$claims" 2>/dev/null || true; wait "$claims" || true; fi; rm -rf -- "$copy"' EXIT
+programs=
+trap 'if [ -n "$programs" ]; then kill "$programs" 2>/dev/null || true; wait "$programs" || true; fi; rm -rf -- "$copy"' EXIT
 trap 'exit 1' HUP INT TERM
 mkdir "$copy/repository"
 cp -R "$root/crates" "$root/crates.txt" "$copy/repository/"
@@ -32,37 +32,52 @@ if [ -d "$root/target/rlib" ] && [ -d "$root/target/stamp" ]; then
     laid "$root/target/rlib" "$copy/repository/target/rlib"
 fi
 
-# bin/claim over a repository of its own, beside the rest: each takes one core
-test_claims() {
+# bin/claim and bin/uptime over a repository of their own, beside the rest: each takes one core
+test_programs() {
     set -eu
-    "$root/bindings/test_claim" --quiet
-    claim() {
-        "$copy/other/bin/claim" "$1" "$2" "$copy/other/examples/$3"
+    "$root/bindings/test_programs" --quiet
+    # use PROGRAM FIRST SECOND SHEET
+    use() {
+        "$copy/other/bin/$1" "$2" "$3" "$copy/other/examples/$4" 2>"$copy/other/said"
     }
     # says FOUND WANTED WHAT
     says() {
         if [ "$1" != "$2" ]; then
-            echo "bindings: bin/claim $3: $1, not $2" >&2
+            echo "bindings: bin/$3: $1, not $2" >&2
             exit 1
         fi
     }
+    # refuses N WORDS PROGRAM FIRST SECOND SHEET
+    refuses() {
+        number=$1 words=$2
+        shift 2
+        status=0
+        found=$(use "$@") || status=$?
+        says "$status $found" "3 refused $number" "$*"
+        says "$(cat "$copy/other/said")" "$1: refused $number: $words" "$*"
+    }
     grep -v '^#' "$copy/other/examples/claims.txt" | while read -r sheet f g verdict; do
-        found=$(claim "$f" "$g" "$sheet" 2>"$copy/other/said") || [ $? -eq 1 ]
-        says "$found" "$verdict" "$f $g $sheet"
+        found=$(use claim "$f" "$g" "$sheet") || [ $? -eq 1 ]
+        says "$found" "$verdict" "claim $f $g $sheet"
     done
-    status=0
-    found=$(claim knife cut trim.sgl 2>"$copy/other/said") || status=$?
-    says "$status $found" "3 refused 13" "knife cut trim.sgl"
-    says "$(cat "$copy/other/said")" "claim: refused 13: a formula has a name that the sheet does not have" "knife cut trim.sgl"
-    status=0
-    found=$(claim cut cut none.sgl 2>"$copy/other/said") || status=$?
-    says "$status $found" "2 " "cut cut none.sgl"
+    grep -v '^#' "$copy/other/examples/uptimes.txt" | while read -r sheet name horizon page; do
+        found=$(use uptime "$name" "$horizon" "$sheet")
+        says "$(printf '%s\n' "$found" | paste -s -d , -)" "$page" "uptime $name $horizon $sheet"
+    done
+    refuses 13 "a formula has a name that the sheet does not have" claim knife cut trim.sgl
+    refuses 13 "the sheet has no signal of this name" uptime knife 8 trim.sgl
+    refuses 19 "the horizon is no number in digits without leading zeros, or is above 1073741823" uptime cut 08 trim.sgl
+    for program in claim uptime; do
+        status=0
+        found=$(use $program cut 8 none.sgl) || status=$?
+        says "$status $found" "2 " "$program cut 8 none.sgl"
+    done
 }
 
 laid "$copy/repository" "$copy/other"
 cp -R "$root/bin" "$root/examples" "$copy/other/"
-(test_claims) >"$copy/claims" 2>&1 &
-claims=$!
+(test_programs) >"$copy/programs" 2>&1 &
+programs=$!
 
 echo "bindings: proving capi and building its archive"
 if ! (cd "$copy/repository" && rt staticlib capi) >"$copy/log" 2>&1; then
@@ -92,12 +107,12 @@ SHEET=$CARGO_TARGET_DIR/release/sheet "$root/bindings/test_sheet" --quiet
 echo "bindings: the same answers as plain Rust"
 "$root/compare/run" --equal
 
-echo "bindings: bin/claim"
-if ! wait "$claims"; then
-    cat "$copy/claims" >&2
+echo "bindings: bin/claim and bin/uptime"
+if ! wait "$programs"; then
+    cat "$copy/programs" >&2
     exit 1
 fi
-claims=
+programs=
 
 if [ -n "$into" ]; then
     cp "$RASCRUNEL_LIB/libcapi.a" "$CARGO_TARGET_DIR/release/sheet" "$into/"

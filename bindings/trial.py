@@ -1,4 +1,4 @@
-"""What the tests of bin/claim and of the tool `sheet` share: a scratch folder, and runs with their outputs and signals."""
+"""What the tests of bin/claim, of bin/uptime and of the tool `sheet` share: a scratch folder, and runs with their outputs and signals."""
 
 import os
 import resource

@@ -1,4 +1,4 @@
-/* Rascrunel: timing signals as lists of words, sheets of named signals, formulas and claims.
+/* Rascrunel: timing signals as lists of words, sheets of named signals, formulas and claims, up-times.
  *
  * The functions below are proved: each comes to an end on every input, judges its input, and gives the number that
  * crates/capi/specs defines. This header is not proved; it only declares them.
@@ -21,6 +21,7 @@
  *   verdict   (uint64_t) 0 holds, 2 * k fails at k, 2 * k + 1 fails after k (between k and k + 1), 2^40 * n refused with n.
  *   place     (uint64_t) 2^24 * first byte + byte count of a signal's words on the sheet; refused, 2^48 * fault, and the first
  *             byte and the count are 0.
+ *   up-time   (uint64_t) 2^16 * total in ticks + count of the words written; refused, 2^48 * fault, and total and count are 0.
  *
  * Faults.
  *    1 list empty or over 256 words                  10 formula empty or over 1,024 bytes
@@ -32,6 +33,7 @@
  *    7 output shorter than the answer                16 name malformed or repeated
  *    8 length above M                                17 sheet list breaks 1 to 4
  *    9 instant 0, or date above M                    18 work area under 8,192 words
+ *                                                    19 horizon above M
  */
 #ifndef RASCRUNEL_H
 #define RASCRUNEL_H
@@ -61,6 +63,9 @@ extern "C" {
 #define SGL_PLACE_FAULT(place) ((uint32_t)((uint64_t)(place) >> 48))
 #define SGL_PLACE_START(place) ((uint32_t)((uint64_t)(place) >> 24 & 0xffffffu))
 #define SGL_PLACE_COUNT(place) ((uint32_t)((uint64_t)(place) & 0xffffffu))
+#define SGL_UPTIME_FAULT(uptime) ((uint32_t)((uint64_t)(uptime) >> 48))
+#define SGL_UPTIME_TOTAL(uptime) ((uint32_t)((uint64_t)(uptime) >> 16))
+#define SGL_UPTIME_COUNT(uptime) ((uint32_t)((uint64_t)(uptime) & 0xffffu))
 
 /* The fault of a list. Faults 1, 2, then word by word 3, 4. */
 uint32_t sgl_list_fault(const uint32_t *list, size_t list_words);
@@ -82,7 +87,7 @@ uint64_t sgl_implies(const uint32_t *a, size_t a_words, const uint32_t *b, size_
 uint32_t sgl_not(const uint32_t *a, size_t a_words, uint32_t *out, size_t out_words);
 
 /* A connective by its table: bit 2 * (value of a) + (value of b); only the low four bits count (AND is 8, OR is 14, XOR is 6).
- * Faults of a, of b, 5, 7. */
+ * Seven arguments: a, b and out are two each, a pointer and a count, and table is one. Faults of a, of b, 5, 7. */
 uint32_t sgl_connective(uint32_t table, const uint32_t *a, size_t a_words, const uint32_t *b, size_t b_words,
                         uint32_t *out, size_t out_words);
 
@@ -111,20 +116,27 @@ uint32_t sgl_sheet_fault(const uint8_t *sheet, size_t sheet_bytes);
 /* Place of the words of a signal on a sheet; the name is given without zero bytes. Faults of the sheet, 16, 13. */
 uint64_t sgl_lookup(const uint8_t *sheet, size_t sheet_bytes, const uint8_t *name, size_t name_bytes);
 
-/* Writes the sheet with one signal appended. Faults of the sheet, 16, of the list, 15, 7. */
+/* Writes the sheet with one signal appended. Eight arguments, two for each slice. Faults of the sheet, 16, of the list, 15, 7. */
 uint32_t sgl_append(const uint8_t *sheet, size_t sheet_bytes, const uint8_t *name, size_t name_bytes,
                     const uint32_t *list, size_t list_words, uint8_t *out, size_t out_bytes);
 
 /* The list of a formula's signal on a sheet. The work area has at least SGL_WORK_WORDS words; what it holds before does not
- * matter, and what it holds after is free. Faults of the sheet, 10, 11, 8, 12, 13, 18, 5 or 6 at the first part worked out that
- * meets one, 7. */
+ * matter, and what it holds after is free. Eight arguments, two for each slice. Faults of the sheet, 10, 11, 8, 12, 13, 18, 5 or 6
+ * at the first part worked out that meets one, 7. */
 uint32_t sgl_evaluate(const uint8_t *sheet, size_t sheet_bytes, const uint8_t *formula, size_t formula_bytes,
                       uint32_t *work, size_t work_words, uint32_t *out, size_t out_words);
 
-/* Verdict of the claim f to g on a sheet, with a work area as above. Faults of the sheet, of f and then of g 10, 11, 8, 12, 13,
- * then 18, then 5 or 6 at the first part of f, then of g. */
+/* Verdict of the claim f to g on a sheet, with a work area as above. Eight arguments, two for each slice. Faults of the sheet, of f
+ * and then of g 10, 11, 8, 12, 13, then 18, then 5 or 6 at the first part of f, then of g. */
 uint64_t sgl_claim(const uint8_t *sheet, size_t sheet_bytes, const uint8_t *f, size_t f_bytes,
                    const uint8_t *g, size_t g_bytes, uint32_t *work, size_t work_words);
+
+/* Up-time of a signal on a sheet before the date h. Writes its up stretches in order of time, two words each: the first gap and
+ * the length in ticks. Gap k lies between k and k + 1; a stretch is a longest run of up gaps, cut at h, and instants play no part.
+ * No signal has over 128 stretches: an output of SGL_LIST_WORDS words is never too short. Seven arguments: sheet, name and out are
+ * two each, a pointer and a count, and h is one. Faults of the sheet, 16, 13, 19, 7. */
+uint64_t sgl_uptime(const uint8_t *sheet, size_t sheet_bytes, const uint8_t *name, size_t name_bytes, uint32_t h,
+                    uint32_t *out, size_t out_words);
 
 #ifdef __cplusplus
 }

@@ -13,6 +13,7 @@ static void fill(uint32_t *list, size_t words, uint32_t from) {
 
 int main(int argc, char **argv) {
     uint32_t a[SGL_LIST_WORDS], b[SGL_LIST_WORDS], out[SGL_LIST_WORDS];
+    uint8_t empty[7], sheet[SGL_SHEET_BYTES];
     if (argc != 4)
         return 2;
     size_t n = (size_t)atoi(argv[2]);
@@ -20,6 +21,8 @@ int main(int argc, char **argv) {
     uint64_t got = 0;
     fill(a, n, 0);
     fill(b, n, 5);
+    sgl_begin(empty, sizeof empty);
+    size_t bytes = SGL_COUNT(sgl_append(empty, sizeof empty, (const uint8_t *)"a", 1, a, n, sheet, sizeof sheet));
     for (long i = 0; i < times; i++) {
         if (!strcmp(argv[1], "connective"))
             got = sgl_connective(8, a, n, b, n, out, SGL_LIST_WORDS);
@@ -31,6 +34,8 @@ int main(int argc, char **argv) {
             got = sgl_sr(a, n, b, n, out, SGL_LIST_WORDS);
         else if (!strcmp(argv[1], "implies"))
             got = sgl_implies(a, n, a, n);
+        else if (!strcmp(argv[1], "uptime"))
+            got = sgl_uptime(sheet, bytes, (const uint8_t *)"a", 1, SGL_M, out, SGL_LIST_WORDS);
         else
             return 2;
     }

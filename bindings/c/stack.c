@@ -1,5 +1,6 @@
-/* The formulas that go deepest, each called in a thread of SGL_STACK_BYTES bytes of stack with a guard below it: a call that
- * needs more ends the program. Prints the most that a call used. `stack N` gives the threads N bytes instead. */
+/* The formulas that go deepest, and up-times of the longest sheet, each called in a thread of SGL_STACK_BYTES bytes of stack with
+ * a guard below it: a call that needs more ends the program. Prints the most that a call used. `stack N` gives the threads N bytes
+ * instead. */
 #define _DEFAULT_SOURCE
 #include <pthread.h>
 #include <stdio.h>
@@ -23,6 +24,7 @@ static const struct { const char *open, *inner, *close; } shapes[] = {
 };
 
 static const uint8_t sheet[] = {83, 71, 76, 1, 0, 1, 0, 97, 0, 0, 0, 0, 0, 0, 0, 3, 0, 0, 0, 0, 0, 23, 0, 0, 0, 36, 0, 0, 0};
+static uint8_t full[2][SGL_SHEET_BYTES];
 static uint32_t out[SGL_LIST_WORDS], work[SGL_WORK_WORDS];
 static char text[SGL_FORMULA_BYTES + 2];
 static size_t bytes, stack = SGL_STACK_BYTES, most;
@@ -43,6 +45,11 @@ static void *claim_from(void *none) {
 static void *claim_to(void *none) {
     answer = SGL_VERDICT_FAULT(
         sgl_claim(sheet, sizeof sheet, (const uint8_t *)"a", 1, (const uint8_t *)text, bytes, work, SGL_WORK_WORDS));
+    return none;
+}
+
+static void *uptime(void *none) {
+    answer = SGL_UPTIME_FAULT(sgl_uptime(full[0], SGL_SHEET_BYTES, (const uint8_t *)text, bytes, SGL_M, out, SGL_LIST_WORDS));
     return none;
 }
 
@@ -86,6 +93,22 @@ static void add(const char *part) {
     bytes += strlen(part);
 }
 
+/* The longest sheet: 32 signals, a to z and then aa to ff, of 256 words that go up and down in turn. */
+static void fill(void) {
+    uint32_t list[SGL_LIST_WORDS] = {0}, n, i;
+    for (i = 1; i < SGL_LIST_WORDS; i++)
+        list[i] = 4 * i + (i % 2 ? 3 : 0);
+    n = sgl_begin(full[0], SGL_SHEET_BYTES);
+    for (i = 0; i < 32; i++) {
+        memset(text, 'a' + (int)(i % 26), 2);
+        n = sgl_append(full[i % 2], n, (const uint8_t *)text, 1 + i / 26, list, SGL_LIST_WORDS, full[(i + 1) % 2], SGL_SHEET_BYTES);
+    }
+    if (n != SGL_SHEET_BYTES) {
+        printf("no longest sheet: %lu\n", (unsigned long)n);
+        exit(2);
+    }
+}
+
 int main(int count, char **words) {
     size_t i, k, n;
     if (count > 1)
@@ -107,6 +130,13 @@ int main(int count, char **words) {
     memset(text, '(', sizeof text);
     bytes = SGL_FORMULA_BYTES + 1;
     calls(10);
+    fill();
+    for (i = 0; i < 4; i++) {
+        static const struct { const char *name; uint64_t fault; } names[] = {{"a", 0}, {"ff", 0}, {"none", 13}, {"None", 16}};
+        bytes = 0;
+        add(names[i].name);
+        call(uptime, names[i].fault);
+    }
     printf("stack: at most %lu of %lu bytes\n", (unsigned long)most, (unsigned long)stack);
     return failed;
 }

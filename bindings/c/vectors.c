@@ -1,4 +1,4 @@
-/* Document 01's cases and document 02's pulse timer through the header: every exported function, from C. */
+/* Document 01's cases, document 02's pulse timer and up-times through the header: every exported function, from C. */
 #include <stdio.h>
 #include <string.h>
 #include "rascrunel.h"
@@ -136,10 +136,61 @@ static void formulas(void) {
     IS(sgl_claim(N(printed), TEXT(""), TEXT("a"), N(work)), 10ull << 40);
 }
 
+/* An up-time: the answer and its parts, and the whole output, which held sevens. */
+static void uptime(int line, uint64_t got, uint32_t fault, uint32_t total, const uint32_t *want, uint32_t count) {
+    same(line, got, fault ? (uint64_t)fault << 48 : (uint64_t)total << 16 | count);
+    same(line, SGL_UPTIME_FAULT(got), fault);
+    same(line, SGL_UPTIME_TOTAL(got), total);
+    same(line, SGL_UPTIME_COUNT(got), count);
+    for (uint32_t i = 0; i < SGL_LIST_WORDS; i++) {
+        same(line, out[i], i < count ? want[i] : 7);
+        out[i] = 7;
+    }
+}
+
+#define UP(got, total, ...) \
+    do { const uint32_t want_[] = {__VA_ARGS__}; uptime(__LINE__, (got), 0, (total), want_, sizeof want_ / 4); } while (0)
+#define NOT_UP(got) uptime(__LINE__, (got), 0, 0, NULL, 0)
+#define NO_UPTIME(got, fault) uptime(__LINE__, (got), (fault), 0, NULL, 0)
+
+static void uptimes(void) {
+    static const uint32_t turned[] = {1, 20, 39}, down5[] = {1, 21}, from_m1[] = {0, 4294967291u};
+    uint8_t other[SGL_SHEET_BYTES];
+    uint32_t n = sgl_append(N(printed), TEXT("t"), N(turned), other, sizeof other);
+    n = sgl_append(other, n, TEXT("e"), N(e), bytes, sizeof bytes);
+    n = sgl_append(bytes, n, TEXT("d"), N(down5), other, sizeof other);
+    n = sgl_append(other, n, TEXT("o"), N(one), bytes, sizeof bytes);
+    n = sgl_append(bytes, n, TEXT("m"), N(from_m1), other, sizeof other);
+    for (uint32_t i = 0; i < SGL_LIST_WORDS; i++)
+        out[i] = 7;
+    UP(sgl_uptime(other, n, TEXT("a"), 8, OUT), 3, 5, 3);
+    NOT_UP(sgl_uptime(other, n, TEXT("a"), 0, OUT));
+    NOT_UP(sgl_uptime(other, n, TEXT("a"), 5, OUT));
+    UP(sgl_uptime(other, n, TEXT("a"), 6, OUT), 1, 5, 1);
+    UP(sgl_uptime(other, n, TEXT("a"), SGL_M, OUT), 4, 5, 4);
+    UP(sgl_uptime(other, n, TEXT("t"), 12, OUT), 8, 0, 5, 9, 3);
+    UP(sgl_uptime(other, n, TEXT("t"), 9, OUT), 5, 0, 5);
+    NOT_UP(sgl_uptime(other, n, TEXT("e"), SGL_M, OUT));
+    UP(sgl_uptime(other, n, TEXT("d"), 12, OUT), 12, 0, 12);
+    UP(sgl_uptime(other, n, TEXT("o"), SGL_M, OUT), SGL_M, 0, SGL_M);
+    UP(sgl_uptime(other, n, TEXT("m"), SGL_M, OUT), 1, SGL_M - 1, 1);
+    NOT_UP(sgl_uptime(other, n, TEXT("a"), 0, out, 0));
+    UP(sgl_uptime(other, n, TEXT("a"), 8, out, 2), 3, 5, 3);
+    NO_UPTIME(sgl_uptime(other, n, TEXT("a"), 8, out, 1), 7);
+    NO_UPTIME(sgl_uptime(other, n, TEXT("t"), 12, out, 3), 7);
+    NO_UPTIME(sgl_uptime(other, n, TEXT("a"), SGL_M + 1, out, 0), 19);
+    NO_UPTIME(sgl_uptime(other, n, TEXT("b"), SGL_M + 1, out, 0), 13);
+    NO_UPTIME(sgl_uptime(other, n, TEXT("A"), SGL_M + 1, out, 0), 16);
+    NO_UPTIME(sgl_uptime(other, n, TEXT(""), 8, OUT), 16);
+    NO_UPTIME(sgl_uptime(other, n - 1, TEXT("A"), SGL_M + 1, out, 0), 15);
+    NO_UPTIME(sgl_uptime(other, 4, TEXT("a"), 8, OUT), 14);
+}
+
 int main(void) {
     lists();
     operations();
     sheets();
     formulas();
+    uptimes();
     return failed;
 }

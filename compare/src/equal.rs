@@ -1,5 +1,5 @@
 //! Both give each call the same answer: the same number, and the same words in the whole of the output.
-use crate::generate::{self, Claim, Given, Set, MOST_WORDS};
+use crate::generate::{self, Asked, Claim, Given, Set, MOST_WORDS};
 use crate::random::Random;
 use crate::{ffi, plain};
 use std::fmt::Write;
@@ -42,11 +42,16 @@ fn written_text(written: u32, out: &[u32]) -> String {
     }
 }
 
-fn claim_text(claim: &Claim) -> String {
+fn hex(bytes: &[u8]) -> String {
     let mut hex = String::new();
-    for byte in &claim.sheet {
+    for byte in bytes {
         write!(hex, "{byte:02x}").unwrap();
     }
+    hex
+}
+
+fn claim_text(claim: &Claim) -> String {
+    let hex = hex(&claim.sheet);
     let (f, g) = (claim.f.escape_ascii(), claim.g.escape_ascii());
     format!("sheet {hex}\nF {f}\nG {g}\nwork area of {} words", claim.work)
 }
@@ -147,4 +152,28 @@ pub fn lists(seed: u64, count: usize, calls: &[ListCall]) -> Result<(usize, usiz
         }
     }
     Ok((answered, refused))
+}
+
+/// An up-time call.
+pub type UpTimeCall = fn(&[u8], &[u8], u32, &mut [u32]) -> u64;
+
+/// Up-times on sheets of a set: the first difference, or how many were refused with each fault, 0 for none.
+pub fn uptimes(set: Set, seed: u64, count: usize, other: UpTimeCall) -> Result<[usize; 20], String> {
+    let mut random = set.random(seed);
+    let mut met = [0; 20];
+    for _ in 0..count {
+        let Asked { sheet, name, h } = generate::asked(&mut random, set);
+        let room = if random.one_in(4) { random.below(20) } else { MOST_WORDS };
+        let (mut out, mut other_out) = (vec![7; room], vec![7; room]);
+        let ours = ffi::uptime(&sheet, &name, h, &mut out);
+        let others = other(&sheet, &name, h, &mut other_out);
+        if (ours, &out) != (others, &other_out) {
+            let (hex, name) = (hex(&sheet), name.escape_ascii());
+            return Err(format!(
+                "uptime\nsheet {hex}\nname {name}\nhorizon {h}\nours: {ours}, output {out:?}\nplain: {others}, output {other_out:?}"
+            ));
+        }
+        met[(ours >> 48) as usize] += 1;
+    }
+    Ok(met)
 }

@@ -53,6 +53,15 @@ mod c {
             work: Out,
             work_words: usize,
         ) -> u64;
+        pub fn sgl_uptime(
+            sheet: Text,
+            sheet_bytes: usize,
+            name: Text,
+            name_bytes: usize,
+            h: u32,
+            out: Out,
+            out_words: usize,
+        ) -> u64;
     }
 }
 
@@ -134,4 +143,8 @@ pub fn claim(sheet: &[u8], f: &[u8], g: &[u8], work: &mut [u32]) -> u64 {
             work.len(),
         )
     }
+}
+
+pub fn uptime(sheet: &[u8], name: &[u8], h: u32, out: &mut [u32]) -> u64 {
+    unsafe { c::sgl_uptime(sheet.as_ptr(), sheet.len(), name.as_ptr(), name.len(), h, out.as_mut_ptr(), out.len()) }
 }

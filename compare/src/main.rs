@@ -16,6 +16,9 @@ const SEED: u64 = 1;
 /// The faults that a claim can meet.
 const FAULTS: [usize; 12] = [5, 6, 8, 10, 11, 12, 13, 14, 15, 16, 17, 18];
 
+/// The faults that an up-time can meet.
+const UPTIME_FAULTS: [usize; 7] = [7, 13, 14, 15, 16, 17, 19];
+
 const USAGE: &str = "compare [--equal | ROW]";
 
 /// Wrong engines in the place of plain: the check must tell each of them from ours.
@@ -41,7 +44,34 @@ fn wrong_ones_are_told() -> Result<(), String> {
             written.into()
         },
     };
-    told("a word more in the output", equal::lists(SEED, 300, &[word_more]).is_err())
+    told("a word more in the output", equal::lists(SEED, 300, &[word_more]).is_err())?;
+    let tick_less = equal::uptimes(Set::Small, SEED, 300, |sheet, name, h, out| {
+        plain::uptime(sheet, name, h.saturating_sub(1), out)
+    });
+    told("a horizon of a tick less", tick_less.is_err())
+}
+
+/// The faults with how often each was met; none may be missing.
+fn faults_met(faults: &[usize], met: &[usize], what: &str) -> Result<String, String> {
+    match faults.iter().find(|&&fault| met[fault] == 0) {
+        Some(fault) => Err(format!("no {what} was refused with {fault}")),
+        None => Ok(faults.iter().map(|&fault| format!("{fault}: {}", met[fault])).collect::<Vec<_>>().join(", ")),
+    }
+}
+
+/// Both are equal on so many up-times of each set (of the largest a twentieth).
+fn check_uptimes(count: usize) -> Result<(), String> {
+    let (mut met, mut all) = ([0; 20], 0);
+    for set in Set::ALL {
+        let calls = if set == Set::Largest { count / 20 } else { count };
+        all += calls;
+        for (sum, refused) in met.iter_mut().zip(equal::uptimes(set, SEED, calls, plain::uptime)?) {
+            *sum += refused;
+        }
+    }
+    println!("uptimes  {all} calls: {} answered, {} refused", met[0], all - met[0]);
+    println!("refused with {}", faults_met(&UPTIME_FAULTS, &met, "up-time")?);
+    Ok(())
 }
 
 /// Both are equal on so many claims of each set (of the largest a twentieth) and so many lists.
@@ -57,14 +87,11 @@ fn check(count: usize) -> Result<(), String> {
             *sum += refused;
         }
     }
-    let shown = FAULTS.map(|fault| format!("{fault}: {}", met[fault]));
-    println!("refused with {}", shown.join(", "));
-    if let Some(fault) = FAULTS.iter().find(|&&fault| met[fault] == 0) {
-        return Err(format!("no claim was refused with {fault}"));
-    }
+    println!("refused with {}", faults_met(&FAULTS, &met, "claim")?);
     let (answered, refused) = equal::lists(SEED, count, &LIST_CALLS)?;
     println!("lists    {} calls: {answered} answered, {refused} refused", answered + refused);
-    println!("equal    every verdict, fault, count and output");
+    check_uptimes(count)?;
+    println!("equal    every verdict, fault, count, total and output");
     Ok(())
 }
 

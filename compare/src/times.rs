@@ -1,5 +1,5 @@
 //! Processor time of both, in turns.
-use crate::generate::{self, turns, Claim, Set, MOST_WORDS, MOST_WORK};
+use crate::generate::{self, sheet_of, turns, Claim, Set, MOST_WORDS, MOST_WORK};
 use crate::random::Random;
 use crate::{ffi, plain};
 use std::hint::black_box;
@@ -115,10 +115,15 @@ impl Times {
         let mut random = Random(seed);
         let a = turns(&mut random, words, 0);
         let b = turns(&mut random, words, 1);
+        let sheet = sheet_of("a", &a);
         macro_rules! call {
-            (|$out:ident| $call:ident($($argument:expr),*)) => {{
+            (|$out:ident| $call:ident($($argument:expr),*)) => {
+                call!(16, |$out| $call($($argument),*))
+            };
+            // the fault stands from that bit on
+            ($bit:literal, |$out:ident| $call:ident($($argument:expr),*)) => {{
                 let mut $out = [0u32; MOST_WORDS];
-                assert_eq!(ffi::$call($($argument),*) >> 16, 0, "{}-{words} is refused", stringify!($call));
+                assert_eq!(ffi::$call($($argument),*) >> $bit, 0, "{}-{words} is refused", stringify!($call));
                 black_box(&mut $out);
                 self.row(
                     &format!("{}-{words}", stringify!($call)),
@@ -149,5 +154,6 @@ impl Times {
         call!(|out| tof(2, &a, &mut out));
         call!(|out| tp(2, &a, &mut out));
         call!(|out| implies(&a, &a));
+        call!(48, |out| uptime(&sheet, b"a", generate::M as u32, &mut out));
     }
 }

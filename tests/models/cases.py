@@ -8,7 +8,7 @@ import struct
 import formulas
 import sheets
 from signals import (M, Signal, answer_fault, connective, falling, implication, list_fault, listed, negation, rising, rs,
-                     sr, tof, ton, tp)
+                     sr, stretches, tof, ton, tp)
 
 PIECE = re.compile(rb'"([^"]*)"(?:\*(\d+))?|([bh]?)(\d+)(?:\+(\d+))?(?:\*(\d+))?|@(\d*)|-')
 PUT = {b"b": "<B", b"h": "<H", b"": "<I"}
@@ -167,6 +167,41 @@ def located(sheet, name):
     return "%d %d" % (at, 4 * n)
 
 
+# Up-times and their program
+
+HORIZON = re.compile(rb"0|[1-9][0-9]*")
+
+
+def up_stretches(sheet, name, horizon):
+    """The fault, where the horizon is None when it is not written as a length is; the stretches."""
+    fault = sheets.lookup(sheet, name)[0]
+    if not fault and (horizon is None or horizon > M):
+        fault = 19
+    return fault, [] if fault else stretches(Signal(sheets.words(sheet, name)), horizon)
+
+
+def uptime(sheet, name, horizon, room):
+    """Count and total, or the fault; then the whole output."""
+    fault, found = up_stretches(sheet, name, horizon)
+    words = [word for stretch in found for word in stretch]
+    said = written(fault or (7 if len(words) > room else 0), words, room, shown)
+    return said if said.startswith("refused") else said.replace(",", " %d," % sum(words[1::2]), 1)
+
+
+def page_lines(data):
+    """What the program prints for an input, line by line."""
+    name, _, rest = data[:65536].partition(b"\n")
+    text, _, sheet = rest.partition(b"\n")
+    fault, found = up_stretches(sheet, name, int(text[:11]) if HORIZON.fullmatch(text) else None)
+    if fault:
+        return [refused(fault)]
+    return ["%d %d" % stretch for stretch in found] + ["total %d" % sum(length for _, length in found)]
+
+
+def page(data):
+    return "".join(line + "|" for line in page_lines(data))
+
+
 # Formulas, claims and the program
 
 
@@ -260,6 +295,8 @@ CALLS = {
     "evaluate": lambda sheet, text, work, room: evaluate(sheet, text, n(work), n(room)),
     "claim": lambda sheet, f, g, work: claim(sheet, f, g, n(work)),
     "report": report,
+    "uptime": lambda sheet, name, horizon, room: uptime(sheet, name, n(horizon), n(room)),
+    "page": page,
 }
 
 

@@ -1,4 +1,4 @@
-"""Signals, lists and operations by the sentences of document 01, TP by those of document 02.
+"""Signals, lists and operations by the sentences of document 01, TP and up stretches by those of document 02.
 
 A moment is a number: gap k is 2k, instant k is 2k - 1. A signal is constant between its changes, so "some moment
 from a to b" is asked by way of the last moment up to b that is up, or down; it lies just before a change, or is b.
@@ -109,6 +109,13 @@ def tp(d, f):
         if f.up(2 * a - 1) and not f.up(2 * a - 2) and not any(a < start + d for start in starts):
             starts.append(a)
     return listed(lambda m: any(a <= (m + 1) // 2 < a + d for a in starts), delayed(d, f))
+
+
+def stretches(f, horizon):
+    """The longest runs of up gaps before the horizon, cut there: first gap and length of each. Gaps change their value at dates only."""
+    first = [k for k in [0] + f.dates if k < horizon and f.up(2 * k) and not (k > 0 and f.up(2 * k - 2))]
+    down = [k for k in f.dates if not f.up(2 * k)]
+    return [(k, min([end for end in down if end > k] + [horizon]) - k) for k in first]
 
 
 def answer_fault(words, room=256):

@@ -1,6 +1,7 @@
-"""The latches and timers of signals.py against the documents' sentences taken moment by moment, on random short lists."""
+"""The latches, timers and stretches of signals.py against the documents' sentences taken moment by moment, on random short lists."""
+import itertools
 import random
-from signals import Signal, rs, sr, tof, ton, tp
+from signals import Signal, negation, rs, sr, stretches, tof, ton, tp
 
 
 def moments(t1, t, with_t1):
@@ -28,6 +29,23 @@ def pulsed(d, f, t):
     return left > 0
 
 
+def grouped(f, horizon):
+    """The runs of up gaps before the horizon, gap by gap."""
+    runs = [list(run) for up, run in itertools.groupby(range(horizon), lambda k: f(2 * k)) if up]
+    return [(run[0], len(run)) for run in runs]
+
+
+def total(runs):
+    return sum(length for _, length in runs)
+
+
+def paged(f, horizon):
+    """The stretches are the runs, their total the number of up gaps, and up and down total, each by its own gaps, make the horizon."""
+    found, down = stretches(f, horizon), stretches(Signal(negation(f)), horizon)
+    up_gaps = sum(f.up(2 * k) for k in range(horizon))
+    return found == grouped(f.up, horizon) and total(found) == up_gaps and total(down) == horizon - up_gaps
+
+
 def random_list():
     words, date = [random.randrange(2)], 0
     for _ in range(random.randrange(6)):
@@ -50,5 +68,6 @@ def agreeing(pairs):
             (tof(d, f), lambda t: any(map(s, window(d, t)))),
             (tp(d, f), lambda t: pulsed(d, s, t)),
         ]
-        agree += all(Signal(made).up(t) == stepped(t) for made, stepped in cases for t in range(61))
+        alike = all(Signal(made).up(t) == stepped(t) for made, stepped in cases for t in range(61))
+        agree += alike and all(paged(f, horizon) for horizon in range(31))
     return agree

@@ -4,7 +4,7 @@ use crate::{Fault, Verdict};
 
 // The proved library gives no other numbers than those of the faults.
 fn fault(number: u32) -> Fault {
-    Fault::of(number).expect("a fault number that document 01 does not have")
+    Fault::of(number).expect("a fault number that the documents do not have")
 }
 
 fn judged(result: u32) -> Result<(), Fault> {
@@ -154,4 +154,15 @@ pub fn claim(sheet: &[u8], f: &[u8], g: &[u8], work: &mut [u32]) -> Result<Verdi
             work.len(),
         )
     })
+}
+
+/// Up stretches before h, of each its first gap and its length: how many words were written, two a stretch, and the total in ticks.
+pub fn uptime(sheet: &[u8], name: &[u8], h: u32, out: &mut [u32]) -> Result<(usize, u32), Fault> {
+    let answer = unsafe {
+        ffi::sgl_uptime(sheet.as_ptr(), sheet.len(), name.as_ptr(), name.len(), h, out.as_mut_ptr(), out.len())
+    };
+    match (answer >> 48) as u32 {
+        0 => Ok(((answer & 0xffff) as usize, (answer >> 16) as u32)),
+        n => Err(fault(n)),
+    }
 }

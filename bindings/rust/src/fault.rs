@@ -2,7 +2,7 @@ use std::fmt;
 
 macro_rules! faults {
     ($($name:ident = $number:literal, $text:literal;)*) => {
-        /// Why a call is refused, by document 01's numbers.
+        /// Why a call is refused, by the numbers of documents 01 and 02.
         #[derive(Clone, Copy, Debug, PartialEq, Eq, Hash)]
         pub enum Fault {
             $(#[doc = $text] $name = $number,)*
@@ -46,10 +46,11 @@ faults! {
     Name = 16, "name malformed or repeated";
     SheetList = 17, "a list in the sheet breaks the rules of lists";
     ShortWork = 18, "work area under 8,192 words";
+    HorizonAboveM = 19, "horizon above 1073741823";
 }
 
 impl Fault {
-    /// Document 01's number.
+    /// The documents' number.
     pub fn number(self) -> u32 {
         self as u32
     }

@@ -56,4 +56,13 @@ extern "C" {
         work: *mut u32,
         work_words: usize,
     ) -> u64;
+    pub fn sgl_uptime(
+        sheet: *const u8,
+        sheet_bytes: usize,
+        name: *const u8,
+        name_bytes: usize,
+        h: u32,
+        out: *mut u32,
+        out_words: usize,
+    ) -> u64;
 }

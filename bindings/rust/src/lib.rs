@@ -1,4 +1,4 @@
-//! Timing signals as lists, sheets of named signals, formulas and claims, over a proved library.
+//! Timing signals as lists, sheets of named signals, formulas and claims, up-times, over a proved library.
 //! These types hold no logic of their own: the library judges and computes, and they carry its answers.
 //! A call needs at most [`STACK_BYTES`] of stack, whatever its input; a thread has 2 MiB unless it asks for less.
 pub mod calls;
@@ -7,11 +7,13 @@ mod ffi;
 mod list;
 mod sheet;
 pub mod text;
+mod uptime;
 mod verdict;
 
 pub use fault::Fault;
 pub use list::List;
 pub use sheet::{Checker, Formula, Sheet};
+pub use uptime::{Stretch, UpTime};
 pub use verdict::Verdict;
 
 /// The largest date and the largest length.

@@ -1,5 +1,5 @@
 use crate::list::{written, List};
-use crate::{calls, Fault, Verdict, SHEET_BYTES, WORK_WORDS};
+use crate::{calls, Fault, Stretch, UpTime, Verdict, LIST_WORDS, SHEET_BYTES, WORK_WORDS};
 
 /// An accepted sheet: up to 32 named signals.
 #[derive(Clone, Debug, PartialEq, Eq, Hash)]
@@ -44,6 +44,24 @@ impl Sheet {
             .map(|b| u32::from_le_bytes([b[0], b[1], b[2], b[3]]))
             .collect();
         List::new(&words)
+    }
+
+    /// When a signal was up before the date h: its up stretches, and their total in ticks.
+    ///
+    /// ```
+    /// # use rascrunel::Sheet;
+    /// let sheet = Sheet::begin()?.append("drive", &[0, 23, 36])?; // up from 5, down from 9
+    /// let uptime = sheet.uptime("drive", 8)?;
+    /// assert_eq!((uptime.stretches[0].first, uptime.stretches[0].length, uptime.total), (5, 3, 3));
+    /// assert_eq!(uptime.to_string(), "5 3\ntotal 3");
+    /// # Ok::<(), rascrunel::Fault>(())
+    /// ```
+    pub fn uptime(&self, name: &str, h: u32) -> Result<UpTime, Fault> {
+        // as many words as a list has: no signal has more than half as many stretches
+        let mut out = [0; LIST_WORDS];
+        let (count, total) = calls::uptime(&self.bytes, name.as_bytes(), h, &mut out)?;
+        let stretches = out[..count].chunks_exact(2).map(|pair| Stretch { first: pair[0], length: pair[1] }).collect();
+        Ok(UpTime { stretches, total })
     }
 
     /// The names of the signals, in order: each stands 10 bytes before its words, and the next after them.

@@ -1,5 +1,5 @@
-// The sheets under examples/ are those of their texts, and the claims told there are judged so.
-use rascrunel::{text, Checker, Formula, Sheet};
+// The sheets under examples/ are those of their texts, and the claims and up-times told there are so.
+use rascrunel::{text, Checker, Sheet};
 use std::fs;
 use std::path::PathBuf;
 
@@ -9,23 +9,32 @@ fn example(name: &str) -> PathBuf {
 
 #[test]
 fn sheets_of_their_texts() {
-    for name in ["trim", "guard"] {
+    for name in ["trim", "guard", "shift"] {
         let text = fs::read_to_string(example(&format!("{name}.txt"))).unwrap();
         let bytes = fs::read(example(&format!("{name}.sgl"))).unwrap();
         assert_eq!(text::read(&text).unwrap().bytes(), bytes, "{name}");
     }
 }
 
-#[test]
-fn claims() {
-    let text = fs::read_to_string(example("claims.txt")).unwrap();
+// Each line of a file: a sheet, two words, and what is told of them.
+fn told(file: &str, of: impl Fn(&Sheet, &str, &str) -> String) {
+    let text = fs::read_to_string(example(file)).unwrap();
     let mut told = 0;
     for line in text.lines().filter(|l| !l.starts_with('#') && !l.is_empty()) {
         let parts: Vec<&str> = line.splitn(4, ' ').collect();
         let sheet = Sheet::new(&fs::read(example(parts[0])).unwrap()).unwrap();
-        let verdict = Checker::new().claim(&sheet, &Formula::from(parts[1]), &Formula::from(parts[2])).unwrap();
-        assert_eq!(verdict.to_string(), parts[3], "{line}");
+        assert_eq!(of(&sheet, parts[1], parts[2]), parts[3], "{line}");
         told += 1;
     }
     assert!(told >= 5);
+}
+
+#[test]
+fn claims() {
+    told("claims.txt", |sheet, f, g| Checker::new().claim(sheet, &f.into(), &g.into()).unwrap().to_string());
+}
+
+#[test]
+fn uptimes() {
+    told("uptimes.txt", |sheet, name, h| sheet.uptime(name, h.parse().unwrap()).unwrap().to_string().replace('\n', ","));
 }

@@ -1,4 +1,4 @@
-// The formulas that go deepest, through the safe calls, in threads of STACK_BYTES bytes of stack.
+// The formulas that go deepest, and an up-time, through the safe calls, in threads of STACK_BYTES bytes of stack.
 use rascrunel::{Checker, Fault, Formula, Sheet, STACK_BYTES};
 use std::thread;
 
@@ -38,4 +38,12 @@ fn deepest_formulas() {
         refused(open.repeat(levels) + inner + &close.repeat(levels), Fault::TooComplex);
     }
     refused("(".repeat(1025), Fault::FormulaLength);
+}
+
+#[test]
+fn uptime() {
+    let words: Vec<u32> = (0..256).map(|i| 4 * i + if i % 2 == 1 { 3 } else { 0 }).collect();
+    let sheet = Sheet::begin().unwrap().append("a", &words).unwrap();
+    let call = move || assert_eq!(sheet.uptime("a", 1000).unwrap().stretches.len(), 128);
+    thread::Builder::new().stack_size(STACK_BYTES).spawn(call).unwrap().join().unwrap();
 }

@@ -208,12 +208,12 @@ fn formulas_and_claims() {
 
 #[test]
 fn numbers_and_texts() {
-    for n in 1..=18 {
+    for n in 1..=19 {
         let fault = Fault::of(n).unwrap();
         assert_eq!(fault.number(), n);
         assert!(!fault.text().is_empty());
     }
     assert_eq!(Fault::of(0), None);
-    assert_eq!(Fault::of(19), None);
+    assert_eq!(Fault::of(20), None);
     assert_eq!(Fault::Name.to_string(), "refused 16: name malformed or repeated");
 }

@@ -3,7 +3,7 @@ use super::{Claim, MOST_WORK};
 use crate::random::Random;
 
 /// Where the signals of a sheet stand, as far as they are whole.
-fn places(sheet: &[u8]) -> Vec<usize> {
+pub fn places(sheet: &[u8]) -> Vec<usize> {
     let (mut places, mut at) = (Vec::new(), 7);
     while at + 10 <= sheet.len() {
         places.push(at);
@@ -12,7 +12,7 @@ fn places(sheet: &[u8]) -> Vec<usize> {
     places
 }
 
-fn damage_sheet(random: &mut Random, sheet: &mut Vec<u8>) {
+pub fn damage_sheet(random: &mut Random, sheet: &mut Vec<u8>) {
     let places = places(sheet);
     if sheet.is_empty() {
         return;

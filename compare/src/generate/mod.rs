@@ -5,8 +5,8 @@ mod lists;
 
 use crate::random::Random;
 use formulas::{Lengths, Writer};
-pub use lists::{turns, MOST_WORDS};
-use lists::{Dates, M, STEP};
+pub use lists::{turns, M, MOST_WORDS};
+use lists::{Dates, STEP};
 
 /// The words that a work area needs, and the most that one has here.
 const WORK_WORDS: usize = 8192;
@@ -76,6 +76,22 @@ fn shape(random: &mut Random, set: Set) -> (usize, Dates) {
     }
 }
 
+/// Puts a signal behind those of a sheet, and does not count it.
+fn put_signal(sheet: &mut Vec<u8>, name: &str, list: &[u32]) {
+    let mut field = [0; 8];
+    field[..name.len()].copy_from_slice(name.as_bytes());
+    sheet.extend(field);
+    sheet.extend((list.len() as u16).to_le_bytes());
+    sheet.extend(list.iter().flat_map(|word| word.to_le_bytes()));
+}
+
+/// The sheet of one signal.
+pub fn sheet_of(name: &str, list: &[u32]) -> Vec<u8> {
+    let mut bytes = b"SGL\x01\x00\x01\x00".to_vec();
+    put_signal(&mut bytes, name, list);
+    bytes
+}
+
 /// A sheet and its names.
 fn sheet(random: &mut Random, set: Set) -> (Vec<u8>, Vec<String>) {
     let count = match set {
@@ -95,11 +111,7 @@ fn sheet(random: &mut Random, set: Set) -> (Vec<u8>, Vec<String>) {
         let (words, dates) = if long { (random.between(150, MOST_WORDS), Dates::By(1000)) } else { shape(random, set) };
         let list =
             if long && random.one_in(3) { lists::lone(random, words) } else { lists::list(random, words, dates) };
-        let mut field = [0; 8];
-        field[..name.len()].copy_from_slice(name.as_bytes());
-        bytes.extend(field);
-        bytes.extend((list.len() as u16).to_le_bytes());
-        bytes.extend(list.iter().flat_map(|word| word.to_le_bytes()));
+        put_signal(&mut bytes, &name, &list);
         names.push(name);
     }
     (bytes, names)
@@ -153,6 +165,39 @@ pub fn claim(random: &mut Random, set: Set) -> Claim {
         damage::damage(random, &mut claim);
     }
     claim
+}
+
+/// What an up-time is asked of: a sheet, a name and the horizon.
+pub struct Asked {
+    pub sheet: Vec<u8>,
+    pub name: Vec<u8>,
+    pub h: u32,
+}
+
+/// A horizon: at one of the dates of a signal's words or beside it, near the start, at M or past it, anywhere.
+fn horizon(random: &mut Random, words: &[[u8; 4]]) -> u32 {
+    match random.below(16) {
+        0 => random.next() as u32,
+        1 => M as u32 + random.below(3) as u32 - 1,
+        2 => random.below(12) as u32,
+        _ => (u32::from_le_bytes(random.pick(words)) / 4 + random.below(3) as u32).saturating_sub(1),
+    }
+}
+
+pub fn asked(random: &mut Random, set: Set) -> Asked {
+    let (mut sheet, names) = sheet(random, set);
+    let (mut name, mut h) = (random.pick(&["nosuch", "", "A", "a b", "abcdefghi", "9", "a\0"]), random.next() as u32);
+    if !names.is_empty() && !random.one_in(12) {
+        let number = random.below(names.len());
+        let places = damage::places(&sheet);
+        let end = places.get(number + 1).copied().unwrap_or(sheet.len());
+        name = &names[number];
+        h = horizon(random, sheet[places[number] + 10..end].as_chunks().0);
+    }
+    if random.one_in(6) {
+        damage::damage_sheet(random, &mut sheet);
+    }
+    Asked { sheet, name: name.as_bytes().to_vec(), h }
 }
 
 /// What a list call is given: a table or a length, and two lists.

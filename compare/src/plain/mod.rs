@@ -9,6 +9,7 @@ mod lists;
 mod operations;
 mod pulses;
 mod sheets;
+mod uptimes;
 
 use lists::{judge, M, WORDS};
 use operations::{implication, One, Two, Verdict};
@@ -26,6 +27,13 @@ fn packed_verdict(answer: Result<Verdict, u32>) -> u64 {
         Ok(Verdict::FailsAt(k)) => 2 * k as u64,
         Ok(Verdict::FailsAfter(k)) => 2 * k as u64 + 1,
         Err(fault) => (fault as u64) << 40,
+    }
+}
+
+fn packed_uptime(answer: Result<(usize, u32), u32>) -> u64 {
+    match answer {
+        Ok((count, total)) => (total as u64) << 16 | count as u64,
+        Err(fault) => (fault as u64) << 48,
     }
 }
 
@@ -124,4 +132,9 @@ pub fn evaluate(sheet: &[u8], formula: &[u8], work: &mut [u32], out: &mut [u32])
 #[inline(never)]
 pub fn claim(sheet: &[u8], f: &[u8], g: &[u8], work: &mut [u32]) -> u64 {
     packed_verdict(claims::claim(sheet, f, g, work))
+}
+
+#[inline(never)]
+pub fn uptime(sheet: &[u8], name: &[u8], h: u32, out: &mut [u32]) -> u64 {
+    packed_uptime(uptimes::uptime(sheet, name, h, out))
 }

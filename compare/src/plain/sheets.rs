@@ -30,6 +30,16 @@ fn well_named(name: &Name) -> bool {
         && padding.iter().all(|&byte| byte == 0)
 }
 
+/// The field of a name that is given without zero bytes; 16.
+pub fn name_field(name: &[u8]) -> Result<Name, u32> {
+    let mut field = [0; 8];
+    field.get_mut(..name.len()).ok_or(16u32)?.copy_from_slice(name);
+    if name.contains(&0) || !well_named(&field) {
+        return Err(16);
+    }
+    Ok(field)
+}
+
 /// Where the words of the signal with a name stand, if it is one of the first signals.
 fn find(signals: &[u8], count: usize, name: &Name) -> Option<Place> {
     let mut at = 0;

@@ -1,10 +1,11 @@
-// The formula reader, formula calls, claims and the program's line.
+// The formula reader, formula calls, claims; the line and the page of the programs.
 use answers::shown::answer;
 use answers::shown::number;
 use answers::shown::with_words;
 use answers::verdict;
 use answers::written;
 use evaluation::WORK_WORDS;
+use fields::byte_at;
 use fields::part;
 use notation::Ends;
 use notation::Space;
@@ -100,6 +101,32 @@ fn report(input: &Space, n: usize) {
     io::write_all(1, slices::part_before(&bytes[..count], b'\n'));
 }
 
+// A byte of a page, | for a line feed.
+fn shown_byte(text: &[u8], i: usize) {
+    if byte_at(text, i) == b'\n' {
+        io::write_all(1, b"|");
+    } else {
+        io::write_all(1, part(text, i, i % 65536 + 1));
+    }
+}
+
+fn shown_lines(text: &[u8]) {
+    let mut i: usize = 0;
+    while i < text.len() {
+        shown_byte(text, i);
+        i += 1;
+    }
+}
+
+// The page of an input.
+fn page(input: &Space, n: usize) {
+    let page = uptime_page::page_of(input, n);
+    let bytes = page.bytes;
+    let count = page.count;
+    io::write_all(1, b" ");
+    shown_lines(part(&bytes, 0, count));
+}
+
 fn on_sheet(call: usize, space: &Space, ends: &Ends) {
     let sheet = argument(space, ends, 0);
     let first = argument(space, ends, 1);
@@ -120,6 +147,7 @@ pub fn shown(call: usize, space: &Space, ends: &Ends) {
     match call {
         25 => read(argument(space, ends, 0)),
         28 => report(space, notation::length(ends)),
+        29 => page(space, notation::length(ends)),
         _ => on_sheet(call, space, ends),
     }
 }

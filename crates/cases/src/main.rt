@@ -45,7 +45,7 @@ fn on_sheets(call: usize, space: &Space, all: &Words, ends: &Ends, kept: &mut Sp
     sheet_calls::kept(call, sheet, name, list(all, ends, 2), room, kept)
 }
 
-// The first calls are on lists, the next on formulas, the last on sheets.
+// The first calls are on lists, the next on formulas and inputs of the programs, the last on sheets.
 fn called(
     call: usize,
     space: &Space,
@@ -58,19 +58,19 @@ fn called(
         on_lists(call, space, all, ends);
         return n;
     }
-    if call < 29 {
+    if call < 30 {
         formula_calls::shown(call, space, ends);
         return n;
     }
     let grown = on_sheets(call, space, all, ends, kept);
-    if call < 36 { n } else { grown }
+    if call < 38 { n } else { grown }
 }
 
 fn call_of(name: &[u8]) -> usize {
     place(
         b"list_fault,value_at,value_in,equal,implies,date_plus_length,tidy,not,rising,falling,sr,rs,ton,tof,tp,connective,\
-        not_in,rising_in,falling_in,sr_in,rs_in,ton_in,tof_in,tp_in,connective_in,read,evaluate,claim,report,\
-        sheet_fault,lookup_fault,lookup,locate,well_named,begin,append,grow,keep,",
+        not_in,rising_in,falling_in,sr_in,rs_in,ton_in,tof_in,tp_in,connective_in,read,evaluate,claim,report,page,\
+        sheet_fault,lookup_fault,lookup,locate,well_named,uptime,begin,append,grow,keep,",
         name,
     )
 }

@@ -5,13 +5,16 @@ use answers::number;
 use answers::shown;
 use answers::shown::answer;
 use answers::shown::with_bytes;
+use answers::shown::with_words;
 use answers::written;
 use answers::yes;
 use fields::part;
 use format::Place;
 use notation::Space;
 use notation::copied;
+use notation::head;
 use signals::Written;
+use stretches::UpTime;
 
 // Where the words begin, and how many bytes they have.
 fn place(found: Place) {
@@ -34,16 +37,36 @@ fn looked_up(sheet: &[u8], name: &[u8]) {
 // A call that writes nothing.
 fn question(call: usize, sheet: &[u8], name: &[u8]) {
     match call {
-        29 => answer(number(sheets::sheet_fault(sheet))),
-        30 => answer(number(lookups::lookup_fault(sheet, name))),
-        31 => looked_up(sheet, name),
-        32 => place(lookups::locate(sheet, name)),
+        30 => answer(number(sheets::sheet_fault(sheet))),
+        31 => answer(number(lookups::lookup_fault(sheet, name))),
+        32 => looked_up(sheet, name),
+        33 => place(lookups::locate(sheet, name)),
         _ => answer(yes(names::well_named(sheet))),
     }
 }
 
+// How many words, the total, the output.
+fn up_time_in(sheet: &[u8], name: &[u8], h: u32, out: &mut [u32]) {
+    match uptimes::uptime(sheet, name, h, out) {
+        UpTime::Told { count, total } => {
+            shown::number(count as u64);
+            with_words(counted(PLAIN, total as u64), out);
+        }
+        UpTime::Refused(fault) => {
+            with_words(written(Written::Refused(fault)), out);
+        }
+    }
+}
+
+fn up_time(sheet: &[u8], name: &[u8], h: u32, room: usize) {
+    let mut out = [7u32; 401];
+    if room <= 401 {
+        up_time_in(sheet, name, h, &mut out[0..room]);
+    }
+}
+
 fn appended(call: usize, sheet: &[u8], name: &[u8], list: &[u32], out: &mut [u8]) -> Written {
-    if call == 34 {
+    if call == 36 {
         appending::begin(out)
     } else {
         appending::append(sheet, name, list, out)
@@ -53,7 +76,7 @@ fn appended(call: usize, sheet: &[u8], name: &[u8], list: &[u32], out: &mut [u8]
 // How many bytes `grow` wrote.
 fn grown(call: usize, answer: Written) -> usize {
     match answer {
-        Written::Count(count) => { if call == 36 { count } else { 0 } }
+        Written::Count(count) => { if call == 38 { count } else { 0 } }
         Written::Refused(fault) => 0,
     }
 }
@@ -106,11 +129,15 @@ pub fn kept(
     room: usize,
     kept: &mut Space,
 ) -> usize {
-    if call < 34 {
+    if call < 35 {
         question(call, sheet, name);
         return 0;
     }
-    if call < 37 {
+    if call == 35 {
+        up_time(sheet, name, head(list), room);
+        return 0;
+    }
+    if call < 39 {
         return write_to(call, sheet, name, list, room, kept);
     }
     keep(sheet, kept)
@@ -118,5 +145,5 @@ pub fn kept(
 
 // Which argument is the length of the output.
 pub fn room_at(call: usize) -> usize {
-    if call == 34 { 0 } else { 3 }
+    if call == 36 { 0 } else { 3 }
 }
