@@ -285,6 +285,9 @@ texts-DecimalRight-DecimalRight = Rattle.texts.proofs.DecimalRight.decimal-righ
 pub tidying-TidyingGives-TidyingGives : Rattle.tidying.specs.TidyingGives.TidyingGives
 tidying-TidyingGives-TidyingGives = Rattle.tidying.proofs.TidyingGives.tidying-gives
 
+pub uptime_page-PageCases-PageCases : Rattle.uptime_page.specs.PageCases.PageCases
+uptime_page-PageCases-PageCases = Rattle.uptime_page.proofs.PageCases.page-cases
+
 pub uptime_page-PageSays-PageSays : Rattle.uptime_page.specs.PageSays.PageSays
 uptime_page-PageSays-PageSays = Rattle.uptime_page.proofs.PageSays.page-says
 
