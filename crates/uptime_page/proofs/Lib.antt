@@ -7,3 +7,4 @@ pub mod PageTells
 pub mod PageFaults
 pub mod PageSays
 pub mod Answering
+pub mod PageCases

@@ -1,20 +1,29 @@
 -- What is printed of an input: the page or the refusal, how long it is, where it ends.
-use Prim.Native.Nat.{ℕ, zero, suc, _≤_, _<_}
+use Prim.Native.Nat.{ℕ, zero, suc, _+_, _≤_, _<_}
 use native.Mathlib.Omega.{arith}
-use mathlib.Core.Path.{_≡_, refl, sym, ap}
+use mathlib.Core.Path.{_≡_, refl, sym, ap, _∙_}
 use mathlib.Core.Bool.{Bool, true, false, cond}
 use mathlib.Core.List.{List, [], _∷_, _++_, append-assoc}
+use mathlib.Core.Logic.{inl, inr}
 use lib.Dec.{eqb}
 use lib.ListN.{length, getD, take, length-append}
+use lib.Seq.{take-take}
 use borrow.Author.Tests.{eqb-true, eq-eqb, ne-eqb}
 use Rattle.slices.specs.Slices.{past}
 use Rattle.slices.specs.Bytes.{Bytes}
+use Rattle.signals.specs.Moment.{M}
+use Rattle.signals.specs.Signal.{Signal}
 use Rattle.signals.specs.Words.{mostWords}
+use Rattle.signals.specs.Answers.{firstOf}
 use Rattle.signals.specs.declared.Verdict.the-variants.{Refused}
 use Rattle.signals.proofs.FirstFault.{both-none}
+use Rattle.format.specs.Reading.{frontFault, sheetFault, environmentOn}
 use Rattle.format.specs.Calls.{lookupFault}
-use Rattle.stretches.specs.Stretches.{Stretch, sumOfTicks, stretchWords}
+use Rattle.stretches.specs.Stretches.{Stretch, stretchesBefore, sumOfTicks, stretchWords}
+use Rattle.stretches.specs.LongestRuns.{IsAmong}
 use Rattle.stretches.specs.Calls.{stretchesOn, upTimeWords}
+use Rattle.stretches.proofs.LongestRuns.{stretches-of}
+use Rattle.stretches.proofs.Totals.{totals}
 use Rattle.stretches.proofs.CallGives.{suffices}
 use Rattle.texts.specs.Decimal.{decimal}
 use Rattle.texts.specs.Lengths.{value}
@@ -24,10 +33,10 @@ use Rattle.verdict_line.proofs.Lines.{line-fits}
 use Rattle.uptime_page.specs.Page.{totalText, totalLine, stretchLines, pageText}
 use Rattle.uptime_page.specs.Printing.{pageFault, printed, mostBytes}
 use Rattle.uptime_page.specs.Words.{wordLines}
-use Rattle.uptime_page.specs.PageSays.{IsHorizon, PageSays}
+use Rattle.uptime_page.specs.PageSays.{IsHorizon, Small, Told, PageSays}
 use Rattle.uptime_page.proofs.Putting.{total-length}
 use Rattle.uptime_page.proofs.Filling.{lines-size}
-use Rattle.uptime_page.proofs.PageTells.{page-tells}
+use Rattle.uptime_page.proofs.PageTells.{page-tells, no-refusal}
 use Rattle.uptime_page.proofs.PageFaults.{horizon-value, page-faults, page-fine, page-numbers}
 
 -- the lines of stretches are those of their words
@@ -120,14 +129,49 @@ page-ends input =
     ))
     (refusedText ++ decimal (pageFault input), refl)
 
+told-so : (input : List ℕ) (H : ℕ) → pageFault input ≡ 0 → IsHorizon (secondLine input) H → Told input H
+unfolding pageFault pageText stretchesOn
+told-so input H z h =
+    let s : Signal = environmentOn (sheetIn input) (firstLine input) in
+    record {
+      stretches = stretchesBefore s H;
+      those = stretches-of s H;
+      lines =
+          page-of input H (both-none (lookupFault (sheetIn input) (firstLine input)) _ z .0) h
+          ∙ ap (λ (n : ℕ). stretchLines (stretchesBefore s H) ++ totalLine n) (totals .total s H);
+    }
+
+-- an empty sheet has no mark
+no-sheet : (input : List ℕ) → sheetIn input ≡ [] → printed input ≡ lineOf (Refused 14)
+unfolding pageFault lookupFault sheetFault frontFault firstOf
+no-sheet input e =
+    let z : pageFault input ≡ 14 = rw e in
+    refused-so input (λ y. omega (arith, z, y)) ∙ ap (λ (n : ℕ). lineOf (Refused n)) z
+
+cut-so : (input : List ℕ) → printed (take limit input) ≡ printed input
+unfolding printed pageFault firstLine secondLine sheetIn counted
+cut-so input = rw (take-take limit limit input (omega arith))
+
+-- no number of a stretch before H is above H
+small-of : (ss : List Stretch) (H : ℕ) → H ≤ M → ((s : Stretch) → IsAmong ss s → s .first + s .ticks ≤ H) → Small ss
+small-of [] H m h = tt
+small-of (s ∷ ss) H m h =
+    let l = h s (inl refl) in
+    (omega (arith, l, m), omega (arith, l, m), small-of ss H m (λ r i. h r (inr i)))
+
 pub page-says : PageSays
 page-says =
     record {
       faults = page-faults;
       page = page-of;
+      told = told-so;
       refused = refused-so;
       refusals = page-numbers;
+      noSheet = no-sheet;
+      cut = cut-so;
       fits = page-fits;
       ends = page-ends;
       tells = page-tells;
+      small = λ f H m. small-of (stretchesBefore f H) H m (totals .within f H);
+      apart = no-refusal;
     }

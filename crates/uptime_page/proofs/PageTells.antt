@@ -8,13 +8,14 @@ use lib.Dec.{leb}
 use lib.ListN.{getD}
 use borrow.Author.Tests.{eq-eqb, ne-eqb, leb-true}
 use Rattle.slices.specs.Slices.{before, past}
+use Rattle.signals.specs.declared.Verdict.the-variants.{Refused}
 use Rattle.signals.proofs.Truth.{true-false, and-left, and-right, and-of}
 use Rattle.names.specs.Names.{digit, allOf}
-use Rattle.stretches.specs.Stretches.{Stretch}
+use Rattle.stretches.specs.Stretches.{Stretch, sumOfTicks}
 use Rattle.texts.specs.Lengths.{isLength, value}
 use Rattle.texts.specs.Decimal.{decimal}
 use Rattle.texts.proofs.DecimalRight.{decimal-right}
-use Rattle.verdict_line.specs.Line.{line}
+use Rattle.verdict_line.specs.Line.{line, lineOf, refusedText}
 use Rattle.uptime_page.specs.Page.{totalText, pairLine, stretchLines, totalLine, pageText}
 use Rattle.uptime_page.specs.PageSays.{Small}
 
@@ -98,3 +99,11 @@ told-from (s ∷ ss) (r ∷ rs) n m a b e =
 pub page-tells : (ss rs : List Stretch) → Small ss → Small rs → pageText ss ≡ pageText rs → ss ≡ rs
 unfolding pageText
 page-tells ss rs a b e = told-from ss rs _ _ a b e
+
+-- a refusal begins with no digit and is no total
+pub no-refusal : (ss : List Stretch) (n : ℕ) → Small ss → pageText ss ≡ lineOf (Refused n) → ⊥
+unfolding pageText totalLine totalText lineOf refusedText line stretchLines
+no-refusal [] n a e = omega (arith, ap (λ (l : List ℕ). getD l 0 0) e)
+no-refusal (s ∷ ss) n a e =
+    let first = first-digit (s .first) (32 ∷ (decimal (s .ticks) ++ (10 ∷ (stretchLines ss ++ totalLine (sumOfTicks (s ∷ ss)))))) (a .0) in
+    omega (arith, first, ap (λ (l : List ℕ). getD l 0 0) (sym (opened s ss (totalLine (sumOfTicks (s ∷ ss)))) ∙ e))

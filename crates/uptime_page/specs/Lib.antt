@@ -3,3 +3,4 @@ pub mod Page
 pub mod Printing
 pub mod Words
 pub mod PageSays
+pub mod PageCases

@@ -35,6 +35,7 @@ printed input =
 abbrev pub mostBytes : ℕ
 mostBytes = 2833
 
--- the whole of a page told of the first n bytes of an input that has as many bytes as count, in an array of so many bytes
+-- the page of the first n bytes of an array with as many bytes as count: its bytes in an array of `mostBytes`, zeros past them, and their
+-- number
 abbrev pub PageOfInput : List ℕ → ℕ → List ℕ → ℕ → Type 0
 PageOfInput input n bytes count = (length input ≡ limit) × Filled mostBytes (printed (take n input)) bytes count

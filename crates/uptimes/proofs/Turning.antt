@@ -16,10 +16,11 @@ module _ (out : List ℕ) (at a b : ℕ) where
   unfolding putTwo
   two-not h = rw (le-ltb (at + 1) (length out) h)
 
-pub ends-here : (end : ℕ) (s : State) (out : List ℕ) → s .from < end → out ≡ putTwo (s .out) (s .count) (s .from) (end - s .from)
-    → (record { from = end; count = s .count + 2; total = s .total + (end - s .from); out = out }) ≡ ended end s
+pub ends-here : (end : ℕ) (s : State) (ticks : ℕ) (out : List ℕ) → s .from < end → ticks ≡ end - s .from
+    → out ≡ putTwo (s .out) (s .count) (s .from) ticks
+    → (record { from = end; count = s .count + 2; total = s .total + ticks; out = out }) ≡ ended end s
 unfolding ended
-ends-here end s out h e = rw (lt-ltb (s .from) end h, e)
+ends-here end s ticks out h t e = rw (lt-ltb (s .from) end h, e, t)
 
 pub ends-nowhere : (end : ℕ) (s : State) → end ≤ s .from → s ≡ ended end s
 unfolding ended

@@ -1,6 +1,6 @@
 // The up-time of a name's signal on a sheet: its up stretches before a horizon, and their total.
 ghost use mathlib.Core.Path.{_≡_};
-ghost use Prim.Native.Nat.{_≤_};
+ghost use Prim.Native.Nat.{_≤_, _-_};
 ghost use Rattle.signals.specs.Moment.{M as Moment·M};
 ghost use Rattle.signals.specs.Words.{listFault};
 ghost use Rattle.format.specs.Theorems.{decoded};
@@ -32,13 +32,20 @@ fn put_two(out: &mut [u32], at: usize, first: u32, second: u32)
     }
 }
 
+// The ticks from one date to another, none where that is not later.
+fn ticks_between(from: u32, end: u32) -> u32
+    ensures { λ r. ⌜ r ≡ end - from ⌝ }
+{
+    if from < end { end - from } else { 0 }
+}
+
 // Ends before a gap the stretch that is under way, where it has any gap: its words go to the output where they fit, and are counted.
 fn end_before(out: &mut [u32], going: Going, end: u32) -> Going
     requires { ⌜ CanGoOn going ⌝ }
     ensures { λ r. ⌜ stateOf r (now (out .exit)) ≡ ended end (stateOf going (now (out .entry))) ⌝ }
 {
     if going.from < end {
-        let ticks = end - going.from;
+        let ticks = ticks_between(going.from, end);
         put_two(out, going.count, going.from, ticks);
         return Going {
             from: end,

@@ -5,8 +5,8 @@ use borrow.Author.Needs.{needs}
 use Rattle.uptimes.proofs.end_before.Statement.{statement}
 use Rattle.uptimes.proofs.end_before.Tie as tie
 
-sub-ticks : tie.Need-sub-ticks
-sub-ticks c = search needs
+ticks-between-requires : tie.Need-ticks-between-requires
+ticks-between-requires c κs = search needs
 
 put-two-requires : tie.Need-put-two-requires
 put-two-requires c κs = search needs
@@ -23,12 +23,13 @@ same-length c = search needs
 returns : tie.Need-returns
 returns c =
     let put = c .before .before .before .before in
-    let test = put .before .before .before in
-    ends-here _ (stateOf _ _) _ (test .if1 .taken) (put .put-two .ensures)
+    let counted = put .before .before in
+    ends-here _ (stateOf _ _) _ _ (counted .before .if1 .taken) (counted .ticks-between .ensures) (put .put-two .ensures)
 
 returns-2 : tie.Need-returns-2
 returns-2 c = ends-nowhere _ (stateOf _ _) (c .if1 .left)
 
 pub end-before-spec : {M : Type 1} → statement M
 end-before-spec =
-    tie.close (tie.spec sub-ticks put-two-requires add-t9 add-t10 same-length returns returns-2)
+    tie.close
+    (tie.spec ticks-between-requires put-two-requires add-t9 add-t10 same-length returns returns-2)
