@@ -14,7 +14,7 @@ use Rattle.signals.specs.Wording.{IsGap, IsInstant}
 use Rattle.signals.specs.Implication.{earliest, firstFailing, verdictOf, failsIn}
 use Rattle.signals.specs.Earliest.{Refutes, FirstRefutes, Judged, Earliest}
 use Rattle.signals.specs.declared.Verdict.the-variants.{Holds, FailsAt, FailsAfter}
-use Rattle.signals.proofs.Truth.{not-up, not-of, and-left, and-right, and-of, not-both}
+use Rattle.signals.proofs.Truth.{at-or-after, not-up, not-of, and-left, and-right, and-of, not-both}
 use Rattle.signals.proofs.Settling.{settled-later}
 use Rattle.signals.proofs.Wording.{either, split, isGap-gap, isGap-instant, tick-gap, tick-instant}
 
@@ -95,13 +95,6 @@ one-told t u e = go (either t) (either u)
         let q : failsIn u ≡ FailsAt (b .0) = instant-told u b in
         let z : a .0 ≡ b .0 = cc in
         a .2 ∙ ap instant z ∙ sym (b .2)
-
-at-or-after : (t u : ℕ) → (t ≤ u) ⊎ (u < t)
-at-or-after t u = go (leb t u) refl
-  where
-    go : (b : Bool) → leb t u ≡ b → (t ≤ u) ⊎ (u < t)
-    go true e = inl (leb-true t u e)
-    go false e = inr (leb-false t u e)
 
 one-first : (f g : Signal) (t u : ℕ) → FirstRefutes f g t → FirstRefutes f g u → t ≡ u
 one-first f g t u a b =

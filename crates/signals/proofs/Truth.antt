@@ -1,5 +1,5 @@
 -- Truth values and bounded quantifiers over moments, one direction a lemma.
-use Prim.Native.Nat.{ℕ, zero, suc, _≤_}
+use Prim.Native.Nat.{ℕ, zero, suc, _≤_, _<_}
 use native.Mathlib.Omega.{arith}
 use mathlib.Core.Path.{_≡_, refl, sym, _∙_, ap}
 use mathlib.Core.Logic.{_⊎_, inl, inr}
@@ -91,6 +91,14 @@ some-up p (suc m) e = go (some-up p m) (or-cases (some p m) (p (suc m)) e)
     go : (Up (some p m) → (n : ℕ) × (n ≤ m) × Up (p n)) → Up (some p m) ⊎ Up (p (suc m)) → (n : ℕ) × (n ≤ suc m) × Up (p n)
     go h (inl u) = let (n, l, w) = h u in (n, omega arith, w)
     go h (inr u) = (suc m, omega arith, u)
+
+-- a number is at most another, or after it
+pub at-or-after : (t u : ℕ) → (t ≤ u) ⊎ (u < t)
+at-or-after t u = go (leb t u) refl
+  where
+    go : (b : Bool) → leb t u ≡ b → (t ≤ u) ⊎ (u < t)
+    go true e = inl (leb-true t u e)
+    go false e = inr (leb-false t u e)
 
 -- a number up to suc m is up to m, or suc m
 pub le-cases : (n m : ℕ) → n ≤ suc m → (n ≤ m) ⊎ (n ≡ suc m)

@@ -7,10 +7,10 @@ use mathlib.Core.List.{List, [], _∷_}
 use mathlib.Core.Logic.{_⊎_, inl, inr}
 use Rattle.signals.specs.Signal.{Signal}
 use Rattle.signals.specs.Quantified.{Up}
-use Rattle.signals.proofs.Truth.{true-false, not-both}
+use Rattle.signals.proofs.Truth.{at-or-after, true-false, not-both}
 use Rattle.stretches.specs.Stretches.{Stretch, begins, upFor, stretchesFrom, stretchesBefore}
 use Rattle.stretches.specs.LongestRuns.{IsAmong, InOrder}
-use Rattle.stretches.proofs.UpRuns.{at-or-after, begins-down, up-for-up}
+use Rattle.stretches.proofs.UpRuns.{begins-down, up-for-up}
 
 -- the stretch that begins with gap a, cut at H
 abbrev pub cutAt : Signal → ℕ → ℕ → Stretch

@@ -7,10 +7,10 @@ use mathlib.Core.Logic.{_⊎_, inl, inr, _↔_}
 use Rattle.signals.specs.Moment.{gap}
 use Rattle.signals.specs.Signal.{Signal}
 use Rattle.signals.specs.Quantified.{Up}
-use Rattle.signals.proofs.Truth.{not-both}
+use Rattle.signals.proofs.Truth.{at-or-after, not-both}
 use Rattle.stretches.specs.Stretches.{Stretch, begins, upFor, stretchesFrom, stretchesBefore}
 use Rattle.stretches.specs.LongestRuns.{Run, Longest, Cut, IsAmong, InOrder, StretchesOf, LongestRuns}
-use Rattle.stretches.proofs.UpRuns.{at-or-after, begins-up, begins-down, UpFrom}
+use Rattle.stretches.proofs.UpRuns.{begins-up, begins-down, UpFrom}
 use Rattle.stretches.proofs.UpRuns.{up-for-most, up-for-up, up-for-ends, back, back-most, back-begins, back-up}
 use Rattle.stretches.proofs.Listed.{cutAt, Begun, listed-begun, begun-listed, listed-ordered}
 

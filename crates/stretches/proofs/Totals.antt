@@ -8,11 +8,11 @@ use mathlib.Core.Logic.{_⊎_, inl, inr}
 use Rattle.signals.specs.Moment.{gap, instant}
 use Rattle.signals.specs.Signal.{Signal, num, NOT}
 use Rattle.signals.specs.Quantified.{Up, Down}
-use Rattle.signals.proofs.Truth.{not-both}
+use Rattle.signals.proofs.Truth.{at-or-after, not-both}
 use Rattle.stretches.specs.Stretches.{Stretch, begins, upFor, stretchesFrom, stretchesBefore, sumOfTicks}
 use Rattle.stretches.specs.LongestRuns.{IsAmong}
 use Rattle.stretches.specs.Totals.{upGaps, downGaps, Totals}
-use Rattle.stretches.proofs.UpRuns.{at-or-after, up-for-most, back, back-most, back-up}
+use Rattle.stretches.proofs.UpRuns.{up-for-most, back, back-most, back-up}
 use Rattle.stretches.proofs.Listed.{cutAt, listed-begun}
 use Rattle.stretches.proofs.LongestRuns.{RunOf, listed-at, stretches-of}
 use Rattle.stretches.proofs.FewStretches.{two-words, few-words}

@@ -4,20 +4,11 @@ use native.Mathlib.Omega.{arith}
 use mathlib.Core.Path.{_≡_, refl, subst}
 use mathlib.Core.Bool.{Bool, true, false, not, cond, _&&_}
 use mathlib.Core.Logic.{_⊎_, inl, inr}
-use lib.Dec.{leb}
-use borrow.Author.Tests.{leb-true, leb-false}
 use Rattle.signals.specs.Moment.{gap}
 use Rattle.signals.specs.Signal.{Signal}
 use Rattle.signals.specs.Quantified.{Up, Down}
-use Rattle.signals.proofs.Truth.{and-left, and-right, and-of, not-up, not-of, not-both}
+use Rattle.signals.proofs.Truth.{at-or-after, and-left, and-right, and-of, not-up, not-of, not-both}
 use Rattle.stretches.specs.Stretches.{begins, upFor}
-
-pub at-or-after : (a b : ℕ) → (a ≤ b) ⊎ (b < a)
-at-or-after a b = go (leb a b) refl
-  where
-    go : (t : Bool) → leb a b ≡ t → (a ≤ b) ⊎ (b < a)
-    go true e = inl (leb-true a b e)
-    go false e = inr (leb-false a b e)
 
 -- the gap that begins a stretch is up, and the one before it is down
 pub begins-up : (f : Signal) (k : ℕ) → Up (begins f k) → Up (f (gap k))

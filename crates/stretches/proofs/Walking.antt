@@ -12,12 +12,12 @@ use Rattle.signals.specs.Signal.{Signal}
 use Rattle.signals.specs.Words.{dateOf, headValue, valueAfter, valueFrom, signalOf}
 use Rattle.signals.specs.Normal.{Rising}
 use Rattle.signals.specs.Quantified.{Up, Down}
-use Rattle.signals.proofs.Truth.{bool-ext, true-false, down-of, not-both}
+use Rattle.signals.proofs.Truth.{at-or-after, bool-ext, true-false, down-of, not-both}
 use Rattle.signals.proofs.Operand.{value-none, value-before, value-after, value-held}
 use Rattle.signals.proofs.Normal.{accepted-normal, dates-rise}
 use Rattle.stretches.specs.Stretches.{Stretch, begins, upFor, stretchesFrom, stretchesBefore}
 use Rattle.stretches.specs.Walk.{between, lastWalked, walked, WalkExact}
-use Rattle.stretches.proofs.UpRuns.{at-or-after, begins-up, begins-down, begins-of, up-for-is}
+use Rattle.stretches.proofs.UpRuns.{begins-up, begins-down, begins-of, up-for-is}
 
 -- gaps that begin no stretch are passed over
 skip : (f : Signal) (k m n : ℕ) → ((j : ℕ) → k ≤ j → j < k + m → Down (begins f j)) → stretchesFrom f k (m + n) ≡ stretchesFrom f (k + m) n

@@ -11,6 +11,7 @@ use Rattle.signals.specs.Moment.{M}
 use Rattle.signals.specs.Words.{dateOf, valueAfter, mostWords}
 use Rattle.signals.specs.Normal.{Accepted}
 use Rattle.signals.specs.Passing.{heldValue}
+use Rattle.signals.proofs.Truth.{at-or-after}
 use Rattle.signals.proofs.Normal.{accepted-normal, accepted-start}
 use Rattle.reading.specs.Reading.{NEVER}
 use Rattle.reading.specs.declared.Step.{Step}
@@ -26,7 +27,6 @@ use Rattle.sources.proofs.Sourcing.{words-at}
 use Rattle.sources.proofs.Readers.{Reading, start-passed, reads-start, reads-date, reads-held}
 use Rattle.lent_slots.proofs.WordReaders.{word-left, word-step, word-passed, word-on}
 use Rattle.format.specs.Theorems.{decoded}
-use Rattle.stretches.proofs.UpRuns.{at-or-after}
 use Rattle.uptimes.specs.Turns.{State, ended, pastWord, FoundIn}
 use Rattle.uptimes.proofs.AlongWords.{Along, begun, along-start, along-next, found-up, found-down}
 
