@@ -4,12 +4,13 @@ use native.Mathlib.Omega.{arith}
 use mathlib.Core.Path.{_≡_, refl, sym, ap, _∙_, subst}
 use mathlib.Core.Bool.{Bool, true, false, cond, true≢false}
 use mathlib.Core.List.{List, _++_}
-use lib.Dec.{ltb}
+use lib.Dec.{leb, ltb}
 use lib.ListN.{length, drop, take}
-use borrow.Author.Tests.{lt-ltb, le-ltb, ne-eqb}
+use borrow.Author.Tests.{lt-ltb, le-ltb, le-leb, leb-true, leb-false, ne-eqb}
 use Rattle.slices.specs.Bytes.{Bytes}
 use Rattle.signals.specs.Moment.{M}
-use Rattle.signals.specs.Words.{listFault, signalOf}
+use Rattle.signals.specs.Words.{mostWords, listFault, signalOf}
+use Rattle.signals.specs.Normal.{Accepted}
 use Rattle.signals.specs.Signal.{Signal}
 use Rattle.signals.specs.Answers.{firstOf, outputOf}
 use Rattle.signals.proofs.FirstFault.{first-is, first-some, next-is}
@@ -24,7 +25,8 @@ use Rattle.stretches.specs.Stretches.{stretchesBefore, sumOfTicks, stretchWords
 use Rattle.stretches.specs.Calls.{upTimeFor, stretchesOn, horizonFault, upTimeWords, upTimeFault, CallOfUpTime}
 use Rattle.stretches.specs.declared.UpTime.{UpTime}
 use Rattle.stretches.specs.declared.UpTime.the-variants.{Told, Refused}
-use Rattle.uptimes.specs.Turns.{FoundIn, TellsUpTime}
+use Rattle.stretches.proofs.FewStretches.{few-words}
+use Rattle.uptimes.specs.Turns.{FoundIn, fitsIn, TellsUpTime}
 
 -- refused with a fault, and nothing is written
 refused-by : (f fault count total : ℕ) (words out : List ℕ) → fault ≡ f → (f ≡ 0 → ⊥)
@@ -32,21 +34,30 @@ refused-by : (f fault count total : ℕ) (words out : List ℕ) → fault ≡ f 
 unfolding upTimeFor outputOf
 refused-by f fault count total words out e n = rw (e, ne-eqb f 0 n) (refl, refl)
 
--- of a list's stretches: the output is too short, or holds them
-module _ (l : List ℕ) (H : ℕ) (out : List ℕ) where
-  pub too-short : (count total : ℕ) (other after : List ℕ) → FoundIn l H count total other after → length out < count
-      → TellsUpTime l H out (Refused 7) out
-  too-short count total other after f h =
-      let e = f .0 in
-      refused-by 7 _ _ _ _ out (rw (lt-ltb (length out) (length (stretchWords (stretchesBefore (signalOf l) H))) (omega (arith, h, e))))
-      (λ z. omega (arith, z))
+-- of a list's stretches: they fit, or the output is too short
+module _ (l : List ℕ) (H : ℕ) where
+  abbrev size : ℕ
+  size = length (stretchWords (stretchesBefore (signalOf l) H))
 
-  pub all-told : (n : ℕ) → length (stretchWords (stretchesBefore (signalOf l) H)) ≡ n → n ≤ length out
-      → (count total : ℕ) (after : List ℕ) → FoundIn l H count total out after → TellsUpTime l H out (Told count total) after
-  unfolding upTimeFor outputOf
-  all-told n e h count total after f =
-      rw (le-ltb (length out) (length (stretchWords (stretchesBefore (signalOf l) H))) (omega (arith, e, h)), f .0, f .1)
-      (refl, f .2 (omega (arith, e, h)))
+  pub always-fit : Accepted l → (room : ℕ) → mostWords ≤ room → true ≡ fitsIn l H room
+  unfolding fitsIn
+  always-fit a room h = sym (le-leb size room (omega (arith, h, few-words l H a)))
+
+  pub counted-fit : (count total room : ℕ) (other after : List ℕ) → FoundIn l H count total other after → leb count room ≡ fitsIn l H room
+  unfolding fitsIn
+  counted-fit count total room other after f = ap (λ (n : ℕ). leb n room) (f .0)
+
+  pub too-short : (out : List ℕ) → fitsIn l H (length out) ≡ false → TellsUpTime l H out (Refused 7) out
+  unfolding fitsIn
+  too-short out e =
+      refused-by 7 _ _ _ _ out (rw (lt-ltb (length out) size (leb-false size (length out) e))) (λ z. omega (arith, z))
+
+  pub all-told : (out : List ℕ) → fitsIn l H (length out) ≡ true → (count total : ℕ) (after : List ℕ)
+      → FoundIn l H count total out after → TellsUpTime l H out (Told count total) after
+  unfolding upTimeFor outputOf fitsIn
+  all-told out e count total after f =
+      let h : size ≤ length out = leb-true size (length out) e in
+      rw (le-ltb (length out) size h, f .0, f .1) (refl, f .2 h)
 
 -- a refusal has a number
 is-refusal : Place → Bool

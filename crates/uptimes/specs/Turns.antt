@@ -4,7 +4,7 @@ use Prim.Native.Nat.{ℕ, _+_, _-_, _≤_}
 use mathlib.Core.Path.{_≡_}
 use mathlib.Core.Bool.{Bool, cond}
 use mathlib.Core.List.{List, _++_}
-use lib.Dec.{ltb}
+use lib.Dec.{leb, ltb}
 use lib.ListN.{length, drop, set}
 use Rattle.signals.specs.Words.{signalOf}
 use Rattle.signals.specs.Answers.{outputOf}
@@ -55,6 +55,10 @@ FoundIn l H count total out after =
     (count ≡ length (stretchWords ss))
     × (total ≡ sumOfTicks ss)
     × (length (stretchWords ss) ≤ length out → after ≡ stretchWords ss ++ drop (length (stretchWords ss)) out)
+
+-- they fit an output of so many words
+unfoldable pub fitsIn : List ℕ → ℕ → ℕ → Bool
+fitsIn l H room = leb (length (stretchWords (stretchesBefore (signalOf l) H))) room
 
 -- the answer of a list's up-time, 7 where the output is too short
 abbrev pub TellsUpTime : List ℕ → ℕ → List ℕ → UpTime → List ℕ → Type 0

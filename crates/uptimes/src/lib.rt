@@ -5,10 +5,11 @@ ghost use Rattle.signals.specs.Moment.{M as Moment·M};
 ghost use Rattle.signals.specs.Words.{listFault};
 ghost use Rattle.format.specs.Theorems.{decoded};
 ghost use Rattle.stretches.specs.Calls.{CallOfUpTime};
-ghost use Rattle.uptimes.specs.Turns.{CanGoOn, stateOf, putTwo, ended, pastWord, FoundIn, TellsUpTime};
+ghost use Rattle.uptimes.specs.Turns.{CanGoOn, stateOf, putTwo, ended, pastWord, FoundIn, fitsIn, TellsUpTime};
 use format::Place;
 use signals::Date;
 use signals::M;
+use signals::WORDS;
 use sources::Memory;
 use sources::Source;
 use stretches::UpTime;
@@ -105,22 +106,36 @@ fn stretches_in(part: &[u8], h: u32, out: &mut [u32]) -> Going
     going
 }
 
-// The up-time of an accepted list: measured first, since a refused call writes nothing.
+// The words of an accepted list's stretches fit a room: those of a list always do where it has as many words as a list may have; else they
+// are counted.
+fn fits(part: &[u8], h: u32, room: usize) -> bool
+    requires { ⌜ listFault (decoded (now part)) ≡ 0 ⌝ }
+    requires { ⌜ h ≤ Moment·M ⌝ }
+    ensures { λ r. ⌜ r ≡ fitsIn (decoded (now (part .entry))) h room ⌝ }
+{
+    if WORDS <= room {
+        return true;
+    }
+    let mut nowhere = [0u32; 1];
+    let found = stretches_in(part, h, &mut nowhere);
+    found.count <= room
+}
+
+// The up-time of an accepted list: a refused call writes nothing.
 fn up_time_of(part: &[u8], h: u32, out: &mut [u32]) -> UpTime
     requires { ⌜ listFault (decoded (now part)) ≡ 0 ⌝ }
     requires { ⌜ h ≤ Moment·M ⌝ }
     ensures { λ r. ⌜ TellsUpTime (decoded (now (part .entry))) h (now (out .entry)) r (now (out .exit)) ⌝ }
 {
-    let mut nowhere = [0u32; 1];
-    let found = stretches_in(part, h, &mut nowhere);
-    if out.len() < found.count {
-        return UpTime::Refused(7);
+    let room = out.len();
+    if fits(part, h, room) {
+        let written = stretches_in(part, h, out);
+        return UpTime::Told {
+            count: written.count,
+            total: written.total,
+        };
     }
-    let written = stretches_in(part, h, out);
-    UpTime::Told {
-        count: written.count,
-        total: written.total,
-    }
+    UpTime::Refused(7)
 }
 
 // The up stretches of a name's signal before a horizon, the first gap and the length of each, and their total: faults sheet, 16, 13, 19, 7.
