@@ -22,6 +22,7 @@
  *   place     (uint64_t) 2^24 * first byte + byte count of a signal's words on the sheet; refused, 2^48 * fault, and the first
  *             byte and the count are 0.
  *   up-time   (uint64_t) 2^16 * total in ticks + count of the words written; refused, 2^48 * fault, and total and count are 0.
+ *             Refused, nothing is written; words past the count keep what they held.
  *
  * Faults.
  *    1 list empty or over 256 words                  10 formula empty or over 1,024 bytes
@@ -33,7 +34,7 @@
  *    7 output shorter than the answer                16 name malformed or repeated
  *    8 length above M                                17 sheet list breaks 1 to 4
  *    9 instant 0, or date above M                    18 work area under 8,192 words
- *                                                    19 horizon above M
+ *                                                    19 horizon above M (of the program also: not written as a length is)
  */
 #ifndef RASCRUNEL_H
 #define RASCRUNEL_H
@@ -56,7 +57,7 @@ extern "C" {
 /* The most stack that a call needs, 128 KB: bindings/c/stack.c makes the deepest calls in threads of it. */
 #define SGL_STACK_BYTES 131072u
 
-/* The parts of a result. */
+/* The parts of a result. SGL_FAULT and SGL_COUNT are for uint32_t results only. */
 #define SGL_FAULT(result) ((uint32_t)(result) / 65536u)
 #define SGL_COUNT(result) ((uint32_t)(result) % 65536u)
 #define SGL_VERDICT_FAULT(verdict) ((uint32_t)((uint64_t)(verdict) >> 40))

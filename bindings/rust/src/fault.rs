@@ -46,7 +46,7 @@ faults! {
     Name = 16, "name malformed or repeated";
     SheetList = 17, "a list in the sheet breaks the rules of lists";
     ShortWork = 18, "work area under 8,192 words";
-    HorizonAboveM = 19, "horizon above 1073741823";
+    HorizonAboveM = 19, "horizon above 1073741823 (of the program also: not written as a length is)";
 }
 
 impl Fault {

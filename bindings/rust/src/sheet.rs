@@ -46,7 +46,7 @@ impl Sheet {
         List::new(&words)
     }
 
-    /// When a signal was up before the date h: its up stretches, and their total in ticks.
+    /// When a signal was up before the date h: its up stretches, and their total in ticks. Faults 16, 13, 19.
     ///
     /// ```
     /// # use rascrunel::Sheet;
@@ -57,7 +57,7 @@ impl Sheet {
     /// # Ok::<(), rascrunel::Fault>(())
     /// ```
     pub fn uptime(&self, name: &str, h: u32) -> Result<UpTime, Fault> {
-        // as many words as a list has: no signal has more than half as many stretches
+        // the most words of a list: no signal has more than half as many stretches, so that 7 cannot come
         let mut out = [0; LIST_WORDS];
         let (count, total) = calls::uptime(&self.bytes, name.as_bytes(), h, &mut out)?;
         let stretches = out[..count].chunks_exact(2).map(|pair| Stretch { first: pair[0], length: pair[1] }).collect();

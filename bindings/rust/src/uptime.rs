@@ -9,7 +9,7 @@ pub struct Stretch {
     pub length: u32,
 }
 
-/// When a signal was up before a horizon. It prints as the page of the program `uptime`.
+/// When a signal was up before a horizon. It prints as the page of the program `uptime`, without the last line feed.
 #[derive(Clone, Debug, PartialEq, Eq, Hash)]
 pub struct UpTime {
     /// In order of time, at most 128; a down gap lies between two.

@@ -1,4 +1,4 @@
--- Believed: The program's work on an input: the claim that the input makes, and the line of its answer.
+-- Believed: The work of the program `claim` on an input: the claim that the input makes, and the line of its answer.
 use Prim.Native.Nat.{ℕ}
 use mathlib.Core.Path.{_≡_}
 use mathlib.Core.List.{List}

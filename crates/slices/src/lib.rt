@@ -1,4 +1,4 @@
-// What sheets and the program's report do with bytes.
+// What sheets and the programs do with bytes.
 ghost use mathlib.Core.Path.{_≡_};
 ghost use Prim.Native.Nat.{_<_};
 ghost use lib.ListN.{length, drop};

@@ -14,7 +14,7 @@ use Rattle.stretches.specs.Stretches.{begins, upFor}
 pub begins-up : (f : Signal) (k : ℕ) → Up (begins f k) → Up (f (gap k))
 unfolding begins
 begins-up f zero e = e
-begins-up f (suc k) e = and-left (f (gap (suc k))) (not (f (gap k))) e
+begins-up f (suc k) e = and-left (f (gap (suc k))) _ e
 
 pub begins-down : (f : Signal) (k : ℕ) → Up (begins f (suc k)) → Down (f (gap k))
 unfolding begins

@@ -38,7 +38,7 @@ stretchesOn sheet name H = stretchesBefore (environmentOn sheet name) H
 unfoldable pub horizonFault : ℕ → ℕ
 horizonFault H = cond (ltb M H) 19 0
 
--- their words, two a stretch
+-- the words of these stretches, two each
 unfoldable pub upTimeWords : List ℕ → List ℕ → ℕ → List ℕ
 upTimeWords sheet name H = stretchWords (stretchesOn sheet name H)
 

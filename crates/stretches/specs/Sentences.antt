@@ -1,5 +1,4 @@
--- Statement: When each fault of the up-time call is given, what it gives without one, and that its answer's reading and its giving are one
--- definition of the cases.
+-- Statement: When each fault of the up-time call is given, what it gives without one, and that an answer is read as what it was given of.
 use Prim.Native.Nat.{ℕ, _≤_, _<_}
 use mathlib.Core.Path.{_≡_}
 use mathlib.Core.List.{List, _++_}

@@ -32,7 +32,7 @@ pub record Totals : Type 0 where
   pub lone : (f g : Signal) (H i : ℕ) → 1 ≤ i → ((t : ℕ) → (t ≡ instant i → ⊥) → f t ≡ g t) → stretchesBefore f H ≡ stretchesBefore g H
   -- and so have those that differ at instants and in gaps from H on
   pub gapsAlone : (f g : Signal) (H : ℕ) → ((k : ℕ) → k < H → f (gap k) ≡ g (gap k)) → stretchesBefore f H ≡ stretchesBefore g H
-  -- no line where f is down in the gap: neither before a lone instant nor after it
+  -- no stretch has a down gap: an up instant between two down gaps has no line
   pub noLine : (f : Signal) (H k : ℕ) → Down (f (gap k)) → (s : Stretch) → IsAmong (stretchesBefore f H) s → s .first ≤ k
       → k < s .first + s .ticks → ⊥
   -- what is up before instant i and after it is in one stretch, whatever it is at i

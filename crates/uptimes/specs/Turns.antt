@@ -21,11 +21,11 @@ pub record State : Type 0 where
   pub out : List ℕ
 
 abbrev pub stateOf : Going → List ℕ → State
-stateOf going out = record { from = going .from; count = going .«count»; total = going .total; out = out }
+stateOf going out = record { from = going .from .0; count = going .«count»; total = going .total; out = out }
 
 -- no sum of a going-on passes 2^32: the stretches so far lie before the gap since which the value is held, and have few words
 abbrev pub CanGoOn : Going → Type 0
-CanGoOn going = (going .total ≤ going .from) × (going .«count» ≤ 1024)
+CanGoOn going = (going .total ≤ going .from .0) × (going .«count» ≤ 1024)
 
 -- two words at a place of an output, where both fit
 unfoldable pub putTwo : List ℕ → ℕ → ℕ → ℕ → List ℕ

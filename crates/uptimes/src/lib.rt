@@ -8,6 +8,7 @@ ghost use Rattle.stretches.specs.Calls.{CallOfUpTime};
 ghost use Rattle.uptimes.specs.Turns.{CanGoOn, stateOf, putTwo, ended, pastWord, FoundIn, fitsIn, TellsUpTime};
 use format::Place;
 use signals::Date;
+use signals::Length;
 use signals::M;
 use signals::WORDS;
 use sources::Memory;
@@ -16,7 +17,7 @@ use stretches::UpTime;
 
 // On the way along a list: the gap since which the value is held, the words of the stretches so far, and their ticks.
 struct Going {
-    from: u32,
+    from: Date,
     count: usize,
     total: u32,
 }
@@ -33,34 +34,38 @@ fn put_two(out: &mut [u32], at: usize, first: u32, second: u32)
     }
 }
 
-// The ticks from one date to another, none where that is not later.
-fn ticks_between(from: u32, end: u32) -> u32
-    ensures { λ r. ⌜ r ≡ end - from ⌝ }
+// The length from one date to another, 0 where that is not later.
+fn length_between(from: Date, end: Date) -> Length
+    ensures { λ r. ⌜ r .0 ≡ end .0 - from .0 ⌝ }
 {
-    if from < end { end - from } else { 0 }
+    if end.0 <= from.0 {
+        return Length(0);
+    }
+    Length(end.0 - from.0)
 }
 
 // Ends before a gap the stretch that is under way, where it has any gap: its words go to the output where they fit, and are counted.
-fn end_before(out: &mut [u32], going: Going, end: u32) -> Going
+fn end_before(out: &mut [u32], going: Going, end: Date) -> Going
     requires { ⌜ CanGoOn going ⌝ }
-    ensures { λ r. ⌜ stateOf r (now (out .exit)) ≡ ended end (stateOf going (now (out .entry))) ⌝ }
+    ensures { λ r. ⌜ stateOf r (now (out .exit)) ≡ ended (end .0) (stateOf going (now (out .entry))) ⌝ }
 {
-    if going.from < end {
-        let ticks = ticks_between(going.from, end);
-        put_two(out, going.count, going.from, ticks);
+    let from = going.from;
+    if from.0 < end.0 {
+        let length = length_between(from, end);
+        put_two(out, going.count, from.0, length.0);
         return Going {
             from: end,
             count: going.count + 2,
-            total: going.total + ticks,
+            total: going.total + length.0,
         };
     }
     going
 }
 
 // Past a date, by the values before it and after it.
-fn pass(out: &mut [u32], going: Going, date: u32, before: bool, after: bool) -> Going
+fn pass(out: &mut [u32], going: Going, date: Date, before: bool, after: bool) -> Going
     requires { ⌜ CanGoOn going ⌝ }
-    ensures { λ r. ⌜ stateOf r (now (out .exit)) ≡ pastWord date before after (stateOf going (now (out .entry))) ⌝ }
+    ensures { λ r. ⌜ stateOf r (now (out .exit)) ≡ pastWord (date .0) before after (stateOf going (now (out .entry))) ⌝ }
 {
     if before {
         if after {
@@ -88,26 +93,27 @@ fn stretches_in(part: &[u8], h: u32, out: &mut [u32]) -> Going
     };
     let none = [0u32; 1];
     let mut going = Going {
-        from: 0,
+        from: Date(0),
         count: 0,
         total: 0,
     };
     let mut reader = sources::start(part, &none, &none, &none, list);
     while reader.date < h {
-        let date = reader.date;
-        let passed = sources::past(part, &none, &none, &none, list, reader, Date(date));
+        let date = Date(reader.date);
+        let passed = sources::past(part, &none, &none, &none, list, reader, date);
         let step = passed.step;
         going = pass(out, going, date, step.before, step.after);
         reader = passed.next;
     }
+    // the value held after the last word passed is up
     if reader.last % 2 == 1 {
-        return end_before(out, going, h);
+        return end_before(out, going, Date(h));
     }
     going
 }
 
-// The words of an accepted list's stretches fit a room: those of a list always do where it has as many words as a list may have; else they
-// are counted.
+// Whether the words of an accepted list's stretches fit a room: one of as many words as a list may have always does; else they are
+// counted.
 fn fits(part: &[u8], h: u32, room: usize) -> bool
     requires { ⌜ listFault (decoded (now part)) ≡ 0 ⌝ }
     requires { ⌜ h ≤ Moment·M ⌝ }

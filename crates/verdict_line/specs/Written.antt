@@ -15,7 +15,7 @@ longest = 23
 unfoldable pub over : List ℕ → List ℕ → List ℕ
 over text old = text ++ drop (length text) old
 
--- a text of so many bytes in an array of zeros, `room` of them, within its bytes
+-- a text at the front of an array of `room` bytes, zeros past it, and the number of its bytes
 abbrev pub Filled : ℕ → List ℕ → List ℕ → ℕ → Type 0
 Filled room text bytes count =
     (count ≡ length text)
