@@ -120,13 +120,6 @@ impl<'a> Reader<'a> {
     }
 }
 
-// The value after the words passed.
-pub fn held_value(words: &[u32], passed: usize) -> bool
-    ensures { λ r. ⌜ r ≡ heldValue (now (words .entry)) passed ⌝ }
-{
-    reader_at(words, passed).held()
-}
-
 // The date of the next word.
 pub fn next_date(words: &[u32], passed: usize) -> Date
     ensures { λ r. ⌜ r .0 ≡ nextDate (now (words .entry)) passed ⌝ }

@@ -16,7 +16,7 @@ use Rattle.signals.specs.Normal.{Normal, Rising}
 use Rattle.signals.specs.Tidying.{Tidying}
 use Rattle.signals.specs.Words.{tidied}
 use Rattle.signals.proofs.Scan.{scan-to, scan-settled}
-use Rattle.signals.proofs.Operand.{Ahead, At, at-start, pass-word, no-fault-rise, value-none}
+use Rattle.signals.proofs.Operand.{Ahead, pass-word, no-fault-rise, value-none}
 use Rattle.signals.proofs.Normal.{last-le, ahead-settled, start, read-back, unique, accepted-normal, list-of-signal}
 
 -- what tidying accepts
@@ -42,11 +42,6 @@ pub tidy-settled : (l : List ℕ) → tidyFault l ≡ 0 → SettledFrom (signalO
 unfolding lastDate
 tidy-settled [] z = absurd (not-empty z)
 tidy-settled (h ∷ ws) z = ahead-settled (signalOf (h ∷ ws)) 0 (headValue h) ws (start h ws (tidy h ws z .rises))
-
--- a list to be tidied as an operand
-pub tidy-start : (l : List ℕ) → tidyFault l ≡ 0 → At (signalOf l) l 1 0
-tidy-start [] z = absurd (not-empty z)
-tidy-start (h ∷ ws) z = at-start h ws (tidy h ws z .first) (tidy h ws z .rises)
 
 -- one date gives at most one word, so the scan has no more words than the operand
 entry-length : (v : Bool) (d : ℕ) (a b : Bool) → length (entry v d a b) ≤ 1

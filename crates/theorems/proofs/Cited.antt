@@ -282,8 +282,17 @@ stretches-Walk-WalkExact = Rattle.stretches.proofs.Walking.walk-exact
 pub texts-DecimalRight-DecimalRight : Rattle.texts.specs.DecimalRight.DecimalRight
 texts-DecimalRight-DecimalRight = Rattle.texts.proofs.DecimalRight.decimal-right
 
+pub tidying-Kept-KeptExact : Rattle.tidying.specs.Kept.KeptExact
+tidying-Kept-KeptExact = Rattle.tidying.proofs.Keeps.kept-exact
+
+pub tidying-TidyingFaults-TidyingFaultsExact : Rattle.tidying.specs.TidyingFaults.TidyingFaultsExact
+tidying-TidyingFaults-TidyingFaultsExact = Rattle.tidying.proofs.TidyingFaults.tidying-faults-exact
+
 pub tidying-TidyingGives-TidyingGives : Rattle.tidying.specs.TidyingGives.TidyingGives
 tidying-TidyingGives-TidyingGives = Rattle.tidying.proofs.TidyingGives.tidying-gives
+
+pub tidying-TidyingSays-TidyingSays : Rattle.tidying.specs.TidyingSays.TidyingSays
+tidying-TidyingSays-TidyingSays = Rattle.tidying.proofs.TidyingSays.tidying-says
 
 pub uptime_page-PageCases-PageCases : Rattle.uptime_page.specs.PageCases.PageCases
 uptime_page-PageCases-PageCases = Rattle.uptime_page.proofs.PageCases.page-cases

@@ -19,7 +19,7 @@ use Rattle.tidying.specs.Calls.{tidyingFault}
 use Rattle.tidying.specs.TidyingGives.{TidyingGives}
 
 -- what tidying without a fault passed
-tidied-fits : (l : List ℕ) (n : ℕ) → tidyingFault l n ≡ 0 → (tidyFault l ≡ 0) × (length (tidied l) ≤ n)
+pub tidied-fits : (l : List ℕ) (n : ℕ) → tidyingFault l n ≡ 0 → (tidyFault l ≡ 0) × (length (tidied l) ≤ n)
 unfolding tidyingFault
 tidied-fits l n z =
     let b = both-none (tidyFault l) (cond (ltb n (length (tidied l))) 7 0) z in
@@ -29,7 +29,7 @@ tidied-fits l n z =
     go true e y = absurd (omega arith)
     go false e y = ltb-false n (length (tidied l)) e
 
-tidied-within : (l : List ℕ) → WithinM l → WithinM (tidied l)
+pub tidied-within : (l : List ℕ) → WithinM l → WithinM (tidied l)
 unfolding tidied
 tidied-within l h = within (signalOf l) (lastDate l) (lastDate-bound M l h)
 

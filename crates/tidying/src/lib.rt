@@ -1,102 +1,91 @@
-// Tidying: lists that break only rule 4, made normal.
+// Tidying: lists that break only rule 4, made normal. It keeps no array: a first pass judges the dates and counts the words to be kept, and
+// once they are known to fit they are written straight into the output.
 ghost use mathlib.Core.Path.{_≡_};
-ghost use Prim.Native.Nat.{_<_, _≤_};
-ghost use lib.ListN.{length, drop, set};
-ghost use Rattle.signals.specs.Moment.{M};
-ghost use Rattle.signals.specs.Words.{datesFault, tidyFault};
+ghost use mathlib.Core.List.{_++_};
+ghost use Prim.Native.Nat.{_≤_};
+ghost use lib.ListN.{length, drop};
+ghost use Rattle.lists.specs.Head.{headFault};
 ghost use Rattle.tidying.specs.Calls.{CallOfTidying};
-ghost use Rattle.tidying.specs.Keeping.{KeptWord, KeptWords};
+ghost use Rattle.tidying.specs.Counting.{change, notAbove, Counted};
+ghost use Rattle.tidying.specs.Kept.{kept};
+use building::hand_over;
 use lists::head_fault;
-use reading::Step;
-use reading::held_value;
-use reading::next_date;
-use reading::past;
-use signals::Date;
 use signals::Written;
-use words::changes_nothing;
-use words::index;
 
-// The fault of the dates of the words after the first.
-fn dates_fault(list: &[u32]) -> u32
-    requires { ⌜ 0 < length (now list) ⌝ }
-    ensures { λ r. ⌜ r ≡ datesFault 0 (drop 1 (now (list .entry))) ⌝ }
-{
-    let mut passed: usize = 1;
-    let mut last: u32 = 0;
-    while passed < list.len() {
-        let date = next_date(list, passed);
-        if date.0 <= last {
-            return 3;
-        }
-        last = date.0;
-        passed += 1;
-    }
-    0
+// What the first pass counts: the words to be kept, the first one always, and those that are not dated above the word before.
+struct Counts {
+    kept: u32,
+    wrong: u32,
 }
 
-// The fault of a list to be tidied, 0 for none.
-fn tidy_fault(list: &[u32]) -> u32
-    ensures { λ r. ⌜ r ≡ tidyFault (now (list .entry)) ⌝ }
+// 0 for a word that changes nothing, both its values being the one after the word before it, else 1.
+fn changes(before: u32, w: u32) -> u32
+    ensures { λ r. ⌜ r ≡ change before w ⌝ }
 {
-    let fault = head_fault(list);
-    if fault != 0 {
-        return fault;
-    }
-    dates_fault(list)
+    if w % 4 == 3 * (before % 2) { 0 } else { 1 }
 }
 
-// A word written at a place that the output has.
-fn put(out: &mut [u32], place: usize, w: u32)
-    ensures { λ r. ⌜ now (out .exit) ≡ set (now (out .entry)) place w ⌝ }
+// 1 for a word that is not dated above the word before it, else 0.
+fn not_above(before: u32, w: u32) -> u32
+    ensures { λ r. ⌜ r ≡ notAbove before w ⌝ }
 {
-    if place < out.len() {
+    if w / 4 <= before / 4 { 1 } else { 0 }
+}
+
+// The first pass. It does not stop at a date that is not above the last, so that no turn waits for the one before.
+fn count_words(list: &[u32]) -> Counts
+    requires { ⌜ headFault (now list) ≡ 0 ⌝ }
+    ensures { λ r. ⌜ Counted (now (list .entry)) (r .kept) (r .wrong) ⌝ }
+{
+    let mut kept: u32 = 1;
+    let mut wrong: u32 = 0;
+    let mut i: usize = 1;
+    while i < list.len() {
+        let before = list[i - 1];
+        let w = list[i];
+        kept += changes(before, w);
+        wrong += not_above(before, w);
+        i += 1;
+    }
+    Counts { kept, wrong }
+}
+
+// The words to be kept, at the front of an output that has room for them. Each word is put at the next free place; one that changes nothing
+// does not fill it, and the next is put over it. It ends when all are there, so that no place past them is written.
+fn keep_words(list: &[u32], count: usize, out: &mut [u32])
+    requires { ⌜ (headFault (now list) ≡ 0) × (count ≡ length (kept (now list))) × (count ≤ length (now out)) ⌝ }
+    ensures { λ r. ⌜ now (out .exit) ≡ kept (now (list .entry)) ++ drop count (now (out .entry)) ⌝ }
+{
+    out[0] = list[0];
+    let mut place: usize = 1;
+    let mut i: usize = 1;
+    while place < count {
+        let w = list[i];
         out[place] = w;
+        place += changes(list[i - 1], w) as usize;
+        i += 1;
     }
 }
 
-// The word of a date, counted and put, unless it changes nothing.
-fn keep_word(out: &mut [u32], count: usize, date: Date, step: Step) -> usize
-    requires { ⌜ (date .0 ≤ M) × (count < 4294967296) ⌝ }
-    ensures { λ r. ⌜ KeptWord (now (out .entry)) count (date .0) step r (now (out .exit)) ⌝ }
-{
-    let w = words::word_of(date, step.at, step.after) as u32;
-    if changes_nothing(step.before, w) {
-        return count;
-    }
-    put(out, count, w);
-    count + 1
-}
-
-// The tidied words, counted, and written as far as the output goes.
-fn keep_words(list: &[u32], out: &mut [u32]) -> usize
-    requires { ⌜ tidyFault (now list) ≡ 0 ⌝ }
-    ensures { λ r. ⌜ KeptWords (now (list .entry)) (now (out .entry)) r (now (out .exit)) ⌝ }
-{
-    put(out, 0, index(held_value(list, 1)) as u32);
-    let mut count: usize = 1;
-    let mut passed: usize = 1;
-    while passed < list.len() {
-        let date = next_date(list, passed);
-        let step = past(list, passed, date);
-        count = keep_word(out, count, date, step);
-        passed = step.passed;
-    }
-    count
-}
-
-// Tidying: counted first, so that nothing is written when the output is too short.
+// Tidying: faults 1, 2, 3, then 7. A list whose every word is kept is handed over as it is.
 pub fn tidy(list: &[u32], out: &mut [u32]) -> Written
     ensures { λ r. ⌜ CallOfTidying (now (list .entry)) (now (out .entry)) r (now (out .exit)) ⌝ }
 {
-    let fault = tidy_fault(list);
+    let fault = head_fault(list);
     if fault != 0 {
         return Written::Refused(fault);
     }
-    let none: usize = 0;
-    let count = keep_words(list, &mut out[..none]);
+    let counts = count_words(list);
+    if counts.wrong != 0 {
+        return Written::Refused(3);
+    }
+    let count = counts.kept as usize;
+    if count == list.len() {
+        return hand_over(list, out);
+    }
     if out.len() < count {
         return Written::Refused(7);
     }
-    keep_words(list, out);
+    keep_words(list, count, out);
     Written::Count(count)
 }

@@ -1,82 +1,96 @@
--- `tidying::keep_words` meets its contract: the words of the signal up to the date reached are laid over the output.
+-- `tidying::keep_words` meets its contract: what is put and what is left to keep make the whole, and past it the output stays.
 use borrow.Author.Needs.{needs}
 use Prim.Native.Nat.{_-_}
 use native.Mathlib.Omega.{arith}
-use mathlib.Core.Path.{_∙_}
-use lib.ListN.{length}
-use Rattle.signals.proofs.WordFacts.{num-le, date-le}
-use Rattle.tidying.proofs.Keepings.{Keeping, keep-start, keep-turn, keep-few, keep-count, keep-over, keep-length, moved}
-use Rattle.reading.proofs.Counting.{next-in}
+use mathlib.Core.Path.{_∙_, ap}
+use mathlib.Core.List.{_++_}
+use lib.ListN.{length, getD, length-set}
+use Rattle.tidying.specs.Kept.{kept}
+use Rattle.tidying.proofs.Turns.{PutTo, change-le, kept-some, put-start, put-some, put-room, put-turn, put-end, put-over}
+use Rattle.lists.proofs.Judging.{head-some}
 use Rattle.tidying.proofs.keep_words.Statement.{statement}
 use Rattle.tidying.proofs.keep_words.Tie as tie
 
 abbrev Inv-loop : tie.InvT-loop
-Inv-loop list out₀ count₀ passed₀ out count passed = Keeping list out₀ out count passed
+Inv-loop list count out₀ place₀ i₀ out place i = PutTo list out₀ out count place i
 
 abbrev μ-loop : tie.MeasureT-loop
-μ-loop list out₀ count₀ passed₀ out count passed = length list - passed
+μ-loop list count out₀ place₀ i₀ out place i = length list - i
 
-held-value-requires : tie.Need-held-value-requires Inv-loop μ-loop
-held-value-requires c κs = search needs
+shared-slice-read-out : tie.Need-shared-slice-read-out Inv-loop μ-loop
+shared-slice-read-out c = head-some _ (c .before .before .before .pre .0)
 
-index-requires : tie.Need-index-requires Inv-loop μ-loop
-index-requires c κs = search needs
-
-cast-put : tie.Need-cast-put Inv-loop μ-loop
-cast-put c = omega (arith, c .index .ensures, num-le (c .before .held-value .result))
-
-put-requires : tie.Need-put-requires Inv-loop μ-loop
-put-requires c κs = search needs
+slice-write-out : tie.Need-slice-write-out Inv-loop μ-loop
+slice-write-out c =
+    let start = c .before .before .before in
+    omega (arith, start .pre .1, start .pre .2, kept-some _ (start .pre .0))
 
 loop-holds : tie.Need-loop-holds Inv-loop μ-loop
 loop-holds c =
-    keep-start _ (c .before .before .before .before .before .before .before .before .args .out .now) _ _
-    (c .before .before .before .before .before .before .before .before .pre) (c .before .before .before .before .held-value .ensures)
-    (c .before .before .before .index .ensures) _ (c .before .before .put .ensures)
+    let start = c .before .before .before in
+    put-start (start .args .list .now) (start .args .out .now) (start .args .count) (start .pre .0) (start .pre .1) (start .pre .2)
 
-next-date-requires : tie.Need-next-date-requires Inv-loop μ-loop
-next-date-requires c κs = search needs
+mul-w : tie.Need-mul-w Inv-loop μ-loop
+mul-w c = search (needs, put-some _ _ _ _ _ _ (c .before .loop .inv))
 
-past-requires : tie.Need-past-requires Inv-loop μ-loop
-past-requires c κs = search needs
+shared-slice-read-w : tie.Need-shared-slice-read-w Inv-loop μ-loop
+shared-slice-read-w c = search (needs, put-some _ _ _ _ _ _ (c .before .before .loop .inv))
 
-keep-word-requires : tie.Need-keep-word-requires Inv-loop μ-loop
-keep-word-requires c κs =
-    let o = c .before .before .before .before in
-    let start = o .before .before .before .before .before .before .before in
-    let on = c .before .before .next-date .ensures ∙ next-in _ _ (c .before .before .before .loop-test .taken) in (
-      omega (arith, on, date-le _ (start .before .shared-slice-known .given (o .loop .passed) .fits)),
-      omega (arith, keep-few _ _ _ _ _ (start .before .before .pre) (o .loop .inv)),
+mul-out : tie.Need-mul-out Inv-loop μ-loop
+mul-out c = search (needs, put-room _ _ _ _ _ _ (c .before .before .loop .inv))
+
+slice-write-out-2 : tie.Need-slice-write-out-2 Inv-loop μ-loop
+slice-write-out-2 c = search (needs, put-room _ _ _ _ _ _ (c .before .before .loop .inv))
+
+sub-changes : tie.Need-sub-changes Inv-loop μ-loop
+sub-changes c = c .before .before .loop .inv .one
+
+mul-changes : tie.Need-mul-changes Inv-loop μ-loop
+mul-changes c = search (needs, put-some _ _ _ _ _ _ (c .before .before .loop .inv) (c .before .loop-test .taken))
+
+shared-slice-read-changes : tie.Need-shared-slice-read-changes Inv-loop μ-loop
+shared-slice-read-changes c =
+    omega (arith, put-some _ _ _ _ _ _ (c .before .before .before .loop .inv) (c .before .before .loop-test .taken))
+
+changes-requires : tie.Need-changes-requires Inv-loop μ-loop
+changes-requires c κs = search needs
+
+cast-place : tie.Need-cast-place Inv-loop μ-loop
+cast-place c = search needs
+
+add-place : tie.Need-add-place Inv-loop μ-loop
+add-place c =
+    search (
+      needs,
+      change-le _ _ _ (c .changes .ensures),
+      put-room _ _ _ _ _ _ (c .before .before .before .before .loop .inv) (c .before .before .before .loop-test .taken),
     )
+
+add-i : tie.Need-add-i Inv-loop μ-loop
+add-i c =
+    let at = c .before .before .before .before .loop in
+    search (needs, put-some _ _ _ _ _ _ (at .inv) (c .before .before .before .loop-test .taken))
 
 loop-less : tie.Need-loop-less Inv-loop μ-loop
 loop-less c =
-    omega (
-      arith,
-      moved _ _ _ _ _ (c .before .before .before .before .before .before .before .loop .inv)
-          (c .before .before .before .before .before .before .loop-test .taken) _ (c .before .before .before .before .past .result)
-          (c .before .before .before .before .before .next-date .ensures) (c .before .before .before .before .past .ensures),
-    )
+    let at = c .before .before .before .before .loop in
+    omega (arith, put-some _ _ _ _ _ _ (at .inv) (c .before .before .before .loop-test .taken))
 
 loop-again : tie.Need-loop-again Inv-loop μ-loop
 loop-again c =
-    keep-turn _ _ _ _ _ (c .before .before .before .before .before .before .before .loop .inv)
-    (c .before .before .before .before .before .before .loop-test .taken) _ (c .before .before .before .before .past .result)
-    (c .before .before .before .before .before .next-date .ensures) (c .before .before .before .before .past .ensures) _ _
-    (c .before .before .keep-word .ensures .0) (c .before .before .keep-word .ensures .1)
+    let at = c .before .before .before .before .loop in
+    put-turn _ _ _ _ _ _ (at .inv) (c .before .before .before .loop-test .taken) _ (c .changes .ensures)
 
 same-length : tie.Need-same-length Inv-loop μ-loop
 same-length c =
-    keep-length (c .before .before .before .before .before .before .before .before .before .before .args .list .now)
-    (c .before .before .before .before .before .before .before .before .before .before .args .out .now) _ _
-    (c .before .before .before .before .before .index .result) _ _ (c .before .before .before .before .put .ensures)
-    (c .before .loop .inv)
+    let x = c .before .before .before .before .before .args in
+    c .before .loop .inv .long ∙ length-set (x .out .now) 0 (getD (x .list .now) 0 0)
 
 returns : tie.Need-returns Inv-loop μ-loop
-returns c = (
-  keep-count _ _ _ _ _ (c .before .loop .inv) (c .loop-test .left),
-  keep-over _ _ _ _ _ _ _ (c .before .before .before .before .put .ensures) (c .before .loop .inv) (c .loop-test .left),
-)
+returns c =
+    let start = c .before .before .before .before .before in
+    put-end _ _ _ _ _ _ (c .before .loop .inv) (c .loop-test .left)
+    ∙ ap (λ r. kept (start .args .list .now) ++ r) (put-over _ _ _ _ (start .pre .0) (start .pre .1))
 
 pub keep-words-spec : {M : Type 1} → statement M
 keep-words-spec =
@@ -84,14 +98,20 @@ keep-words-spec =
     (tie.spec
     Inv-loop
     μ-loop
-    held-value-requires
-    index-requires
-    cast-put
-    put-requires
+    shared-slice-read-out
+    slice-write-out
     loop-holds
-    next-date-requires
-    past-requires
-    keep-word-requires
+    mul-w
+    shared-slice-read-w
+    mul-out
+    slice-write-out-2
+    sub-changes
+    mul-changes
+    shared-slice-read-changes
+    changes-requires
+    cast-place
+    add-place
+    add-i
     loop-less
     loop-again
     same-length

@@ -1,65 +1,78 @@
--- `tidying::tidy` meets its contract: counted first, then written.
-use native.Mathlib.Omega.{arith}
-use mathlib.Core.Path.{ap}
-use lib.ListN.{length}
-use lib.Seq.{take-all}
-use Rattle.tidying.proofs.Keepings.{tidy-refused, tidy-short, tidy-done}
+-- `tidying::tidy` meets its contract: judged and counted first, then written where it fits.
 use borrow.Author.Needs.{needs}
+use native.Mathlib.Omega.{arith}
+use mathlib.Core.Path.{sym, _∙_}
+use Rattle.tidying.proofs.Answered.{tidy-head, tidy-refused, wrong-3, wrong-0, tidy-whole, tidy-short, tidy-done}
 use Rattle.tidying.proofs.tidy.Statement.{statement}
 use Rattle.tidying.proofs.tidy.Tie as tie
 
-tidy-fault-requires : tie.Need-tidy-fault-requires
-tidy-fault-requires c κs = search needs
+head-fault-requires : tie.Need-head-fault-requires
+head-fault-requires c κs = search needs
 
 returns : tie.Need-returns
-returns c = tidy-refused _ _ _ (c .before .tidy-fault .ensures) (c .if1 .taken)
+returns c = tidy-refused _ _ _ (tidy-head _ _ (c .before .head-fault .ensures) (c .if1 .taken)) (c .if1 .taken)
 
-slice-relend-prefix-keep-words : tie.Need-slice-relend-prefix-keep-words
-slice-relend-prefix-keep-words c = search needs
+count-words-requires : tie.Need-count-words-requires
+count-words-requires c κs = sym (c .before .head-fault .ensures) ∙ c .if1 .left
 
--- as many words are lent as are said, also where all are
-slice-aggregate-keep-words : tie.Need-slice-aggregate-keep-words
-slice-aggregate-keep-words c =
-    let out = c .before .before .before .before .before .args .out .now in
-    omega (arith, ap length (take-all (length out) out (omega arith)))
+returns-2 : tie.Need-returns-2
+returns-2 c =
+    let counting = c .before .before in
+    let head = sym (counting .before .before .head-fault .ensures) ∙ counting .before .if1 .left in
+    tidy-refused _ _ 3 (wrong-3 _ head _ _ (counting .count-words .ensures) (c .if2 .taken)) (λ z. omega arith)
 
-keep-words-requires : tie.Need-keep-words-requires
-keep-words-requires c κs = search needs
+cast-count : tie.Need-cast-count
+cast-count c = search needs
+
+hand-over-requires : tie.Need-hand-over-requires
+hand-over-requires c κs = search needs
 
 same-length : tie.Need-same-length
 same-length c = search needs
 
-returns-2 : tie.Need-returns-2
-returns-2 c =
-    tidy-short _ _ _ (c .before .before .before .before .before .before .tidy-fault .ensures)
-    (c .before .before .before .before .before .if1 .left) _ (c .before .before .before .keep-words .ensures .0) _
-    (c .before .before .before .keep-words .ensures .1) (c .if2 .taken)
+returns-3 : tie.Need-returns-3
+returns-3 c =
+    let then = c .before .before .before .before in
+    let counting = then .before .before .before .before in
+    let head = sym (counting .before .before .head-fault .ensures) ∙ counting .before .if1 .left in
+    let x = counting .before .before .before .before .before .args in
+    tidy-whole (x .list .now) (x .out .now) (wrong-0 _ head _ _ (counting .count-words .ensures) (then .before .before .if2 .left))
+    (sym (counting .count-words .ensures .0) ∙ then .if3 .taken) _ _ (c .before .before .hand-over .ensures)
 
-keep-words-requires-2 : tie.Need-keep-words-requires-2
-keep-words-requires-2 c κs = search needs
+returns-4 : tie.Need-returns-4
+returns-4 c =
+    let counting = c .before .before .before .before .before in
+    let head = sym (counting .before .before .head-fault .ensures) ∙ counting .before .if1 .left in
+    tidy-short _ _ (wrong-0 _ head _ _ (counting .count-words .ensures) (c .before .before .before .if2 .left))
+    (omega (arith, counting .count-words .ensures .0, c .if4 .taken))
+
+keep-words-requires : tie.Need-keep-words-requires
+keep-words-requires c κs = search needs
 
 same-length-2 : tie.Need-same-length-2
 same-length-2 c = search needs
 
-returns-3 : tie.Need-returns-3
-returns-3 c =
-    tidy-done _ _ _ (c .before .before .before .before .before .before .before .before .before .before .tidy-fault .ensures)
-    (c .before .before .before .before .before .before .before .before .before .if1 .left) _
-    (c .before .before .before .before .before .before .before .keep-words .ensures .0) _
-    (c .before .before .before .before .before .before .before .keep-words .ensures .1) (c .before .before .before .before .if2 .left) _
-    (c .before .before .keep-words2 .ensures .1)
+returns-5 : tie.Need-returns-5
+returns-5 c =
+    let fits = c .before .before .before .before in
+    let counting = fits .before .before .before .before .before in
+    let head = sym (counting .before .before .head-fault .ensures) ∙ counting .before .if1 .left in
+    tidy-done _ _ (wrong-0 _ head _ _ (counting .count-words .ensures) (fits .before .before .before .if2 .left)) _
+    (counting .count-words .ensures .0) (fits .if4 .left) _ (c .before .before .keep-words .ensures)
 
 pub tidy-spec : {M : Type 1} → statement M
 tidy-spec =
     tie.close
     (tie.spec
-    tidy-fault-requires
+    head-fault-requires
     returns
-    slice-relend-prefix-keep-words
-    slice-aggregate-keep-words
-    keep-words-requires
-    same-length
+    count-words-requires
     returns-2
-    keep-words-requires-2
+    cast-count
+    hand-over-requires
+    same-length
+    returns-3
+    returns-4
+    keep-words-requires
     same-length-2
-    returns-3)
+    returns-5)
