@@ -24,7 +24,9 @@ int main(int argc, char **argv) {
     sgl_begin(empty, sizeof empty);
     size_t bytes = SGL_COUNT(sgl_append(empty, sizeof empty, (const uint8_t *)"a", 1, a, n, sheet, sizeof sheet));
     for (long i = 0; i < times; i++) {
-        if (!strcmp(argv[1], "connective"))
+        if (!strcmp(argv[1], "tidy"))
+            got = sgl_tidy(a, n, out, SGL_LIST_WORDS);
+        else if (!strcmp(argv[1], "connective"))
             got = sgl_connective(8, a, n, b, n, out, SGL_LIST_WORDS);
         else if (!strcmp(argv[1], "ton"))
             got = sgl_ton(2, a, n, out, SGL_LIST_WORDS);

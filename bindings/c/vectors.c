@@ -39,7 +39,6 @@ static void lists(void) {
     IS(sgl_list_fault(N(bad2)), REFUSED(2));
     IS(sgl_list_fault(N(bad3)), REFUSED(3));
     IS(sgl_list_fault(N(bad4)), REFUSED(4));
-    WORDS(sgl_tidy(N(loose), OUT), 0, 23, 36);
     IS(sgl_value_at(N(f), 5), 1);
     IS(sgl_value_at(N(f), 0), REFUSED(9));
     IS(sgl_value_in(N(f), 0), 0);
@@ -52,6 +51,64 @@ static void lists(void) {
     IS(sgl_implies(N(l), N(e)), 2 * 5 + 1);
     IS(sgl_implies(N(one), N(f)), 1);
     IS(sgl_implies(N(bad2), N(f)), 2ull << 40);
+}
+
+/* The whole output, which held sevens and holds them again. */
+static void whole(int line, const uint32_t *want, uint32_t count) {
+    for (uint32_t i = 0; i < SGL_LIST_WORDS; i++) {
+        same(line, out[i], i < count ? want[i] : 7);
+        out[i] = 7;
+    }
+}
+
+static void sevens(void) {
+    for (uint32_t i = 0; i < SGL_LIST_WORDS; i++)
+        out[i] = 7;
+}
+
+static void tidied(int line, uint32_t got, const uint32_t *want, uint32_t count) {
+    same(line, got, count);
+    whole(line, want, count);
+}
+
+#define TIDY(got, ...) do { const uint32_t want_[] = {__VA_ARGS__}; tidied(__LINE__, (got), want_, sizeof want_ / 4); } while (0)
+#define NOT_TIDIED(got, fault) do { IS((got), REFUSED(fault)); whole(__LINE__, NULL, 0); } while (0)
+
+/* Words that change nothing are dropped; those that change an instant only, or only what comes after it, are kept. */
+static void tidyings(void) {
+    static const uint32_t idle[] = {1, 7, 11, 4294967295u}, ends[] = {0, 23, 36, 40, 4294967292u}, down3[] = {1, 13, 18},
+        high[] = {4294967295u, 4, 4}, again[] = {0, 23, 23}, falls[] = {0, 40, 39}, back[] = {0, 23, 19, 36};
+    uint32_t full[SGL_LIST_WORDS + 1];
+    for (uint32_t i = 0; i <= SGL_LIST_WORDS; i++)
+        full[i] = 4 * i;
+    sevens();
+    TIDY(sgl_tidy(N(loose), OUT), 0, 23, 36);
+    TIDY(sgl_tidy(N(ends), OUT), 0, 23, 36);
+    TIDY(sgl_tidy(N(f), OUT), 0, 23, 36);
+    TIDY(sgl_tidy(N(e), OUT), 0, 22);
+    TIDY(sgl_tidy(N(l), OUT), 0, 21);
+    TIDY(sgl_tidy(N(down3), OUT), 1, 13, 18);
+    TIDY(sgl_tidy(N(last), OUT), 0, 4294967294u);
+    TIDY(sgl_tidy(N(idle), OUT), 1);
+    TIDY(sgl_tidy(full, SGL_LIST_WORDS, OUT), 0);
+    TIDY(sgl_tidy(N(one), OUT), 1);
+    /* outputs just long enough, and a word short */
+    TIDY(sgl_tidy(N(loose), out, 3), 0, 23, 36);
+    NOT_TIDIED(sgl_tidy(N(loose), out, 2), 7);
+    TIDY(sgl_tidy(N(ends), out, 3), 0, 23, 36);
+    NOT_TIDIED(sgl_tidy(N(ends), out, 2), 7);
+    TIDY(sgl_tidy(N(idle), out, 1), 1);
+    NOT_TIDIED(sgl_tidy(N(idle), out, 0), 7);
+    /* refused: nothing is written, and 7 comes last; a word that would be dropped has a date too */
+    NOT_TIDIED(sgl_tidy(f, 0, OUT), 1);
+    NOT_TIDIED(sgl_tidy(N(full), OUT), 1);
+    NOT_TIDIED(sgl_tidy(N(full), out, 0), 1);
+    NOT_TIDIED(sgl_tidy(N(bad2), OUT), 2);
+    NOT_TIDIED(sgl_tidy(N(high), out, 0), 2);
+    NOT_TIDIED(sgl_tidy(N(bad3), OUT), 3);
+    NOT_TIDIED(sgl_tidy(N(again), OUT), 3);
+    NOT_TIDIED(sgl_tidy(N(falls), OUT), 3);
+    NOT_TIDIED(sgl_tidy(N(back), out, 0), 3);
 }
 
 static void operations(void) {
@@ -136,16 +193,13 @@ static void formulas(void) {
     IS(sgl_claim(N(printed), TEXT(""), TEXT("a"), N(work)), 10ull << 40);
 }
 
-/* An up-time: the answer and its parts, and the whole output, which held sevens. */
+/* An up-time: the answer and its parts, and the whole output. */
 static void uptime(int line, uint64_t got, uint32_t fault, uint32_t total, const uint32_t *want, uint32_t count) {
     same(line, got, fault ? (uint64_t)fault << 48 : (uint64_t)total << 16 | count);
     same(line, SGL_UPTIME_FAULT(got), fault);
     same(line, SGL_UPTIME_TOTAL(got), total);
     same(line, SGL_UPTIME_COUNT(got), count);
-    for (uint32_t i = 0; i < SGL_LIST_WORDS; i++) {
-        same(line, out[i], i < count ? want[i] : 7);
-        out[i] = 7;
-    }
+    whole(line, want, count);
 }
 
 #define UP(got, total, ...) \
@@ -161,8 +215,7 @@ static void uptimes(void) {
     n = sgl_append(bytes, n, TEXT("d"), N(down5), other, sizeof other);
     n = sgl_append(other, n, TEXT("o"), N(one), bytes, sizeof bytes);
     n = sgl_append(bytes, n, TEXT("m"), N(from_m1), other, sizeof other);
-    for (uint32_t i = 0; i < SGL_LIST_WORDS; i++)
-        out[i] = 7;
+    sevens();
     UP(sgl_uptime(other, n, TEXT("a"), 8, OUT), 3, 5, 3);
     NOT_UP(sgl_uptime(other, n, TEXT("a"), 0, OUT));
     NOT_UP(sgl_uptime(other, n, TEXT("a"), 5, OUT));
@@ -188,6 +241,7 @@ static void uptimes(void) {
 
 int main(void) {
     lists();
+    tidyings();
     operations();
     sheets();
     formulas();

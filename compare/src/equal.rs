@@ -113,7 +113,8 @@ macro_rules! list_calls {
     };
 }
 
-pub const LIST_CALLS: [ListCall; 10] = list_calls![
+pub const LIST_CALLS: [ListCall; 11] = list_calls![
+    |given, out| tidy(&given.a, out),
     |given, out| not(&given.a, out),
     |given, out| rising(&given.a, out),
     |given, out| falling(&given.a, out),
@@ -176,4 +177,42 @@ pub fn uptimes(set: Set, seed: u64, count: usize, other: UpTimeCall) -> Result<[
         met[(ours >> 48) as usize] += 1;
     }
     Ok(met)
+}
+
+/// A tidying call.
+pub type TidyCall = fn(&[u32], &mut [u32]) -> u32;
+
+/// How many tidyings were refused with each fault, 0 for none, and how many dropped a word.
+#[derive(Default)]
+pub struct Tidied {
+    pub met: [usize; 8],
+    pub dropped: usize,
+}
+
+/// Tidyings of lists of which many have idle words, into outputs that are long, of any length, exactly long enough, and a word short:
+/// the first difference, or how they came out.
+pub fn tidyings(seed: u64, count: usize, other: TidyCall) -> Result<Tidied, String> {
+    let mut random = Random(seed);
+    let mut tidied = Tidied::default();
+    for _ in 0..count {
+        let list = generate::untidy(&mut random);
+        // 0 where the list is refused
+        let answer = ffi::tidy(&list, &mut [7; MOST_WORDS]) as usize % 65536;
+        let room = match random.below(5) {
+            0 => random.below(300),
+            1 => answer,
+            2 => answer.saturating_sub(1),
+            _ => MOST_WORDS,
+        };
+        let (mut out, mut other_out) = (vec![7; room], vec![7; room]);
+        let ours = ffi::tidy(&list, &mut out);
+        let others = other(&list, &mut other_out);
+        if (ours, &out) != (others, &other_out) {
+            let (ours, others) = (written_text(ours, &out), written_text(others, &other_out));
+            return Err(format!("tidy\nlist {list:?}\noutput of {room} words\nours: {ours}\nplain: {others}"));
+        }
+        tidied.met[ours as usize / 65536] += 1;
+        tidied.dropped += (1..list.len()).contains(&(ours as usize)) as usize;
+    }
+    Ok(tidied)
 }

@@ -15,6 +15,7 @@ mod c {
 
     extern "C" {
         pub fn clock_gettime(clock: i32, time: *mut Time) -> i32;
+        pub fn sgl_tidy(list: List, list_words: usize, out: Out, out_words: usize) -> u32;
         pub fn sgl_not(a: List, a_words: usize, out: Out, out_words: usize) -> u32;
         pub fn sgl_rising(a: List, a_words: usize, out: Out, out_words: usize) -> u32;
         pub fn sgl_falling(a: List, a_words: usize, out: Out, out_words: usize) -> u32;
@@ -74,6 +75,10 @@ pub fn process_time() -> u64 {
 }
 
 // Each slice is lent for the call, outputs apart from inputs: what the header asks of its callers.
+
+pub fn tidy(list: &[u32], out: &mut [u32]) -> u32 {
+    unsafe { c::sgl_tidy(list.as_ptr(), list.len(), out.as_mut_ptr(), out.len()) }
+}
 
 pub fn not(a: &[u32], out: &mut [u32]) -> u32 {
     unsafe { c::sgl_not(a.as_ptr(), a.len(), out.as_mut_ptr(), out.len()) }

@@ -1,4 +1,5 @@
 //! The proved library beside plain Rust of the same evaluation. README.md says how to run it and how to read the table.
+mod batches;
 mod equal;
 mod ffi;
 mod generate;
@@ -6,8 +7,9 @@ mod plain;
 mod random;
 mod times;
 
-use equal::{ListCall, Tally, LIST_CALLS};
-use generate::Set;
+use batches::Batch;
+use equal::{ListCall, Tally, Tidied, LIST_CALLS};
+use generate::{Set, MOST_WORDS};
 use std::process::ExitCode;
 use times::Times;
 
@@ -19,7 +21,29 @@ const FAULTS: [usize; 12] = [5, 6, 8, 10, 11, 12, 13, 14, 15, 16, 17, 18];
 /// The faults that an up-time can meet.
 const UPTIME_FAULTS: [usize; 7] = [7, 13, 14, 15, 16, 17, 19];
 
-const USAGE: &str = "compare [--equal | ROW]";
+/// The faults that a tidying can meet.
+const TIDY_FAULTS: [usize; 4] = [1, 2, 3, 7];
+
+const USAGE: &str = "compare [--equal | --calls ROW | ROW]";
+
+/// A wrong tidying: it puts each word down before it looks whether to keep it, so that one dropped at the end stands past the count.
+fn tidy_leaving_one(list: &[u32], out: &mut [u32]) -> u32 {
+    let written = plain::tidy(list, out);
+    match (list, out.get_mut(written as usize)) {
+        ([.., before, last], Some(place)) if plain::is_idle(&[*before, *last]) => *place = *last,
+        _ => {}
+    }
+    written
+}
+
+/// A wrong tidying: it does not judge the dates of the words that it drops.
+fn tidy_undated(list: &[u32], out: &mut [u32]) -> u32 {
+    if list.len() > MOST_WORDS {
+        return plain::tidy(list, out);
+    }
+    let kept = list.windows(2).filter(|pair| !plain::is_idle(pair)).map(|pair| pair[1]);
+    plain::tidy(&list.iter().take(1).copied().chain(kept).collect::<Vec<_>>(), out)
+}
 
 /// Wrong engines in the place of plain: the check must tell each of them from ours.
 fn wrong_ones_are_told() -> Result<(), String> {
@@ -48,7 +72,9 @@ fn wrong_ones_are_told() -> Result<(), String> {
     let tick_less = equal::uptimes(Set::Small, SEED, 300, |sheet, name, h, out| {
         plain::uptime(sheet, name, h.saturating_sub(1), out)
     });
-    told("a horizon of a tick less", tick_less.is_err())
+    told("a horizon of a tick less", tick_less.is_err())?;
+    told("a dropped word past the count", equal::tidyings(SEED, 300, tidy_leaving_one).is_err())?;
+    told("dates of dropped words that are not judged", equal::tidyings(SEED, 300, tidy_undated).is_err())
 }
 
 /// The faults with how often each was met; none may be missing.
@@ -74,6 +100,21 @@ fn check_uptimes(count: usize) -> Result<(), String> {
     Ok(())
 }
 
+/// Both are equal on so many tidyings.
+fn check_tidyings(count: usize) -> Result<(), String> {
+    let Tidied { met, dropped } = equal::tidyings(SEED, count, plain::tidy)?;
+    println!(
+        "tidyings {count} calls: {} answered, {dropped} of them with a word dropped, {} refused",
+        met[0],
+        count - met[0]
+    );
+    println!("refused with {}", faults_met(&TIDY_FAULTS, &met, "tidying")?);
+    if dropped == 0 {
+        return Err("no tidying dropped a word".to_string());
+    }
+    Ok(())
+}
+
 /// Both are equal on so many claims of each set (of the largest a twentieth) and so many lists.
 fn check(count: usize) -> Result<(), String> {
     wrong_ones_are_told()?;
@@ -91,6 +132,7 @@ fn check(count: usize) -> Result<(), String> {
     let (answered, refused) = equal::lists(SEED, count, &LIST_CALLS)?;
     println!("lists    {} calls: {answered} answered, {refused} refused", answered + refused);
     check_uptimes(count)?;
+    check_tidyings(count)?;
     println!("equal    every verdict, fault, count, total and output");
     Ok(())
 }
@@ -104,10 +146,19 @@ fn table(only: Option<String>) -> Result<(), String> {
     for words in [3, 16, 250] {
         times.operations(words, SEED);
     }
+    times.tidies(SEED);
     match times {
         Times { rows: 0, only: Some(name), .. } => Err(format!("no row {name}: {USAGE}")),
         _ => Ok(()),
     }
+}
+
+/// Makes each call of a batch once, ours and plain, and prints how many words its lists have: for those who count instructions.
+fn calls(row: &str) -> Result<(), String> {
+    let batch = Batch::all(SEED).find(|batch| batch.name == row).ok_or(format!("no batch {row}: {USAGE}"))?;
+    assert_eq!(batch.tidy(ffi::tidy), batch.tidy(plain::tidy));
+    println!("{}", batch.words);
+    Ok(())
 }
 
 fn run(arguments: &[String]) -> Result<(), String> {
@@ -118,6 +169,7 @@ fn run(arguments: &[String]) -> Result<(), String> {
             table(None)
         }
         [flag] if flag == "--equal" => check(2_000),
+        [flag, row] if flag == "--calls" => calls(row),
         [row] if !row.starts_with('-') => table(Some(row.clone())),
         _ => Err(USAGE.to_string()),
     }

@@ -1,4 +1,5 @@
 //! Processor time of both, in turns.
+use crate::batches::Batch;
 use crate::generate::{self, sheet_of, turns, Claim, Set, MOST_WORDS, MOST_WORK};
 use crate::random::Random;
 use crate::{ffi, plain};
@@ -29,14 +30,21 @@ fn quantile(numbers: &mut [f64], fraction: f64) -> f64 {
     numbers[((numbers.len() - 1) as f64 * fraction).round() as usize]
 }
 
+/// Nanoseconds with as many digits as tell them apart.
+fn shown(time: f64) -> String {
+    let digits = if time < 10.0 { 2 } else { 1 };
+    format!("{time:.digits$}")
+}
+
 impl Times {
-    /// Times rounds of so many calls, ours and plain in turns, and prints their row.
-    fn row(&mut self, name: &str, calls: usize, mut ours: impl FnMut(), mut plain: impl FnMut()) {
-        if self.only.as_deref().is_some_and(|only| only != name) || calls == 0 {
+    /// Times rounds of so many calls, or words, ours and plain in turns, and prints the row of one.
+    fn row(&mut self, name: &str, parts: usize, mut ours: impl FnMut(), mut plain: impl FnMut()) {
+        if self.only.as_deref().is_some_and(|only| only != name) || parts == 0 {
             return;
         }
         if self.rows == 0 {
             println!("medians of {} repetitions in turns; from, to: the middle half of the ratios", self.repetitions);
+            println!("ns of one call; of tidies and tidies-idle, batches of calls, ns of one word of the lists given");
             println!("{:<18} {:>10} {:>10} {:>7} {:>7} {:>7}", "row", "ours ns", "plain ns", "ratio", "from", "to");
         }
         self.rows += 1;
@@ -54,15 +62,15 @@ impl Times {
                 second = time(rounds, &mut plain);
                 first = time(rounds, &mut ours);
             }
-            let each = (rounds * calls as u64) as f64;
+            let each = (rounds * parts as u64) as f64;
             of_ours.push(first as f64 / each);
             of_plain.push(second as f64 / each);
             ratios.push(first as f64 / second as f64);
         }
         println!(
-            "{name:<18} {:>10.1} {:>10.1} {:>7.2} {:>7.2} {:>7.2}",
-            quantile(&mut of_ours, 0.5),
-            quantile(&mut of_plain, 0.5),
+            "{name:<18} {:>10} {:>10} {:>7.2} {:>7.2} {:>7.2}",
+            shown(quantile(&mut of_ours, 0.5)),
+            shown(quantile(&mut of_plain, 0.5)),
             quantile(&mut ratios, 0.5),
             quantile(&mut ratios, 0.25),
             quantile(&mut ratios, 0.75),
@@ -109,6 +117,20 @@ impl Times {
         self.claims(&format!("{}-refused", set.name()), &refused);
     }
 
+    /// The batches of tidyings, by the word.
+    pub fn tidies(&mut self, seed: u64) {
+        for batch in Batch::all(seed) {
+            assert_eq!(batch.tidy(ffi::tidy), batch.tidy(plain::tidy));
+            let ours = || {
+                black_box(batch.tidy(ffi::tidy));
+            };
+            let plain = || {
+                black_box(batch.tidy(plain::tidy));
+            };
+            self.row(batch.name, batch.words, ours, plain);
+        }
+    }
+
     /// The single operations on lists of so many words.
     pub fn operations(&mut self, words: usize, seed: u64) {
         const CALLS: usize = 100;
@@ -145,6 +167,7 @@ impl Times {
                 )
             }};
         }
+        call!(|out| tidy(&a, &mut out));
         call!(|out| connective(8, &a, &b, &mut out));
         call!(|out| not(&a, &mut out));
         call!(|out| rising(&a, &mut out));

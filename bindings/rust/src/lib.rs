@@ -5,16 +5,19 @@ pub mod calls;
 mod fault;
 mod ffi;
 mod list;
+pub mod raw;
 mod sheet;
 pub mod text;
 mod uptime;
 mod verdict;
+mod wrongs;
 
 pub use fault::Fault;
 pub use list::List;
 pub use sheet::{Checker, Formula, Sheet};
 pub use uptime::{Stretch, UpTime};
 pub use verdict::Verdict;
+pub use wrongs::Wrongs;
 
 /// The largest date and the largest length.
 pub const M: u32 = 1_073_741_823;

@@ -1,4 +1,4 @@
-// The sheets under examples/ are those of their texts, and the claims and up-times told there are so.
+// The sheets under examples/ are those of their texts, the claims and up-times told there are so, and the old text is tidied as told.
 use rascrunel::{text, Checker, Sheet};
 use std::fs;
 use std::path::PathBuf;
@@ -14,6 +14,13 @@ fn sheets_of_their_texts() {
         let bytes = fs::read(example(&format!("{name}.sgl"))).unwrap();
         assert_eq!(text::read(&text).unwrap().bytes(), bytes, "{name}");
     }
+}
+
+#[test]
+fn tidied_text() {
+    let [old, tidied] = ["old.txt", "old-tidied.txt"].map(|name| fs::read_to_string(example(name)).unwrap());
+    assert_eq!(text::tidy(&old).unwrap(), tidied);
+    assert!(text::read(&old).is_err() && text::read(&tidied).is_ok());
 }
 
 // Each line of a file: a sheet, two words, and what is told of them.

@@ -1,19 +1,27 @@
 // Sheets as text, and the tool that makes and shows them.
+mod tool;
+
 use rascrunel::{text, Sheet};
 use std::fs;
 use std::path::PathBuf;
-use std::process::{Command, Output};
+use tool::{folder, sheet};
 
 #[test]
 fn each_change() {
-    let sheet = text::read("# up at, after, from\na : down, up from 5, down from 9\ne : down, up at 5\nl : down, up after 5\nu : up, down at 3, down after 4\nw = 0 23 36\n").unwrap();
+    let given = "# up at, after, from\na : down, up from 5, down from 9\ne : down, up at 5\nl : down, up after 5\n\
+                 u : up, down at 3, down after 4\nw = 0 23 36\n";
+    let sheet = text::read(given).unwrap();
     assert_eq!(sheet.lookup("a").unwrap().words(), [0, 23, 36]);
     assert_eq!(sheet.lookup("e").unwrap().words(), [0, 22]);
     assert_eq!(sheet.lookup("l").unwrap().words(), [0, 21]);
     assert_eq!(sheet.lookup("u").unwrap().words(), [1, 13, 18]);
     assert_eq!(sheet.lookup("w").unwrap().words(), [0, 23, 36]);
     let shown = text::write(&sheet).unwrap();
-    assert_eq!(shown, "a : down, up from 5, down from 9\ne : down, up at 5\nl : down, up after 5\nu : up, down at 3, down after 4\nw : down, up from 5, down from 9\n");
+    assert_eq!(
+        shown,
+        "a : down, up from 5, down from 9\ne : down, up at 5\nl : down, up after 5\n\
+         u : up, down at 3, down after 4\nw : down, up from 5, down from 9\n"
+    );
     assert_eq!(text::read(&shown).unwrap(), sheet);
 }
 
@@ -34,16 +42,6 @@ fn wrong_texts() {
     assert_eq!(what("a = +1"), "line 1: \"+1\" is no number up to 4294967295");
     let many: String = (0..33).map(|i| format!("s{i} : up\n")).collect();
     assert!(what(&many).starts_with("line 33: refused 15"));
-}
-
-fn folder(name: &str) -> PathBuf {
-    let folder = std::env::temp_dir().join(format!("rascrunel-{}-{name}", std::process::id()));
-    fs::create_dir_all(&folder).unwrap();
-    folder
-}
-
-fn sheet(args: &[&PathBuf]) -> Output {
-    Command::new(env!("CARGO_BIN_EXE_sheet")).args(args).output().unwrap()
 }
 
 #[test]

@@ -1,4 +1,7 @@
 // Up-times: document 02's cases; and random lists, against a count gap by gap.
+mod random;
+
+use random::{later, Random};
 use rascrunel::{calls, Fault, List, Sheet, Stretch, UpTime, LIST_WORDS, M};
 
 fn sheet(words: &[u32]) -> Sheet {
@@ -41,30 +44,6 @@ fn faults() {
     assert_eq!(out, [0, 5, 9, 3, 7]);
 }
 
-struct Random(u64);
-
-impl Random {
-    fn below(&mut self, n: u32) -> u32 {
-        self.0 ^= self.0 << 13;
-        self.0 ^= self.0 >> 7;
-        self.0 ^= self.0 << 17;
-        ((self.0 >> 16) % n as u64) as u32
-    }
-
-    /// A list of so many words, with dates one to `step` ticks apart, and words that change something.
-    fn list(&mut self, count: usize, step: u32) -> Vec<u32> {
-        let mut words = vec![self.below(2)];
-        let mut date = 0;
-        while words.len() < count {
-            date += 1 + self.below(step);
-            let held = words[words.len() - 1] % 2;
-            let values = (3 * held + 1 + self.below(3)) % 4;
-            words.push(4 * date + values);
-        }
-        words
-    }
-}
-
 /// Whether gap k is up: the value after the last change up to k.
 fn is_up(words: &[u32], k: u32) -> bool {
     let last = words[1..].iter().rev().find(|&&word| word / 4 <= k);
@@ -83,11 +62,6 @@ fn runs(h: u32, wanted: impl Fn(u32) -> bool) -> UpTime {
         }
     }
     UpTime { stretches, total }
-}
-
-/// The same list with every date so much later: what holds in its gap 0 holds for as long before its first date.
-fn later(words: &[u32], by: u32) -> Vec<u32> {
-    words[..1].iter().copied().chain(words[1..].iter().map(|word| word + 4 * by)).collect()
 }
 
 /// Its runs: that from gap 0 on is as much longer, the others begin as much later.

@@ -20,6 +20,11 @@ pub enum Dates {
 
 /// A list of so many words, fewer where the dates end before.
 pub fn list(random: &mut Random, words: usize, dates: Dates) -> Vec<u32> {
+    loose(random, words, dates, 0)
+}
+
+/// A list as above, but that of its words after the first about so many in 12 are idle: they change nothing.
+pub fn loose(random: &mut Random, words: usize, dates: Dates, idle: usize) -> Vec<u32> {
     let mut list = vec![random.below(2) as u32];
     let mut date = if let Dates::Last = dates { M - 3 * words } else { 0 };
     while list.len() < words {
@@ -28,10 +33,24 @@ pub fn list(random: &mut Random, words: usize, dates: Dates) -> Vec<u32> {
             Dates::Shared => STEP,
             Dates::Last => random.between(1, 3),
         };
-        let before = list[list.len() - 1] % 2;
-        let turned = 3 - 3 * before;
-        let values = if random.one_in(2) { turned } else { random.pick(&[1, 2, turned]) };
+        let held = 3 * (list[list.len() - 1] % 2);
+        let turned = 3 - held;
+        let values = if idle > 0 && random.below(12) < idle {
+            held
+        } else if random.one_in(2) {
+            turned
+        } else {
+            random.pick(&[1, 2, turned])
+        };
         list.push(4 * date as u32 + values);
+    }
+    list
+}
+
+/// The same list with every word from a place after the first on idle.
+pub fn still_from(mut list: Vec<u32>, place: usize) -> Vec<u32> {
+    for at in place..list.len() {
+        list[at] = list[at] / 4 * 4 + 3 * (list[at - 1] % 2);
     }
     list
 }

@@ -1,4 +1,4 @@
-//! Sheets, claims and lists by seed: the same ones for the same seed.
+//! Sheets, claims and lists by seed: the same ones for the same seed. A word is idle that changes nothing.
 mod damage;
 mod formulas;
 mod lists;
@@ -227,4 +227,28 @@ pub fn given(random: &mut Random) -> Given {
         given.b = lists::damaged(random, given.b);
     }
     given
+}
+
+/// A list to be tidied: of its words none, some, most or all are idle, or those at its end. One in five is damaged.
+pub fn untidy(random: &mut Random) -> Vec<u32> {
+    let (words, dates) = shape(random, Set::Mixed);
+    let idle = random.pick(&[0, 3, 6, 10, 12]);
+    let mut list = lists::loose(random, words, dates, idle);
+    if random.one_in(3) {
+        list = lists::still_from(list, random.between(1, words));
+    }
+    if random.one_in(5) {
+        list = lists::damaged(random, list);
+    }
+    list
+}
+
+/// Lists of 3 to 256 words, of which about so many in 12 are idle.
+pub fn batch(random: &mut Random, count: usize, idle: usize) -> Vec<Vec<u32>> {
+    (0..count)
+        .map(|_| {
+            let words = random.between(3, MOST_WORDS);
+            lists::loose(random, words, Dates::By(50), idle)
+        })
+        .collect()
 }

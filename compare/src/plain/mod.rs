@@ -9,10 +9,12 @@ mod lists;
 mod operations;
 mod pulses;
 mod sheets;
+mod tidying;
 mod uptimes;
 
 use lists::{judge, M, WORDS};
 use operations::{implication, One, Two, Verdict};
+pub use tidying::is_idle;
 
 fn packed(answer: Result<usize, u32>) -> u32 {
     match answer {
@@ -72,6 +74,11 @@ fn call_of_implication(a: &[u32], b: &[u32]) -> Result<Verdict, u32> {
 }
 
 // The calls. None is put into its caller: ours cannot be.
+
+#[inline(never)]
+pub fn tidy(list: &[u32], out: &mut [u32]) -> u32 {
+    packed(tidying::tidy(list, out))
+}
 
 #[inline(never)]
 pub fn not(a: &[u32], out: &mut [u32]) -> u32 {
