@@ -417,7 +417,8 @@ fn the_tool() {
     assert_eq!(many.lines().count(), 21);
     assert!(many.starts_with("line 1: refused 2") && many.contains("\nline 20: refused 2") && many.ends_with("\nand 3 more\n"));
     assert_eq!(said(b"a = 0\n\xff = 0\n"), "not a text\n");
-    assert!(said(b"SGL\x01\0\0\0").starts_with("list 1 at byte 0: the file ends inside its words"));
+    assert_eq!(said(b"SGL\x01\0\0\0"), "is a sheet; a text or raw lists are tidied\n");
+    assert_eq!(said(b"SGL = 0 2\n"), "line 1: refused 3: date not above the last\n");
     // too long: the file has a hole, so it takes no place
     fs::File::create(tool.dir.join("in")).unwrap().set_len((256 << 20) + 1).unwrap();
     assert_eq!(tool.refuses(&tool.dir.join("in")), "over 268435456 bytes, too long\n");

@@ -77,6 +77,10 @@ fn each(path: &Path, wrongs: String) -> String {
 
 fn tidy(from: &Path, to: &Path) -> Result<(), String> {
     let bytes = read(from, LISTS_BYTES)?;
+    // as a raw list's count this mark is far above 256, so that no lists are turned away
+    if bytes.starts_with(b"SGL") && raw::is_raw(&bytes) {
+        return Err(format!("{}: is a sheet; a text or raw lists are tidied", from.display()));
+    }
     let tidied = if raw::is_raw(&bytes) {
         raw::tidy(&bytes).map_err(|wrongs| each(from, wrongs.to_string()))?
     } else {
