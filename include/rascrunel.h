@@ -71,7 +71,8 @@ extern "C" {
 /* The fault of a list. Faults 1, 2, then word by word 3, 4. */
 uint32_t sgl_list_fault(const uint32_t *list, size_t list_words);
 
-/* The normal list of a list that may have words that change nothing. Faults 1, 2, 3, 7. */
+/* The normal list of a list that may have words that change nothing. An output as long as the list is always long enough.
+   Faults 1, 2, 3, 7. */
 uint32_t sgl_tidy(const uint32_t *list, size_t list_words, uint32_t *out, size_t out_words);
 
 /* The value at the instant k, and in the gap between k and k + 1. Faults of the list, 9. */

@@ -412,7 +412,10 @@ fn the_tool() {
         said(b"a : up\nb = 2\nc = 0 23 23\n"),
         "line 2: refused 2: first word above 1\nline 3: refused 3: date not above the last\n"
     );
-    assert_eq!(said(&[0; 2]), "list 1 at byte 0: refused 1: list empty or over 256 words\n");
+    assert_eq!(
+        said(&[0; 2]),
+        "byte 0 is 0, so these are raw lists and no text\nlist 1 at byte 0: refused 1: list empty or over 256 words\n"
+    );
     let many = said(&b"a = 2\n".repeat(23));
     assert_eq!(many.lines().count(), 21);
     assert!(many.starts_with("line 1: refused 2") && many.contains("\nline 20: refused 2") && many.ends_with("\nand 3 more\n"));
@@ -439,7 +442,10 @@ fn raw_lists_that_are_cut() {
         let (list, byte) = ends.iter().enumerate().rfind(|(_, &end)| end < cut).unwrap();
         let part = if cut == byte + 1 { "count" } else { "words" };
         // a file of a byte that is not 0 is a text
-        let raw = format!("list {} at byte {byte}: the file ends inside its {part}\n", list + 1);
+        let raw = format!(
+            "byte 1 is 0, so these are raw lists and no text\nlist {} at byte {byte}: the file ends inside its {part}\n",
+            list + 1
+        );
         assert_eq!(said, if cut == 1 { "line 1: neither `NAME = words` nor `NAME : changes`\n" } else { &raw });
     }
 }

@@ -79,6 +79,15 @@ head-small (h ∷ ws) z = go (ltb mostWords (length (h ∷ ws))) (ltb 1 h) refl 
     go false true q e = absurd (omega arith)
     go false false q e = ltb-false 1 h q
 
+pub head-short : (l : List ℕ) → headFault l ≡ 0 → length l ≤ mostWords
+unfolding headFault
+head-short [] z = omega arith
+head-short (h ∷ ws) z = go (ltb mostWords (length (h ∷ ws))) (ltb 1 h) refl z
+  where
+    go : (a b : Bool) → ltb mostWords (length (h ∷ ws)) ≡ a → _≡_ {A = ℕ} (cond a 1 (cond b 2 0)) 0 → length (h ∷ ws) ≤ mostWords
+    go true b q e = absurd (omega arith)
+    go false b q e = ltb-false mostWords (length (h ∷ ws)) q
+
 pub from-head : (l : List ℕ) → headFault l ≡ 0
     → wordsFault 0 (headValue (getD l 0 0)) (drop 1 l) ≡ wordsFault (getD l 0 0 / 4) (valueAfter (getD l 0 0)) (drop 1 l)
 from-head l z =

@@ -34,7 +34,7 @@ tidy h ws z = go (ltb mostWords (length (h ∷ ws))) (ltb 1 h) refl refl z
     go false true p q e = absurd (omega arith)
     go false false p q e = record { first = ltb-false 1 h q; rises = no-fault-rise 0 ws e; short = ltb-false mostWords (length (h ∷ ws)) p }
 
-not-empty : tidyFault [] ≡ 0 → ⊥
+pub not-empty : tidyFault [] ≡ 0 → ⊥
 unfolding tidyFault
 not-empty e = omega arith
 

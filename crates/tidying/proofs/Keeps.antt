@@ -12,7 +12,7 @@ use Rattle.signals.proofs.WordFacts.{word-of, num-headValue}
 use Rattle.signals.proofs.Scan.{scan-to, scan-settled, listOf-scan}
 use Rattle.signals.proofs.Operand.{Ahead, pass-word, value-none, value-held}
 use Rattle.signals.proofs.Normal.{last-le, start}
-use Rattle.signals.proofs.Tidying.{tidy}
+use Rattle.signals.proofs.Tidying.{not-empty, tidy}
 use Rattle.tidying.specs.Kept.{changing, kept, KeptExact}
 
 -- a date's entry before other words is its word, where that changes something
@@ -35,10 +35,6 @@ scan-changing f m k v (w ∷ ws) a le =
     let d : dateOf w ≤ m = omega (arith, last-le (dateOf w) ws (a .rises .1)) in
     scan-to f m k (dateOf w) v (valueAt w) (valueAfter w) (step .0) d
     ∙ rw (scan-changing f m (dateOf w) (valueAfter w) ws (step .1) le) (entry-kept v w (changing (valueAfter w) ws))
-
-not-empty : tidyFault [] ≡ 0 → ⊥
-unfolding tidyFault
-not-empty e = omega arith
 
 pub kept-exact : KeptExact
 unfolding tidied lastDate kept

@@ -15,7 +15,7 @@ use Rattle.signals.specs.declared.Written.{Written}
 use Rattle.signals.specs.declared.Written.the-variants.{Count, Refused}
 use Rattle.signals.proofs.AnswersSay.{written-says}
 use Rattle.signals.proofs.Tidying.{tidying}
-use Rattle.signals.proofs.Giving.{no-fault}
+use Rattle.signals.proofs.Giving.{no-fault, past-stays}
 use Rattle.tidying.specs.Calls.{tidyingFault, CallOfTidying}
 use Rattle.tidying.specs.TidyingSays.{Tidies, TidyingSays}
 use Rattle.tidying.proofs.Keeps.{kept-exact}
@@ -38,17 +38,6 @@ gave l out after answer (call, z) =
       count = counted;
       front = rw (counted, written) (take-append-seam (tidied l) (drop (length (tidied l)) out));
     }
-
--- an answer and an output of a fault and words: past the count the output is the old one
-past-stays : (fault : ℕ) (words out : List ℕ) → drop (countIn (writtenOf fault words)) (outputOf fault words out)
-    ≡ drop (countIn (writtenOf fault words)) out
-unfolding writtenOf outputOf
-past-stays fault words out = go (eqb fault 0)
-  where
-    go : (t : Bool) → drop (countIn (cond t (Count (length words)) (Refused fault))) (cond t (words ++ drop (length words) out) out)
-        ≡ drop (countIn (cond t (Count (length words)) (Refused fault))) out
-    go true = drop-append-seam words (drop (length words) out)
-    go false = refl
 
 room-enough : (l : List ℕ) (n : ℕ) → tidyFault l ≡ 0 → length l ≤ n → tidyingFault l n ≡ 0
 unfolding tidyingFault firstOf

@@ -14,7 +14,7 @@ use Rattle.signals.specs.Words.{dateOf, valueAfter, changesNothing, mostWords}
 use Rattle.signals.proofs.WordFacts.{head-value}
 use Rattle.words.proofs.Unchanged.{both-up, both-down}
 use Rattle.lists.specs.Head.{headFault}
-use Rattle.lists.proofs.Judging.{head-small, head-some}
+use Rattle.lists.proofs.Judging.{head-some, head-short, head-small}
 use Rattle.tidying.specs.Kept.{changing, kept}
 use Rattle.tidying.specs.Counting.{notAbove, change, allNotAbove, Counted}
 
@@ -98,15 +98,6 @@ length-change : (c w : ℕ) → c ≤ 1 → length (take c (w ∷ [])) ≡ c
 length-change zero w h = refl
 length-change (suc zero) w h = refl
 length-change (suc (suc c)) w h = absurd (omega arith)
-
-head-short : (l : List ℕ) → headFault l ≡ 0 → length l ≤ mostWords
-unfolding headFault
-head-short [] z = omega arith
-head-short (h ∷ ws) z = go (ltb mostWords (length (h ∷ ws))) (ltb 1 h) refl z
-  where
-    go : (a b : Bool) → ltb mostWords (length (h ∷ ws)) ≡ a → _≡_ {A = ℕ} (cond a 1 (cond b 2 0)) 0 → length (h ∷ ws) ≤ mostWords
-    go true b q e = absurd (omega arith)
-    go false b q e = ltb-false mostWords (length (h ∷ ws)) q
 
 -- the first pass up to place i: what is counted and what is left
 pub record CountedTo (l : List ℕ) (words wrong i : ℕ) : Type 0 where

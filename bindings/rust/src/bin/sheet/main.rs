@@ -19,9 +19,10 @@ A text has one line a signal, with a name of 1 to 8 lowercase letters and digits
   NAME = 0 23 38                                   the words themselves
 Empty lines and lines that begin with # say nothing.
 
-To be tidied, a text may have any number of lines and any names. Each signal's line is written anew in its own notation, all other lines
-stay as they are. A file with a zero byte is no text but raw lists, one after the other, each a count of 16 bits and so many words of 32
-bits, low byte first. IN has at most 256 MB. Where a list of it is refused, OUT is not written, and what is wrong is said of the first 20.
+To be tidied, a text may have any number of lines, and what stands before : or = may be any name. Each signal's line is written anew in
+its own notation, all other lines stay as they are. A file with a zero byte is no text but raw lists, one after the other, each a count of
+16 bits and so many words of 32 bits, low byte first. A list has at most 256 words, those that go counted too; IN has at most 256 MB.
+Where a list is refused or a line cannot be read, OUT is not written, and the first 20 faults are told.
 
 SHEET and OUT are written whole or left as they were. A file that is there keeps its mode; a symbolic link stays and the file that it
 points to is written. Refused: what is no regular file, the file TEXT or IN itself, and a file that may not be written.
@@ -70,22 +71,27 @@ fn make(from: &Path, to: &Path) -> Result<(), String> {
     write(to, from, sheet.bytes())
 }
 
-// What is wrong with a file, line by line.
-fn each(path: &Path, wrongs: String) -> String {
-    wrongs.lines().map(|line| format!("{}: {line}", path.display())).collect::<Vec<_>>().join("\n")
+// What is said of a file, each line with its name before it.
+fn named(path: &Path, said: String) -> String {
+    said.lines().map(|line| format!("{}: {line}", path.display())).collect::<Vec<_>>().join("\n")
+}
+
+fn tidy_raw(from: &Path, bytes: &[u8]) -> Result<Vec<u8>, String> {
+    // as a raw list's count the mark of a sheet is far above 256, so that no lists are turned away
+    if bytes.starts_with(b"SGL") {
+        return Err(format!("{}: is a sheet; a text or raw lists are tidied", from.display()));
+    }
+    let zero = bytes.iter().take_while(|&&byte| byte != 0).count();
+    raw::tidy(bytes).map_err(|wrongs| named(from, format!("byte {zero} is 0, so these are raw lists and no text\n{wrongs}")))
 }
 
 fn tidy(from: &Path, to: &Path) -> Result<(), String> {
     let bytes = read(from, LISTS_BYTES)?;
-    // as a raw list's count this mark is far above 256, so that no lists are turned away
-    if bytes.starts_with(b"SGL") && raw::is_raw(&bytes) {
-        return Err(format!("{}: is a sheet; a text or raw lists are tidied", from.display()));
-    }
     let tidied = if raw::is_raw(&bytes) {
-        raw::tidy(&bytes).map_err(|wrongs| each(from, wrongs.to_string()))?
+        tidy_raw(from, &bytes)?
     } else {
         let tidied = text::tidy(&text_of(from, bytes)?);
-        tidied.map_err(|wrongs| each(from, wrongs.to_string()))?.into_bytes()
+        tidied.map_err(|wrongs| named(from, wrongs.to_string()))?.into_bytes()
     };
     write(to, from, &tidied)
 }
