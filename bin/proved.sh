@@ -18,9 +18,9 @@ trouble() {
     exit 2
 }
 
-# Whether a word is a number.
+# Whether a word is a number, without needless zeros.
 is_number() {
-    case $1 in '' | *[!0-9]*) return 1 ;; esac
+    case $1 in '' | *[!0-9]* | 0?*) return 1 ;; esac
 }
 
 # What the faults of a sheet mean.

@@ -1,7 +1,7 @@
 /* Rascrunel: timing signals as lists of words, sheets of named signals, formulas and claims, up-times.
  *
  * The functions below are proved: each comes to an end on every input, judges its input, and gives the number that
- * crates/capi/specs defines. This header is not proved; it only declares them.
+ * crates/capi/specs defines. This header is not proved; it only declares them and takes their numbers apart.
  *
  * Lists. A list is 1 to 256 words. The first is 0 or 1, the value from the start on. Each later word is
  * 4 * date + 2 * (value at the date) + (value after it). Dates rise strictly from 1 and are at most 1073741823 (M). A word
@@ -19,6 +19,10 @@
  *             + 0 for no or down. Where it only judges: 65536 * fault. Fault 0 is none; a refused call writes nothing to its
  *             output and its count is 0. Elements of the output past the count keep what they held.
  *   verdict   (uint64_t) 0 holds, 2 * k fails at k, 2 * k + 1 fails after k (between k and k + 1), 2^40 * n refused with n.
+ *   span      (uint64_t) 2^32 * last + first: the earliest moment that fails, and the last of the unbroken run of failing moments
+ *             that begins with it, 0 when that never ends (fails for good). A moment is 2 * k for the instant k and 2 * k + 1 for
+ *             the gap between k and k + 1. Holds is exactly 0. Refused with n is 2^32 * n: not packed as a verdict is, and a span
+ *             is refused exactly when its low 32 bits are 0 and its high 32 bits are not. No moment that fails is 0.
  *   place     (uint64_t) 2^24 * first byte + byte count of a signal's words on the sheet; refused, 2^48 * fault, and the first
  *             byte and the count are 0.
  *   up-time   (uint64_t) 2^16 * total in ticks + count of the words written; refused, 2^48 * fault, and total and count are 0.
@@ -46,8 +50,8 @@
 extern "C" {
 #endif
 
-/* The largest date and the largest length; the most words of a list; the work words of sgl_evaluate and sgl_claim; the bytes
- * of the longest sheet; the most bytes of a formula. */
+/* The largest date and the largest length; the most words of a list; the work words of sgl_evaluate, sgl_claim and
+ * sgl_claim_span; the bytes of the longest sheet; the most bytes of a formula. */
 #define SGL_M 1073741823u
 #define SGL_LIST_WORDS 256u
 #define SGL_WORK_WORDS 8192u
@@ -57,10 +61,25 @@ extern "C" {
 /* The most stack that a call needs, 128 KB: bindings/c/stack.c makes the deepest calls in threads of it. */
 #define SGL_STACK_BYTES 131072u
 
-/* The parts of a result. SGL_FAULT and SGL_COUNT are for uint32_t results only. */
+/* The parts of a span that depend on both its halves. The last moment is 0 where there is none: it holds, fails for good, or is
+ * refused. */
+static inline uint32_t sgl_span_fault(uint64_t span) {
+    return (uint32_t)span == 0 ? (uint32_t)(span >> 32) : 0;
+}
+static inline uint32_t sgl_span_last(uint64_t span) {
+    return (uint32_t)span == 0 ? 0 : (uint32_t)(span >> 32);
+}
+
+/* The parts of a result; each takes its argument once. SGL_FAULT and SGL_COUNT are for uint32_t results only, SGL_VERDICT_FAULT
+ * is not for spans. SGL_SPAN_FOR_GOOD tells whether it fails for good: it is one
+ * of 1 to 2^32 - 1. */
 #define SGL_FAULT(result) ((uint32_t)(result) / 65536u)
 #define SGL_COUNT(result) ((uint32_t)(result) % 65536u)
 #define SGL_VERDICT_FAULT(verdict) ((uint32_t)((uint64_t)(verdict) >> 40))
+#define SGL_SPAN_FAULT(span) sgl_span_fault(span)
+#define SGL_SPAN_FIRST(span) ((uint32_t)((uint64_t)(span) & 0xffffffffu))
+#define SGL_SPAN_LAST(span) sgl_span_last(span)
+#define SGL_SPAN_FOR_GOOD(span) ((uint64_t)(span) - 1 < 0xffffffffu)
 #define SGL_PLACE_FAULT(place) ((uint32_t)((uint64_t)(place) >> 48))
 #define SGL_PLACE_START(place) ((uint32_t)((uint64_t)(place) >> 24 & 0xffffffu))
 #define SGL_PLACE_COUNT(place) ((uint32_t)((uint64_t)(place) & 0xffffffu))
@@ -84,6 +103,9 @@ uint32_t sgl_equal(const uint32_t *a, size_t a_words, const uint32_t *b, size_t 
 
 /* Verdict of a to b: wherever a is up, b is up. Faults of a, of b. */
 uint64_t sgl_implies(const uint32_t *a, size_t a_words, const uint32_t *b, size_t b_words);
+
+/* The same as a span: from when it fails, and until when. Faults as above. */
+uint64_t sgl_implies_span(const uint32_t *a, size_t a_words, const uint32_t *b, size_t b_words);
 
 /* NOT. Faults of the list, 7. */
 uint32_t sgl_not(const uint32_t *a, size_t a_words, uint32_t *out, size_t out_words);
@@ -132,6 +154,11 @@ uint32_t sgl_evaluate(const uint8_t *sheet, size_t sheet_bytes, const uint8_t *f
  * and then of g 10, 11, 8, 12, 13, then 18, then 5 or 6 at the first part of f, then of g. */
 uint64_t sgl_claim(const uint8_t *sheet, size_t sheet_bytes, const uint8_t *f, size_t f_bytes,
                    const uint8_t *g, size_t g_bytes, uint32_t *work, size_t work_words);
+
+/* The same as a span: from when the claim fails, and until when. Eight arguments, two for each slice. Faults as above, packed as a
+ * span's. */
+uint64_t sgl_claim_span(const uint8_t *sheet, size_t sheet_bytes, const uint8_t *f, size_t f_bytes,
+                        const uint8_t *g, size_t g_bytes, uint32_t *work, size_t work_words);
 
 /* Up-time of a signal on a sheet before the date h. Writes its up stretches in order of time, two words each: the first gap and
  * the length in ticks. Gap k lies between k and k + 1; a stretch is a longest run of up gaps, cut at h, and instants play no part.

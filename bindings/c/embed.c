@@ -18,12 +18,15 @@ int main(void) {
     for (uint32_t i = 0; i < SGL_COUNT(got); i++)
         printf("%s%u", i ? ", " : "[", out[i]);
     printf("]\n");
-    uint64_t v = sgl_claim(sheet, SGL_COUNT(made), (const uint8_t *)"a", 1, (const uint8_t *)"TON(2,a)", 8, work, SGL_WORK_WORDS);
-    if (SGL_VERDICT_FAULT(v))
-        printf("refused %u\n", SGL_VERDICT_FAULT(v));
+    uint64_t v = sgl_claim_span(sheet, SGL_COUNT(made), (const uint8_t *)"a", 1, (const uint8_t *)"TON(2,a)", 8, work, SGL_WORK_WORDS);
+    uint32_t first = SGL_SPAN_FIRST(v), last = SGL_SPAN_LAST(v);
+    if (SGL_SPAN_FAULT(v))
+        printf("refused %u\n", SGL_SPAN_FAULT(v));
     else if (v == 0)
         printf("holds\n");
+    else if (SGL_SPAN_FOR_GOOD(v))
+        printf("fails %s %u for good\n", first % 2 ? "after" : "at", first / 2);
     else
-        printf("fails %s %u\n", v % 2 ? "after" : "at", (uint32_t)(v / 2));
+        printf("fails %s %u until %s%u\n", first % 2 ? "after" : "at", first / 2, last % 2 ? "before " : "", (last + 1) / 2);
     return 0;
 }

@@ -36,6 +36,8 @@ int main(int argc, char **argv) {
             got = sgl_sr(a, n, b, n, out, SGL_LIST_WORDS);
         else if (!strcmp(argv[1], "implies"))
             got = sgl_implies(a, n, a, n);
+        else if (!strcmp(argv[1], "implies_span"))
+            got = a[n - 1] % 2 ? sgl_implies_span(a, n, a, n - 1) : sgl_implies_span(a, n - 1, a, n);
         else if (!strcmp(argv[1], "uptime"))
             got = sgl_uptime(sheet, bytes, (const uint8_t *)"a", 1, SGL_M, out, SGL_LIST_WORDS);
         else

@@ -48,6 +48,18 @@ static void *claim_to(void *none) {
     return none;
 }
 
+static void *span_from(void *none) {
+    answer = SGL_SPAN_FAULT(
+        sgl_claim_span(sheet, sizeof sheet, (const uint8_t *)text, bytes, (const uint8_t *)"1", 1, work, SGL_WORK_WORDS));
+    return none;
+}
+
+static void *span_to(void *none) {
+    answer = SGL_SPAN_FAULT(
+        sgl_claim_span(sheet, sizeof sheet, (const uint8_t *)"a", 1, (const uint8_t *)text, bytes, work, SGL_WORK_WORDS));
+    return none;
+}
+
 static void *uptime(void *none) {
     answer = SGL_UPTIME_FAULT(sgl_uptime(full[0], SGL_SHEET_BYTES, (const uint8_t *)text, bytes, SGL_M, out, SGL_LIST_WORDS));
     return none;
@@ -86,6 +98,8 @@ static void calls(uint64_t fault) {
     call(evaluate, fault);
     call(claim_from, fault);
     call(claim_to, fault);
+    call(span_from, fault);
+    call(span_to, fault);
 }
 
 static void add(const char *part) {

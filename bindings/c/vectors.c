@@ -1,4 +1,4 @@
-/* Document 01's cases, document 02's pulse timer and up-times through the header: every exported function, from C. */
+/* Document 01's cases, document 02's pulse timer, up-times and spans through the header: every exported function, from C. */
 #include <stdio.h>
 #include <string.h>
 #include "rascrunel.h"
@@ -193,6 +193,76 @@ static void formulas(void) {
     IS(sgl_claim(N(printed), TEXT(""), TEXT("a"), N(work)), 10ull << 40);
 }
 
+/* A span: the number and its parts. Where it fails, the verdict of before is its first moment. */
+static void span(int line, uint64_t got, uint64_t verdict, uint32_t fault, uint32_t first, uint32_t end) {
+    same(line, got, (uint64_t)(fault ? fault : end) << 32 | first);
+    same(line, verdict, fault ? (uint64_t)fault << 40 : first);
+    same(line, SGL_VERDICT_FAULT(verdict), fault);
+    same(line, SGL_SPAN_FAULT(got), fault);
+    same(line, SGL_SPAN_FIRST(got), first);
+    same(line, SGL_SPAN_LAST(got), end);
+    same(line, SGL_SPAN_FOR_GOOD(got), first && !end);
+}
+
+#define AT(k) (2 * (k))
+#define GAP(k) (2 * (k) + 1)
+#define SPAN_OF(a, b, fault, first, end) span(__LINE__, sgl_implies_span(N(a), N(b)), sgl_implies(N(a), N(b)), (fault), (first), (end))
+#define SPAN(a, b, first, end) SPAN_OF(a, b, 0, (first), (end))
+#define HOLDS(a, b) SPAN_OF(a, b, 0, 0, 0)
+#define FOR_GOOD(a, b, first) SPAN_OF(a, b, 0, (first), 0)
+#define NO_SPAN(a, b, fault) SPAN_OF(a, b, (fault), 0, 0)
+
+static void spans(void) {
+    static const uint32_t ton2[] = {0, 31, 36}, gap5[] = {0, 21, 24}, to7[] = {0, 23, 30}, from0[] = {1, 4}, but7[] = {1, 29},
+        again[] = {0, 22, 43}, after[] = {0, 23}, before_m[] = {0, 4294967289u, 4294967292u}, gap_m[] = {0, 4294967293u},
+        to_m[] = {0, 23, 4294967294u};
+    HOLDS(e, f);
+    HOLDS(f, one);
+    SPAN(f, ton2, AT(5), GAP(6));
+    SPAN(f, ton2, 10, 13);
+    SPAN(e, none, AT(5), AT(5));
+    SPAN(gap5, none, GAP(5), GAP(5));
+    SPAN(to7, none, AT(5), AT(7));
+    SPAN(from0, none, GAP(0), GAP(0));
+    SPAN(one, f, GAP(0), GAP(4));
+    SPAN(but7, none, GAP(0), GAP(6));
+    SPAN(again, none, AT(5), AT(5));
+    SPAN(to7, l, AT(5), AT(5));
+    FOR_GOOD(one, none, GAP(0));
+    FOR_GOOD(after, none, AT(5));
+    FOR_GOOD(l, e, GAP(5));
+    FOR_GOOD(up, none, AT(SGL_M));
+    FOR_GOOD(gap_m, none, GAP(SGL_M));
+    SPAN(last, none, AT(SGL_M), AT(SGL_M));
+    SPAN(before_m, none, GAP(SGL_M - 1), GAP(SGL_M - 1));
+    SPAN(to_m, none, AT(5), AT(SGL_M));
+    SPAN(one, up, GAP(0), GAP(SGL_M - 1));
+    NO_SPAN(bad2, f, 2);
+    NO_SPAN(f, bad3, 3);
+    NO_SPAN(bad4, bad2, 4);
+    IS(sgl_implies_span(f, 0, N(f)), 1ull << 32);
+}
+
+#define CLAIM_OF(f, g, fault, first, end) \
+    span(__LINE__, sgl_claim_span(N(printed), TEXT(f), TEXT(g), N(work)), sgl_claim(N(printed), TEXT(f), TEXT(g), N(work)), (fault), \
+         (first), (end))
+
+static void claims(void) {
+    CLAIM_OF("a", "TON(2,a)", 0, 10, 13);
+    CLAIM_OF("TON(2,a)", "a", 0, 0, 0);
+    CLAIM_OF("a", "TP(3,a)", 0, AT(8), GAP(8));
+    CLAIM_OF("^a", "0", 0, AT(5), AT(5));
+    CLAIM_OF("1", "a", 0, GAP(0), GAP(4));
+    CLAIM_OF("1", "0", 0, GAP(0), 0);
+    CLAIM_OF("SR(~a,0)", "a", 0, AT(9), 0);
+    CLAIM_OF("", "a", 10, 0, 0);
+    CLAIM_OF("a", "a+", 11, 0, 0);
+    CLAIM_OF("a", "b", 13, 0, 0);
+    CLAIM_OF("TOF(1073741823,a)", "a", 6, 0, 0);
+    IS(sgl_claim_span(N(printed), TEXT("a"), TEXT("a"), work, SGL_WORK_WORDS - 1), 18ull << 32);
+    IS(sgl_claim_span(printed, 4, TEXT("a"), TEXT("a"), N(work)), 14ull << 32);
+}
+
 /* An up-time: the answer and its parts, and the whole output. */
 static void uptime(int line, uint64_t got, uint32_t fault, uint32_t total, const uint32_t *want, uint32_t count) {
     same(line, got, fault ? (uint64_t)fault << 48 : (uint64_t)total << 16 | count);
@@ -245,6 +315,8 @@ int main(void) {
     operations();
     sheets();
     formulas();
+    spans();
+    claims();
     uptimes();
     return failed;
 }

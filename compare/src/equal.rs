@@ -4,20 +4,21 @@ use crate::random::Random;
 use crate::{ffi, plain};
 use std::fmt::Write;
 
-/// How many claims hold, fail, and are refused with each fault.
+/// How many claims hold, fail until an instant, until a gap or for good, and are refused with each fault.
 #[derive(Default)]
 pub struct Tally {
     pub holds: usize,
-    pub fails: usize,
+    pub fails: [usize; 3],
     pub refused: [usize; 19],
 }
 
 impl Tally {
-    fn count(&mut self, verdict: u64) {
-        match (verdict >> 40) as usize {
-            0 if verdict == 0 => self.holds += 1,
-            0 => self.fails += 1,
-            fault => self.refused[fault] += 1,
+    fn count(&mut self, span: u64) {
+        match (fault(span), span >> 32) {
+            (0, _) if span == 0 => self.holds += 1,
+            (0, 0) => self.fails[2] += 1,
+            (0, last) => self.fails[last as usize % 2] += 1,
+            (fault, _) => self.refused[fault as usize] += 1,
         }
     }
 
@@ -26,12 +27,30 @@ impl Tally {
     }
 }
 
-fn verdict_text(verdict: u64) -> String {
-    match (verdict >> 40, verdict % 2) {
-        (0, _) if verdict == 0 => "holds".to_string(),
-        (0, 0) => format!("fails at {}", verdict / 2),
-        (0, _) => format!("fails after {}", verdict / 2),
-        (fault, _) => format!("refused {fault}"),
+/// The fault of a span, 0 for none.
+pub fn fault(span: u64) -> u64 {
+    if span as u32 == 0 {
+        span >> 32
+    } else {
+        0
+    }
+}
+
+/// A span without its end, packed as the calls do that do not say it.
+fn verdict(span: u64) -> u64 {
+    fault(span) << 40 | span & 0xffff_ffff
+}
+
+fn span_text(span: u64) -> String {
+    let (first, last) = (span & 0xffff_ffff, span >> 32);
+    if first == 0 {
+        return if last == 0 { "holds".to_string() } else { format!("refused {last}") };
+    }
+    let first = format!("fails {} {}", ["at", "after"][first as usize % 2], first / 2);
+    match last {
+        0 => format!("{first} for good"),
+        _ if last % 2 == 0 => format!("{first} until {}", last / 2),
+        _ => format!("{first} until before {}", last / 2 + 1),
     }
 }
 
@@ -60,11 +79,11 @@ fn claim_text(claim: &Claim) -> String {
 pub type ClaimCall = fn(&[u8], &[u8], &[u8], &mut [u32]) -> u64;
 
 /// A claim refused by check 18 or before leaves the work area as it was.
-fn is_kept(verdict: u64, work: &[u32], old: &[u32]) -> bool {
-    matches!(verdict >> 40, 0 | 5 | 6) || work == old
+fn is_kept(span: u64, work: &[u32], old: &[u32]) -> bool {
+    matches!(fault(span), 0 | 5 | 6) || work == old
 }
 
-/// Claims of a set, and their formulas by themselves: the first difference, or how they came out.
+/// Claims of a set, with their ends and without, and their formulas by themselves: the first difference, or how they came out.
 pub fn claims(set: Set, seed: u64, count: usize, other: ClaimCall) -> Result<Tally, String> {
     let mut random = set.random(seed);
     let mut tally = Tally::default();
@@ -72,14 +91,18 @@ pub fn claims(set: Set, seed: u64, count: usize, other: ClaimCall) -> Result<Tal
         let claim = generate::claim(&mut random, set);
         let old = vec![7; claim.work];
         let (first, second) = (&mut old.clone(), &mut old.clone());
-        let ours = ffi::claim(&claim.sheet, &claim.f, &claim.g, first);
+        let ours = ffi::claim_span(&claim.sheet, &claim.f, &claim.g, first);
         let others = other(&claim.sheet, &claim.f, &claim.g, second);
         if ours != others {
-            let (ours, others) = (verdict_text(ours), verdict_text(others));
+            let (ours, others) = (span_text(ours), span_text(others));
             return Err(format!("{}\nours: {ours}\nplain: {others}", claim_text(&claim)));
         }
+        let without = ffi::claim(&claim.sheet, &claim.f, &claim.g, first);
+        if without != verdict(ours) {
+            return Err(format!("{}\nours: {}\nwithout its end: {without}", claim_text(&claim), span_text(ours)));
+        }
         if !is_kept(ours, first, &old) || !is_kept(ours, second, &old) {
-            return Err(format!("{}\nthe work area was written: {}", claim_text(&claim), verdict_text(ours)));
+            return Err(format!("{}\nthe work area was written: {}", claim_text(&claim), span_text(ours)));
         }
         tally.count(ours);
         for (letter, formula) in [("F", &claim.f), ("G", &claim.g)] {
@@ -113,7 +136,7 @@ macro_rules! list_calls {
     };
 }
 
-pub const LIST_CALLS: [ListCall; 11] = list_calls![
+pub const LIST_CALLS: [ListCall; 12] = list_calls![
     |given, out| tidy(&given.a, out),
     |given, out| not(&given.a, out),
     |given, out| rising(&given.a, out),
@@ -125,6 +148,7 @@ pub const LIST_CALLS: [ListCall; 11] = list_calls![
     |given, out| sr(&given.a, &given.b, out),
     |given, out| rs(&given.a, &given.b, out),
     |given, _out| implies(&given.a, &given.b),
+    |given, _out| implies_span(&given.a, &given.b),
 ];
 
 /// Every call on lists that are drawn: the first difference, or how many calls were answered and how many refused.
@@ -145,7 +169,12 @@ pub fn lists(seed: u64, count: usize, calls: &[ListCall]) -> Result<(usize, usiz
                     "{name}\n{words}\nours: {ours}, output {out:?}\nplain: {others}, output {other_out:?}"
                 ));
             }
-            if ours >> 16 == 0 || call.name == "implies" && ours >> 40 == 0 {
+            let is_answered = match call.name {
+                "implies" => ours >> 40 == 0,
+                "implies_span" => fault(ours) == 0,
+                _ => ours >> 16 == 0,
+            };
+            if is_answered {
                 answered += 1;
             } else {
                 refused += 1;

@@ -34,6 +34,7 @@ mod c {
         pub fn sgl_sr(s: List, s_words: usize, r: List, r_words: usize, out: Out, out_words: usize) -> u32;
         pub fn sgl_rs(s: List, s_words: usize, r: List, r_words: usize, out: Out, out_words: usize) -> u32;
         pub fn sgl_implies(a: List, a_words: usize, b: List, b_words: usize) -> u64;
+        pub fn sgl_implies_span(a: List, a_words: usize, b: List, b_words: usize) -> u64;
         pub fn sgl_evaluate(
             sheet: Text,
             sheet_bytes: usize,
@@ -45,6 +46,16 @@ mod c {
             out_words: usize,
         ) -> u32;
         pub fn sgl_claim(
+            sheet: Text,
+            sheet_bytes: usize,
+            f: Text,
+            f_bytes: usize,
+            g: Text,
+            g_bytes: usize,
+            work: Out,
+            work_words: usize,
+        ) -> u64;
+        pub fn sgl_claim_span(
             sheet: Text,
             sheet_bytes: usize,
             f: Text,
@@ -120,6 +131,10 @@ pub fn implies(a: &[u32], b: &[u32]) -> u64 {
     unsafe { c::sgl_implies(a.as_ptr(), a.len(), b.as_ptr(), b.len()) }
 }
 
+pub fn implies_span(a: &[u32], b: &[u32]) -> u64 {
+    unsafe { c::sgl_implies_span(a.as_ptr(), a.len(), b.as_ptr(), b.len()) }
+}
+
 pub fn evaluate(sheet: &[u8], formula: &[u8], work: &mut [u32], out: &mut [u32]) -> u32 {
     unsafe {
         c::sgl_evaluate(
@@ -138,6 +153,21 @@ pub fn evaluate(sheet: &[u8], formula: &[u8], work: &mut [u32], out: &mut [u32])
 pub fn claim(sheet: &[u8], f: &[u8], g: &[u8], work: &mut [u32]) -> u64 {
     unsafe {
         c::sgl_claim(
+            sheet.as_ptr(),
+            sheet.len(),
+            f.as_ptr(),
+            f.len(),
+            g.as_ptr(),
+            g.len(),
+            work.as_mut_ptr(),
+            work.len(),
+        )
+    }
+}
+
+pub fn claim_span(sheet: &[u8], f: &[u8], g: &[u8], work: &mut [u32]) -> u64 {
+    unsafe {
+        c::sgl_claim_span(
             sheet.as_ptr(),
             sheet.len(),
             f.as_ptr(),

@@ -49,8 +49,26 @@ fn tidy_undated(list: &[u32], out: &mut [u32]) -> u32 {
 fn wrong_ones_are_told() -> Result<(), String> {
     let told =
         |name: &str, found: bool| if found { Ok(()) } else { Err(format!("the check does not tell {name} from ours")) };
-    let turned = equal::claims(Set::Small, SEED, 300, |sheet, f, g, work| plain::claim(sheet, g, f, work));
+    let turned = equal::claims(Set::Small, SEED, 300, |sheet, f, g, work| plain::claim_span(sheet, g, f, work));
     told("the claim of G to F", turned.is_err())?;
+    let endless = equal::claims(Set::Small, SEED, 300, |sheet, f, g, work| {
+        let span = plain::claim_span(sheet, f, g, work);
+        if equal::fault(span) == 0 {
+            span & 0xffff_ffff
+        } else {
+            span
+        }
+    });
+    told("a claim that fails for good whenever it fails", endless.is_err())?;
+    let gap_for_instant = ListCall {
+        name: "implies_span",
+        ours: |x, _| ffi::implies_span(&x.a, &x.b),
+        plain: |x, _| match plain::implies_span(&x.a, &x.b) {
+            span if equal::fault(span) == 0 && span >> 32 != 0 => span | 1 << 32,
+            span => span,
+        },
+    };
+    told("a run that ends in the gap after its last instant", equal::lists(SEED, 300, &[gap_for_instant]).is_err())?;
     let rs_for_sr = ListCall {
         name: "sr",
         ours: |x, out| ffi::sr(&x.a, &x.b, out).into(),
@@ -118,15 +136,26 @@ fn check_tidyings(count: usize) -> Result<(), String> {
 /// Both are equal on so many claims of each set (of the largest a twentieth) and so many lists.
 fn check(count: usize) -> Result<(), String> {
     wrong_ones_are_told()?;
-    let mut met = [0; 19];
+    let (mut met, mut ended) = ([0; 19], [0; 3]);
     for set in Set::ALL {
         let claims = if set == Set::Largest { count / 20 } else { count };
-        let tally = equal::claims(set, SEED, claims, plain::claim)?;
+        let tally = equal::claims(set, SEED, claims, plain::claim_span)?;
         let Tally { holds, fails, refused } = &tally;
-        println!("{:<8} {claims} claims: {holds} hold, {fails} fail, {} refused", set.name(), tally.all_refused());
+        let (all, [instant, gap, never]) = (fails.iter().sum::<usize>(), fails);
+        println!(
+            "{:<8} {claims} claims: {holds} hold, {all} fail ({instant} until an instant, {gap} until a gap, {never} for good), {} refused",
+            set.name(),
+            tally.all_refused()
+        );
         for (sum, refused) in met.iter_mut().zip(refused) {
             *sum += refused;
         }
+        for (sum, fails) in ended.iter_mut().zip(fails) {
+            *sum += fails;
+        }
+    }
+    if ended.contains(&0) {
+        return Err("no claim failed until an instant, until a gap, or for good".to_string());
     }
     println!("refused with {}", faults_met(&FAULTS, &met, "claim")?);
     let (answered, refused) = equal::lists(SEED, count, &LIST_CALLS)?;

@@ -2,7 +2,7 @@
 use crate::batches::Batch;
 use crate::generate::{self, sheet_of, turns, Claim, Set, MOST_WORDS, MOST_WORK};
 use crate::random::Random;
-use crate::{ffi, plain};
+use crate::{equal, ffi, plain};
 use std::hint::black_box;
 
 /// One timing lasts at least so many nanoseconds, far above the grain of the clock.
@@ -82,7 +82,7 @@ impl Times {
         let ours = || {
             for claim in claims {
                 let work = &mut work[..claim.work];
-                black_box(ffi::claim(
+                black_box(ffi::claim_span(
                     black_box(&claim.sheet),
                     black_box(&claim.f),
                     black_box(&claim.g),
@@ -93,7 +93,7 @@ impl Times {
         let plain = || {
             for claim in claims {
                 let work = &mut other_work[..claim.work];
-                black_box(plain::claim(
+                black_box(plain::claim_span(
                     black_box(&claim.sheet),
                     black_box(&claim.f),
                     black_box(&claim.g),
@@ -110,8 +110,9 @@ impl Times {
         let count = if set == Set::Largest { 24 } else { 300 };
         let mut work = vec![0; MOST_WORK];
         let drawn = (0..count).map(|_| generate::claim(&mut random, set));
-        let is_answered =
-            |claim: &Claim| ffi::claim(&claim.sheet, &claim.f, &claim.g, &mut work[..claim.work]) >> 40 == 0;
+        let is_answered = |claim: &Claim| {
+            equal::fault(ffi::claim_span(&claim.sheet, &claim.f, &claim.g, &mut work[..claim.work])) == 0
+        };
         let (answered, refused): (Vec<Claim>, Vec<Claim>) = drawn.partition(is_answered);
         self.claims(set.name(), &answered);
         self.claims(&format!("{}-refused", set.name()), &refused);
@@ -138,6 +139,9 @@ impl Times {
         let a = turns(&mut random, words, 0);
         let b = turns(&mut random, words, 1);
         let sheet = sheet_of("a", &a);
+        // a claim that fails for good from the last date on
+        let (all, short) = (&a[..], &a[..words - 1]);
+        let (f, g) = if a[words - 1] % 2 == 1 { (all, short) } else { (short, all) };
         macro_rules! call {
             (|$out:ident| $call:ident($($argument:expr),*)) => {
                 call!(16, |$out| $call($($argument),*))
@@ -177,6 +181,7 @@ impl Times {
         call!(|out| tof(2, &a, &mut out));
         call!(|out| tp(2, &a, &mut out));
         call!(|out| implies(&a, &a));
+        call!(32, |out| implies_span(f, g));
         call!(48, |out| uptime(&sheet, b"a", generate::M as u32, &mut out));
     }
 }

@@ -1,6 +1,6 @@
 """The lines that the program `cases` is to print: each case of its input, by documents 01 and 02.
 
-A case is a call and its arguments (crates/fields/src/notation.rt says how they are written). A slot (`not_in` and its like) is no notion of
+A case is a call and its arguments (crates/notation/src/lib.rt says how they are written). A slot (`not_in` and its like) is no notion of
 document 01: what it keeps is said at `operate`.
 """
 import re
@@ -89,8 +89,18 @@ def yes(value):
     return "yes" if value else "no"
 
 
-def failing(m):
-    return "holds" if m is None else "fails %s %d" % ("at" if m % 2 else "after", (m + 1) // 2)
+def until(m):
+    """The last moment of a run: an instant, or the gap before one; None where it never ends."""
+    if m is None:
+        return "for good"
+    return "until %d" % ((m + 1) // 2) if m % 2 else "until before %d" % (m // 2 + 1)
+
+
+def failing(run):
+    if run is None:
+        return "holds"
+    first, last = run
+    return "fails %s %d %s" % ("at" if first % 2 else "after", (first + 1) // 2, until(last))
 
 
 # Lists and operations

@@ -1,4 +1,4 @@
-"""Signals, lists and operations by the sentences of document 01, TP and up stretches by those of document 02.
+"""Signals, lists and operations by the sentences of document 01; TP, up stretches and how long a claim fails by those of document 02.
 
 A moment is a number: gap k is 2k, instant k is 2k - 1. A signal is constant between its changes, so "some moment
 from a to b" is asked by way of the last moment up to b that is up, or down; it lies just before a change, or is b.
@@ -128,5 +128,11 @@ def answer_fault(words, room=256):
 
 
 def implication(f, g):
-    """The earliest moment at which f is up and g is down, or None."""
-    return next((m for m in sorted({0, *f.changes, *g.changes}) if f.up(m) and not g.up(m)), None)
+    """The first unbroken run of moments at which f is up and g is down: its first and its last, None where it never ends. Or None."""
+    changes = sorted({0, *f.changes, *g.changes})
+    fails = [f.up(m) and not g.up(m) for m in changes]
+    if True not in fails:
+        return None
+    first = fails.index(True)
+    end = changes[fails.index(False, first)] - 1 if False in fails[first:] else None
+    return changes[first], end

@@ -1,7 +1,9 @@
-"""The latches, timers and stretches of signals.py against the documents' sentences taken moment by moment, on random short lists."""
+"""The latches, timers, stretches and failing runs of signals.py against the documents' sentences, moment by moment on random lists."""
 import itertools
 import random
-from signals import Signal, negation, rs, sr, stretches, tof, ton, tp
+from signals import Signal, implication, negation, rs, sr, stretches, tof, ton, tp
+
+END = 61
 
 
 def moments(t1, t, with_t1):
@@ -46,6 +48,12 @@ def paged(f, horizon):
     return found == grouped(f.up, horizon) and total(found) == up_gaps and total(down) == horizon - up_gaps
 
 
+def failing_run(f, g):
+    """The first unbroken run of failing moments, moment by moment; past the end nothing changes."""
+    runs = [list(run) for fails, run in itertools.groupby(range(END), lambda t: f(t) and not g(t)) if fails]
+    return (runs[0][0], runs[0][-1] if runs[0][-1] < END - 1 else None) if runs else None
+
+
 def random_list():
     words, date = [random.randrange(2)], 0
     for _ in range(random.randrange(6)):
@@ -68,6 +76,7 @@ def agreeing(pairs):
             (tof(d, f), lambda t: any(map(s, window(d, t)))),
             (tp(d, f), lambda t: pulsed(d, s, t)),
         ]
-        alike = all(Signal(made).up(t) == stepped(t) for made, stepped in cases for t in range(61))
-        agree += alike and all(paged(f, horizon) for horizon in range(31))
+        alike = all(Signal(made).up(t) == stepped(t) for made, stepped in cases for t in range(END))
+        alike = alike and all(paged(f, horizon) for horizon in range(31))
+        agree += alike and all(implication(*pair) == failing_run(*(x.up for x in pair)) for pair in ((f, g), (g, f)))
     return agree

@@ -1,6 +1,6 @@
-//! The exported functions on Rust slices, their numbers unpacked. No work of their own.
+//! The exported functions on Rust slices, their numbers unpacked but for the two that say so. No work of their own.
 use crate::ffi;
-use crate::{Fault, Verdict};
+use crate::{End, Fault, Verdict};
 
 // The proved library gives no other numbers than those of the faults.
 fn fault(number: u32) -> Fault {
@@ -22,12 +22,20 @@ fn told(result: u32) -> Result<bool, Fault> {
     judged(result).map(|()| result % 65536 == 1)
 }
 
-fn verdict(result: u64) -> Result<Verdict, Fault> {
-    match (result >> 40) as u32 {
-        0 if result == 0 => Ok(Verdict::Holds),
-        0 if result % 2 == 0 => Ok(Verdict::FailsAt((result / 2) as u32)),
-        0 => Ok(Verdict::FailsAfter((result / 2) as u32)),
-        n => Err(fault(n)),
+// A span: the earliest moment that fails in the low half, the last of its run in the high one. A moment is 2k at the instant k, 2k + 1
+// in the gap after it.
+fn spanned(result: u64) -> Result<Verdict, Fault> {
+    let (first, last) = (result as u32, (result >> 32) as u32);
+    let end = match last {
+        0 => End::Never,
+        _ if last % 2 == 0 => End::At(last / 2),
+        _ => End::Before(last / 2 + 1),
+    };
+    match first {
+        0 if last == 0 => Ok(Verdict::Holds),
+        0 => Err(fault(last)),
+        _ if first % 2 == 0 => Ok(Verdict::FailsAt(first / 2, end)),
+        _ => Ok(Verdict::FailsAfter(first / 2, end)),
     }
 }
 
@@ -52,7 +60,13 @@ pub fn equal(a: &[u32], b: &[u32]) -> Result<bool, Fault> {
 }
 
 pub fn implies(a: &[u32], b: &[u32]) -> Result<Verdict, Fault> {
-    verdict(unsafe { ffi::sgl_implies(a.as_ptr(), a.len(), b.as_ptr(), b.len()) })
+    spanned(unsafe { ffi::sgl_implies_span(a.as_ptr(), a.len(), b.as_ptr(), b.len()) })
+}
+
+#[doc(hidden)]
+/// The number of `sgl_implies`, which does not say until when: 0 holds, 2k fails at k, 2k + 1 fails after k, 2^40 n refused with n.
+pub fn implies_number(a: &[u32], b: &[u32]) -> u64 {
+    unsafe { ffi::sgl_implies(a.as_ptr(), a.len(), b.as_ptr(), b.len()) }
 }
 
 pub fn not(a: &[u32], out: &mut [u32]) -> Result<usize, Fault> {
@@ -142,8 +156,8 @@ pub fn evaluate(sheet: &[u8], formula: &[u8], work: &mut [u32], out: &mut [u32])
 }
 
 pub fn claim(sheet: &[u8], f: &[u8], g: &[u8], work: &mut [u32]) -> Result<Verdict, Fault> {
-    verdict(unsafe {
-        ffi::sgl_claim(
+    spanned(unsafe {
+        ffi::sgl_claim_span(
             sheet.as_ptr(),
             sheet.len(),
             f.as_ptr(),
@@ -154,6 +168,23 @@ pub fn claim(sheet: &[u8], f: &[u8], g: &[u8], work: &mut [u32]) -> Result<Verdi
             work.len(),
         )
     })
+}
+
+#[doc(hidden)]
+/// The number of `sgl_claim`, which does not say until when, packed as that of `implies_number`.
+pub fn claim_number(sheet: &[u8], f: &[u8], g: &[u8], work: &mut [u32]) -> u64 {
+    unsafe {
+        ffi::sgl_claim(
+            sheet.as_ptr(),
+            sheet.len(),
+            f.as_ptr(),
+            f.len(),
+            g.as_ptr(),
+            g.len(),
+            work.as_mut_ptr(),
+            work.len(),
+        )
+    }
 }
 
 /// Up stretches before h, of each its first gap and its length: how many words were written, two a stretch, and the total in ticks.

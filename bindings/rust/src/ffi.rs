@@ -6,6 +6,7 @@ extern "C" {
     pub fn sgl_value_in(list: *const u32, list_words: usize, k: u32) -> u32;
     pub fn sgl_equal(a: *const u32, a_words: usize, b: *const u32, b_words: usize) -> u32;
     pub fn sgl_implies(a: *const u32, a_words: usize, b: *const u32, b_words: usize) -> u64;
+    pub fn sgl_implies_span(a: *const u32, a_words: usize, b: *const u32, b_words: usize) -> u64;
     pub fn sgl_not(a: *const u32, a_words: usize, out: *mut u32, out_words: usize) -> u32;
     pub fn sgl_connective(
         table: u32,
@@ -47,6 +48,16 @@ extern "C" {
         out_words: usize,
     ) -> u32;
     pub fn sgl_claim(
+        sheet: *const u8,
+        sheet_bytes: usize,
+        f: *const u8,
+        f_bytes: usize,
+        g: *const u8,
+        g_bytes: usize,
+        work: *mut u32,
+        work_words: usize,
+    ) -> u64;
+    pub fn sgl_claim_span(
         sheet: *const u8,
         sheet_bytes: usize,
         f: *const u8,

@@ -16,7 +16,7 @@ pub use fault::Fault;
 pub use list::List;
 pub use sheet::{Checker, Formula, Sheet};
 pub use uptime::{Stretch, UpTime};
-pub use verdict::Verdict;
+pub use verdict::{End, Verdict};
 pub use wrongs::Wrongs;
 
 /// The largest date and the largest length.

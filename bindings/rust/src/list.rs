@@ -45,7 +45,7 @@ impl List {
         calls::equal(&self.words, &other.words)
     }
 
-    /// Whether the other is up wherever this is.
+    /// Whether the other is up wherever this is, or from when it is not, and until when.
     pub fn implies(&self, other: &List) -> Result<Verdict, Fault> {
         calls::implies(&self.words, &other.words)
     }

@@ -112,6 +112,15 @@ impl Checker {
     }
 
     /// The verdict of the claim f to g on a sheet.
+    ///
+    /// ```
+    /// # use rascrunel::{Checker, End, Sheet, Verdict};
+    /// let sheet = Sheet::begin()?.append("a", &[0, 23, 36])?; // up from 5, down from 9
+    /// let verdict = Checker::new().claim(&sheet, &"a".into(), &"TON(2,a)".into())?;
+    /// assert_eq!(verdict, Verdict::FailsAt(5, End::Before(7)));
+    /// assert_eq!(verdict.to_string(), "fails at 5 until before 7");
+    /// # Ok::<(), rascrunel::Fault>(())
+    /// ```
     pub fn claim(&mut self, sheet: &Sheet, f: &Formula, g: &Formula) -> Result<Verdict, Fault> {
         calls::claim(&sheet.bytes, f.0.as_bytes(), g.0.as_bytes(), &mut self.work)
     }

@@ -1,5 +1,5 @@
 // Document 01's cases, its examples of faults, and document 02's pulse timer, through the bindings.
-use rascrunel::{calls, Checker, Fault, Formula, List, Sheet, Verdict, M};
+use rascrunel::{calls, Checker, End, Fault, Formula, List, Sheet, Verdict, M};
 
 fn list(words: &[u32]) -> List {
     List::new(words).unwrap()
@@ -31,8 +31,8 @@ fn checked_by_hand() {
     assert_eq!(e().sr(&e()).unwrap().words(), [0, 23]);
     assert_eq!(e().rs(&e()).unwrap().words(), [0]);
     assert_eq!(f().sr(&f()).unwrap(), f());
-    assert_eq!(l().implies(&e()), Ok(Verdict::FailsAfter(5)));
-    assert_eq!(list(&[1]).implies(&f()), Ok(Verdict::FailsAfter(0)));
+    assert_eq!(l().implies(&e()), Ok(Verdict::FailsAfter(5, End::Never)));
+    assert_eq!(list(&[1]).implies(&f()), Ok(Verdict::FailsAfter(0, End::Before(5))));
     let last = list(&[0, 4294967294]);
     assert_eq!(last.ton(1).unwrap().words(), [0]);
     assert_eq!(last.tof(1), Err(Fault::ChangesAfterM));
@@ -76,7 +76,7 @@ fn questions() {
     assert_eq!(e().equal(&e()), Ok(true));
     assert_eq!(e().equal(&l()), Ok(false));
     assert_eq!(e().implies(&f()), Ok(Verdict::Holds));
-    assert_eq!(f().implies(&e()), Ok(Verdict::FailsAfter(5)));
+    assert_eq!(f().implies(&e()), Ok(Verdict::FailsAfter(5, End::Before(9))));
     assert_eq!(f().not().unwrap().words(), [1, 20, 39]);
 }
 
@@ -191,11 +191,11 @@ fn formulas_and_claims() {
     assert_eq!(words("b"), Err(Fault::UnknownName));
     assert_eq!(words("0.TOF(1073741823,a)"), Err(Fault::ChangesAfterM));
     let mut claim = |f: &str, g: &str| checker.claim(&sheet, &Formula::from(f), &Formula::from(g));
-    assert_eq!(claim("a", "TON(2,a)"), Ok(Verdict::FailsAt(5)));
+    assert_eq!(claim("a", "TON(2,a)"), Ok(Verdict::FailsAt(5, End::Before(7))));
     assert_eq!(claim("TON(2,a)", "a"), Ok(Verdict::Holds));
-    assert_eq!(claim("a", "TP(3,a)"), Ok(Verdict::FailsAt(8)));
+    assert_eq!(claim("a", "TP(3,a)"), Ok(Verdict::FailsAt(8, End::Before(9))));
     assert_eq!(claim("TP(3,a)", "a"), Ok(Verdict::Holds));
-    assert_eq!(claim("1", "a"), Ok(Verdict::FailsAfter(0)));
+    assert_eq!(claim("1", "a"), Ok(Verdict::FailsAfter(0, End::Before(5))));
     assert_eq!(claim("a", "b"), Err(Fault::UnknownName));
     let mut out = [7; 4];
     assert_eq!(calls::evaluate(PRINTED, b"a", &mut [0; 8191], &mut out), Err(Fault::ShortWork));

@@ -13,7 +13,7 @@ mod tidying;
 mod uptimes;
 
 use lists::{judge, M, WORDS};
-use operations::{implication, One, Two, Verdict};
+use operations::{implication, End, One, Two, Verdict};
 pub use tidying::is_idle;
 
 fn packed(answer: Result<usize, u32>) -> u32 {
@@ -26,10 +26,25 @@ fn packed(answer: Result<usize, u32>) -> u32 {
 fn packed_verdict(answer: Result<Verdict, u32>) -> u64 {
     match answer {
         Ok(Verdict::Holds) => 0,
-        Ok(Verdict::FailsAt(k)) => 2 * k as u64,
-        Ok(Verdict::FailsAfter(k)) => 2 * k as u64 + 1,
+        Ok(Verdict::FailsAt(k, _)) => 2 * k as u64,
+        Ok(Verdict::FailsAfter(k, _)) => 2 * k as u64 + 1,
         Err(fault) => (fault as u64) << 40,
     }
+}
+
+fn packed_span(answer: Result<Verdict, u32>) -> u64 {
+    let (first, end) = match answer {
+        Ok(Verdict::Holds) => return 0,
+        Ok(Verdict::FailsAt(k, end)) => (2 * k, end),
+        Ok(Verdict::FailsAfter(k, end)) => (2 * k + 1, end),
+        Err(fault) => return (fault as u64) << 32,
+    };
+    let last = match end {
+        End::At(k) => 2 * k,
+        End::Before(k) => 2 * k - 1,
+        End::Never => 0,
+    };
+    (last as u64) << 32 | first as u64
 }
 
 fn packed_uptime(answer: Result<(usize, u32), u32>) -> u64 {
@@ -132,13 +147,18 @@ pub fn implies(a: &[u32], b: &[u32]) -> u64 {
 }
 
 #[inline(never)]
+pub fn implies_span(a: &[u32], b: &[u32]) -> u64 {
+    packed_span(call_of_implication(a, b))
+}
+
+#[inline(never)]
 pub fn evaluate(sheet: &[u8], formula: &[u8], work: &mut [u32], out: &mut [u32]) -> u32 {
     packed(claims::evaluate(sheet, formula, work, out))
 }
 
 #[inline(never)]
-pub fn claim(sheet: &[u8], f: &[u8], g: &[u8], work: &mut [u32]) -> u64 {
-    packed_verdict(claims::claim(sheet, f, g, work))
+pub fn claim_span(sheet: &[u8], f: &[u8], g: &[u8], work: &mut [u32]) -> u64 {
+    packed_span(claims::claim(sheet, f, g, work))
 }
 
 #[inline(never)]

@@ -97,25 +97,47 @@ fn latch(set_wins: bool, s: &[u32], r: &[u32], slot: &mut [u32; WORDS]) -> Resul
     answer.finish()
 }
 
-/// Where an implication fails first, if it does.
+/// Where an implication fails first, if it does, and the last moment of that run of failing moments.
 #[derive(Clone, Copy)]
 pub enum Verdict {
     Holds,
-    FailsAt(u32),
-    FailsAfter(u32),
+    FailsAt(u32, End),
+    FailsAfter(u32, End),
+}
+
+/// An instant, the gap before one, or none: the run never ends.
+#[derive(Clone, Copy)]
+pub enum End {
+    At(u32),
+    Before(u32),
+    Never,
+}
+
+/// The first moment not to fail ends the run; it fails in the gap where the readers stand.
+fn end(mut both: Both) -> End {
+    while let Some(change) = both.next() {
+        if !change.a_at || change.b_at {
+            return End::Before(change.date);
+        }
+        if !change.a_after || change.b_after {
+            return End::At(change.date);
+        }
+    }
+    End::Never
 }
 
 pub fn implication(f: &[u32], g: &[u32]) -> Verdict {
     let mut both = Both::new(f, g);
     if both.a.value && !both.b.value {
-        return Verdict::FailsAfter(0);
+        return Verdict::FailsAfter(0, end(both));
     }
     while let Some(change) = both.next() {
+        let fails_after = change.a_after && !change.b_after;
         if change.a_at && !change.b_at {
-            return Verdict::FailsAt(change.date);
+            return Verdict::FailsAt(change.date, if fails_after { end(both) } else { End::At(change.date) });
         }
-        if change.a_after && !change.b_after {
-            return Verdict::FailsAfter(change.date);
+        if fails_after {
+            return Verdict::FailsAfter(change.date, end(both));
         }
     }
     Verdict::Holds

@@ -1,7 +1,9 @@
-// Test support: what a call answers, as it is shown: one of the texts, the number that some of them have, and whether the output follows.
+// Test support: what a call answers, as it is shown: one of the texts, the number that some of them have, how a failing run ends, and
+// whether the output follows.
 pub mod shown;
 
 use building::SlotAnswer;
+use signals::End;
 use signals::Sum;
 use signals::Told;
 use signals::Verdict;
@@ -10,6 +12,8 @@ use signals::Written;
 pub struct Answer {
     pub text: usize,
     pub number: u64,
+    pub end: usize,
+    pub last: u64,
     pub output: bool,
 }
 
@@ -36,10 +40,21 @@ const TOO_LATE: usize = 9;
 
 const NOT_BEGUN: usize = 10;
 
+// The ends by their places, in the same way; none is the first. Those before `for good` have a number.
+const NONE: usize = 0;
+
+const UNTIL: usize = 1;
+
+const UNTIL_BEFORE: usize = 2;
+
+pub const FOR_GOOD: usize = 3;
+
 fn said(text: usize, n: u32) -> Answer {
     Answer {
         text,
         number: n as u64,
+        end: NONE,
+        last: 0,
         output: false,
     }
 }
@@ -60,11 +75,29 @@ pub fn told(answer: Told) -> Answer {
     }
 }
 
+fn broken(text: usize, n: u32, end: usize, last: u32) -> Answer {
+    Answer {
+        text,
+        number: n as u64,
+        end,
+        last: last as u64,
+        output: false,
+    }
+}
+
+fn failing(text: usize, n: u32, end: End) -> Answer {
+    match end {
+        End::At(last) => broken(text, n, UNTIL, last),
+        End::Before(last) => broken(text, n, UNTIL_BEFORE, last),
+        End::Never => broken(text, n, FOR_GOOD, 0),
+    }
+}
+
 pub fn verdict(answer: Verdict) -> Answer {
     match answer {
         Verdict::Holds => said(HOLDS, 0),
-        Verdict::FailsAt(k) => said(FAILS_AT, k),
-        Verdict::FailsAfter(k) => said(FAILS_AFTER, k),
+        Verdict::FailsAt(k, end) => failing(FAILS_AT, k, end),
+        Verdict::FailsAfter(k, end) => failing(FAILS_AFTER, k, end),
         Verdict::Refused(fault) => said(REFUSED, fault),
     }
 }
@@ -81,6 +114,8 @@ pub fn counted(text: usize, n: u64) -> Answer {
     Answer {
         text,
         number: n,
+        end: NONE,
+        last: 0,
         output: true,
     }
 }

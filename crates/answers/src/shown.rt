@@ -1,5 +1,6 @@
 // What came out, in the notation of the arguments; bytes in hexadecimal.
 use crate::Answer;
+use crate::FOR_GOOD;
 use crate::YES;
 use fields::byte_at;
 use fields::part;
@@ -20,11 +21,19 @@ fn text(k: usize) {
     );
 }
 
+fn end(k: usize, last: u64) {
+    io::write_all(1, name(b", until, until before, for good,", k));
+    if k % FOR_GOOD != 0 {
+        number(last);
+    }
+}
+
 pub fn answer(answer: Answer) {
     text(answer.text);
     if answer.text < YES {
         number(answer.number);
     }
+    end(answer.end, answer.last);
 }
 
 // An answer, and the output where it has one.

@@ -14,6 +14,7 @@ use Rattle.signals.specs.Signal.{Signal}
 use Rattle.signals.specs.Words.{dateOf, signalOf, mostWords}
 use Rattle.signals.specs.Settled.{Same}
 use Rattle.signals.specs.Answers.{faultIn, outputOf}
+use Rattle.signals.specs.Earliest.{JudgedAs}
 use Rattle.signals.specs.Implication.{faultOfVerdict}
 use Rattle.signals.proofs.Normal.{accepted-normal}
 use Rattle.signals.proofs.Implication.{verdict-judged}
@@ -35,7 +36,7 @@ use Rattle.format.proofs.Theorems.{append-keeps-sheet}
 use Rattle.calls.specs.OnSheet.{signalOn, settlingDate, exactOn}
 use Rattle.calls.specs.Calls.{neededWork, workingFault, wordsOn, callFault, callAnswer, callOutput, claimFault, claimFails}
 use Rattle.calls.specs.Calls.{claimVerdict, claimAnswer}
-use Rattle.calls.specs.NormalLists.{ListFor, TheList, JudgedAs}
+use Rattle.calls.specs.NormalLists.{ListFor, TheList}
 use Rattle.calls.specs.Engine.{Engine, defined}
 use Rattle.calls.specs.Tabled.{CallFaultIs}
 use Rattle.calls.specs.Demand2.{Delivered, GivesTheList, GivesTheVerdict, ReadsBack, Demand2}
@@ -144,10 +145,10 @@ pub judged-as : (sheet : List ℕ) → sheetFault sheet ≡ 0 → (f g : Tree)
 unfolding claimFails
 judged-as sheet ok f g =
     let n = max (settlingDate sheet f) (settlingDate sheet g) in
-    let j = verdict-judged (signalOn sheet f) (signalOn sheet g) n
+    verdict-judged (signalOn sheet f) (signalOn sheet g) n
     (settled-later (signalOn sheet f) (settlingDate sheet f) n (settles sheet ok f) (omega arith))
-    (settled-later (signalOn sheet g) (settlingDate sheet g) n (settles sheet ok g) (omega arith)) in
-    record { holds = j .holds; fails = j .fails; either = j .either }
+    (settled-later (signalOn sheet g) (settlingDate sheet g) n (settles sheet ok g) (omega arith))
+    .said
 
 pub claim-judged : (sheet F G : List ℕ) (work : ℕ) → claimFault sheet F G work ≡ 0 → (f g : Tree) (d e : ℕ) → Writes F f d → Writes G g e
     → JudgedAs (signalOn sheet f) (signalOn sheet g) (claimAnswer sheet F G work)

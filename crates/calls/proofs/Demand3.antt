@@ -11,7 +11,8 @@ use borrow.Author.Tests.{ltb-true, ltb-false}
 use Rattle.signals.specs.Signal.{Signal}
 use Rattle.signals.specs.Words.{signalOf}
 use Rattle.signals.specs.Settled.{Same}
-use Rattle.signals.specs.Answers.{faultIn, countIn}
+use Rattle.signals.specs.Answers.{faultIn, countIn, Span}
+use Rattle.signals.specs.Earliest.{JudgedAs}
 use Rattle.signals.specs.Implication.{failsIn, faultOfVerdict}
 use Rattle.signals.specs.declared.Verdict.{Verdict}
 use Rattle.signals.specs.declared.Verdict.the-variants.{Holds}
@@ -25,7 +26,6 @@ use Rattle.format.specs.Reading.{environmentOn}
 use Rattle.calls.specs.OnSheet.{signalOn}
 use Rattle.calls.specs.Calls.{neededWork, wordsOn, callFault, claimFault, claimVerdict, claimAnswer}
 use Rattle.calls.specs.Answered.{Answered}
-use Rattle.calls.specs.NormalLists.{JudgedAs}
 use Rattle.calls.specs.Engine.{Engine, defined}
 use Rattle.calls.specs.Demand2.{Delivered}
 use Rattle.calls.specs.Demand3.{Served, wordsGiven, RefusedAs, Demand3}
@@ -40,9 +40,9 @@ use Rattle.calls.proofs.Demand2.{clear-list, output-kept, delivered, wo
 pub one-verdict : {f g : Signal} {v w : Verdict} → JudgedAs f g v → JudgedAs f g w → v ≡ w
 one-verdict {f} {g} {v} {w} a b = go (a .either)
   where
-    go : (v ≡ Holds) ⊎ ((t : ℕ) × (v ≡ failsIn t)) → v ≡ w
+    go : (v ≡ Holds) ⊎ ((s : Span) × (v ≡ failsIn s)) → v ≡ w
     go (inl e) = e ∙ sym (b .holds .1 (a .holds .0 e))
-    go (inr (t, e)) = e ∙ sym (b .fails t .1 (a .fails t .0 e))
+    go (inr (s, e)) = e ∙ sym (b .fails s .1 (a .fails s .0 e))
 
 -- equal words exactly for equal signals
 words-of-same : (sheetF sheetG F G : List ℕ) → Clear sheetF F → Clear sheetG G → (f g : Tree) (d e : ℕ) → Writes F f d → Writes G g e

@@ -70,8 +70,8 @@ refused (written.Refused f) h = refl
 
 refused-claim : (v : Verdict) → (¬ (faultOfVerdict v ≡ 0)) → v ≡ verdict.Refused (faultOfVerdict v)
 refused-claim verdict.Holds h = absurd (h refl)
-refused-claim (verdict.FailsAt k) h = absurd (h refl)
-refused-claim (verdict.FailsAfter k) h = absurd (h refl)
+refused-claim (verdict.FailsAt k end) h = absurd (h refl)
+refused-claim (verdict.FailsAfter k end) h = absurd (h refl)
 refused-claim (verdict.Refused f) h = refl
 
 -- a call of an engine and the defined one

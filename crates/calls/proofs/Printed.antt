@@ -6,10 +6,11 @@ use mathlib.Core.Bool.{true}
 use mathlib.Core.List.{List, [], _∷_}
 use lib.ListN.{length}
 use Rattle.signals.specs.Moment.{isGap, tick, started, fromTo}
-use Rattle.signals.specs.Signal.{every, TON, refuted}
+use Rattle.signals.specs.Signal.{every, NOT, TON, refuted}
 use Rattle.signals.specs.Words.{word, dateOf, valueAt, valueAfter, headValue, changesNothing, valueFrom, signalOf, lastFrom, lastDate}
 use Rattle.signals.specs.Words.{wordsOf, listOf}
-use Rattle.signals.specs.Implication.{earliest, failsIn, firstFailing}
+use Rattle.signals.specs.Implication.{earliest, earliestUpTo, failsIn, firstSpan}
+use Rattle.signals.specs.declared.End.the-variants.{Before}
 use Rattle.signals.specs.declared.Verdict.the-variants.{FailsAt}
 use Rattle.operations.specs.Calls.{changesAfterM, partFault}
 use Rattle.grammar.specs.Tree as tree
@@ -37,7 +38,7 @@ use Rattle.calls.specs.Printed.{printedSheet, printedF, printedG, Printe
 use Rattle.calls.proofs.NotRefused.{Clear, clear-answered, clear-call, given-claim}
 use Rattle.calls.proofs.Demand2.{delivered}
 use Rattle.calls.proofs.SmallCases.{tree-clear, tree-words}
-use Rattle.signals.specs.Answers.{firstOf}
+use Rattle.signals.specs.Answers.{firstOf, endOf}
 
 abbrev f : Tree
 f = tree.Tree.leaf (tree.Leaf.name printedF)
@@ -131,9 +132,9 @@ given : (formula words : List ℕ) → Clear printedSheet formula → wordsOn pr
 given formula words c e l =
     rw (← e) (delivered printedSheet formula workWords old (clear-call printedSheet formula c workWords 4 enough-work (rw e l)))
 
-claimed : claimVerdict printedSheet f g ≡ FailsAt 5
-unfolding claimFails settlingDate environmentOn firstFailing earliest refuted failsIn isGap tick TON started every fromTo signalOf valueFrom
-    headValue dateOf valueAt valueAfter lastDate lastFrom
+claimed : claimVerdict printedSheet f g ≡ FailsAt 5 (Before 7)
+unfolding claimFails settlingDate environmentOn firstSpan earliestUpTo earliest NOT refuted failsIn endOf isGap tick TON started every
+    fromTo signalOf valueFrom headValue dateOf valueAt valueAfter lastDate lastFrom
 claimed = rw list-f refl
 
 pub printed : Printed

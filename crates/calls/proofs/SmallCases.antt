@@ -7,7 +7,8 @@ use mathlib.Core.List.{List, [], _∷_}
 use Rattle.signals.specs.Moment.{isGap, tick}
 use Rattle.signals.specs.Signal.{constant, NOT, refuted}
 use Rattle.signals.specs.Words.{dateOf, wordsOf, listOf}
-use Rattle.signals.specs.Implication.{earliest, failsIn, firstFailing}
+use Rattle.signals.specs.Implication.{earliest, earliestUpTo, failsIn, firstSpan}
+use Rattle.signals.specs.declared.End.the-variants.{Never}
 use Rattle.signals.specs.declared.Verdict.the-variants.{FailsAfter}
 use Rattle.operations.specs.Calls.{changesAfterM, partFault}
 use Rattle.grammar.specs.Tree as tree
@@ -26,7 +27,7 @@ use Rattle.calls.specs.OnSheet.{settlingDate, exactOn, namesFound}
 use Rattle.calls.specs.Calls.{neededWork, readingFault, partsFault, workingFault, wordsOn, claimFails, claimVerdict, workWords}
 use Rattle.calls.specs.Answered.{Answered, Enough}
 use Rattle.calls.proofs.NotRefused.{Clear, clear-answered}
-use Rattle.signals.specs.Answers.{firstOf}
+use Rattle.signals.specs.Answers.{firstOf, endOf}
 use Rattle.signals.proofs.FirstFault.{next-is}
 
 -- SGL 1 0 0 0
@@ -132,7 +133,7 @@ pub enough-of : (formula : List ℕ) (w v : ℕ) → wordsOn emptySheet formula 
 unfolding neededWork
 enough-of formula w v e = record { area = omega arith; room = rw e (omega arith) }
 
--- 1 to 0 fails after 0
-pub one-to-none : claimVerdict emptySheet up down ≡ FailsAfter 0
-unfolding claimFails settlingDate firstFailing earliest refuted constant failsIn isGap tick
+-- 1 to 0 fails after 0 for good
+pub one-to-none : claimVerdict emptySheet up down ≡ FailsAfter 0 Never
+unfolding claimFails settlingDate firstSpan earliestUpTo earliest NOT refuted constant failsIn endOf isGap tick
 one-to-none = refl

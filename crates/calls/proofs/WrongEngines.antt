@@ -1,4 +1,4 @@
--- Demands 2 and 3 shut out each of the seven wrong engines, by what both say of 1, !1 and the claim 1 to 0 on the empty sheet.
+-- Demands 2 and 3 shut out each of the eight wrong engines, by what both say of 1, !1 and the claim 1 to 0 on the empty sheet.
 use Prim.Native.Nat.{ℕ, _≤_, _<_}
 use native.Mathlib.Omega.{arith}
 use mathlib.Core.Path.{_≡_, refl, _∙_, ap}
@@ -7,6 +7,7 @@ use lib.ListN.{length, drop}
 use borrow.Author.Tests.{eq-eqb}
 use Rattle.signals.specs.Answers.{outputOf}
 use Rattle.signals.specs.declared.Written.the-variants as written
+use Rattle.signals.specs.declared.End.the-variants as ends
 use Rattle.signals.specs.declared.Verdict.the-variants as verdict
 use Rattle.grammar.specs.Tree as tree
 use Rattle.grammar.proofs.Reading.{tree-of}
@@ -16,7 +17,7 @@ use Rattle.calls.specs.Engine.{Engine}
 use Rattle.calls.specs.OneEngine.{AgreesWhereAnswered}
 use Rattle.calls.specs.WrongEngines.{zeroOutput, givesZero, trueClaim, claimsTrue, faultsAs5, leavesOld, operandWords, copyFault}
 use Rattle.calls.specs.WrongEngines.{copyOutput, copiesOperand, oneMore, inventsCount, shortClaim, holdsWhenShort, ShutOut}
-use Rattle.calls.specs.WrongEngines.{SevenShutOut}
+use Rattle.calls.specs.WrongEngines.{flicker, tellsFlickers, EightShutOut}
 use Rattle.calls.proofs.NotRefused.{work-ok, work-short, answered-claim, given-claim, short-claim, enough-served}
 use Rattle.calls.proofs.Demand2.{delivered}
 use Rattle.calls.proofs.OneEngine.{one-engine, one-engine-where-answered, agreeing-meets}
@@ -29,7 +30,7 @@ pub record Says (E : Engine) : Type 0 where
   pub counts : E .answer emptySheet one workWords (0 ∷ []) ≡ written.Count 1
   pub writes : E .output emptySheet one workWords (0 ∷ []) ≡ 1 ∷ []
   pub inverts : E .output emptySheet notOne workWords (1 ∷ []) ≡ 0 ∷ []
-  pub fails : E .claim emptySheet one none workWords ≡ verdict.FailsAfter 0
+  pub fails : E .claim emptySheet one none workWords ≡ verdict.FailsAfter 0 ends.Never
   pub short : E .claim emptySheet one none 8191 ≡ verdict.Refused 18
 
 -- the defined calls
@@ -61,7 +62,7 @@ written-so : (formula old words : List ℕ) → callFault emptySheet formula wor
 written-so formula old words z e =
     delivered emptySheet formula workWords old z .output ∙ ap (λ (l : List ℕ). l ++ drop (length l) old) e
 
-claim-said : claimAnswer emptySheet one none workWords ≡ verdict.FailsAfter 0
+claim-said : claimAnswer emptySheet one none workWords ≡ verdict.FailsAfter 0 ends.Never
 claim-said =
     given-claim emptySheet one none one-answered none-answered workWords enough-work
     ∙ rw (tree-of one up 0 one-writes, tree-of none down 0 none-writes) one-to-none
@@ -86,7 +87,7 @@ shut-out E h =
       byDemand3 = λ D. h (says E (one-engine-where-answered E .0 D));
     }
 
--- each of the seven
+-- each of the eight
 zero-writes : zeroOutput emptySheet one workWords (0 ∷ []) ≡ 0 ∷ []
 unfolding zeroOutput outputOf
 zero-writes = rw (eq-eqb (callFault emptySheet one workWords 1) 0 one-fault) refl
@@ -118,8 +119,8 @@ not-zero h = let a : zeroOutput emptySheet one workWords (0 ∷ []) ≡ 1 ∷ []
 
 not-true : ¬ Says claimsTrue
 not-true h =
-    let a : trueClaim emptySheet one none workWords ≡ verdict.FailsAfter 0 = h .fails in let b = true-claims in let z : _≡_ {A = ℕ} 0 1 =
-    cc in omega arith
+    let a : trueClaim emptySheet one none workWords ≡ verdict.FailsAfter 0 ends.Never = h .fails in
+    let b = true-claims in let z : _≡_ {A = ℕ} 0 1 = cc in omega arith
 
 not-five : ¬ Says faultsAs5
 not-five h = let a : written.Refused 5 ≡ written.Count 1 = h .counts in let z : _≡_ {A = ℕ} 0 1 = cc in omega arith
@@ -144,8 +145,15 @@ not-short h =
     let a : shortClaim emptySheet one none 8191 ≡ verdict.Refused 18 = h .short in let b = short-holds in let z : _≡_ {A = ℕ} 0 1 =
     cc in omega arith
 
-pub seven-shut-out : SevenShutOut
-seven-shut-out =
+not-flickers : ¬ Says tellsFlickers
+not-flickers h =
+    let a : flicker (claimAnswer emptySheet one none workWords) ≡ verdict.FailsAfter 0 ends.Never = h .fails in
+    let b : flicker (claimAnswer emptySheet one none workWords) ≡ verdict.FailsAfter 0 (ends.Before 1) = ap flicker claim-said in
+    let z : _≡_ {A = ℕ} 0 1 = cc in
+    omega arith
+
+pub eight-shut-out : EightShutOut
+eight-shut-out =
     record {
       zero = shut-out givesZero not-zero;
       true = shut-out claimsTrue not-true;
@@ -154,4 +162,5 @@ seven-shut-out =
       copy = shut-out copiesOperand not-copy;
       count = shut-out inventsCount not-count;
       short = shut-out holdsWhenShort not-short;
+      flickers = shut-out tellsFlickers not-flickers;
     }

@@ -6,8 +6,8 @@ use mathlib.Core.List.{List, [], _∷_}
 use mathlib.Core.Option.{Option}
 use lib.Dec.{ltb}
 use lib.ListN.{length}
-use Rattle.signals.specs.Answers.{writtenOf, outputOf, judgedBy, verdictFor}
-use Rattle.signals.specs.Implication.{firstFailing}
+use Rattle.signals.specs.Answers.{writtenOf, outputOf, Span, judgedBy, verdictFor}
+use Rattle.signals.specs.Implication.{firstSpan}
 use Rattle.signals.specs.declared.Written.{Written}
 use Rattle.signals.specs.declared.Verdict.{Verdict}
 use Rattle.grammar.specs.Tree.{Tree}
@@ -67,9 +67,9 @@ claimFault sheet F G work =
     (firstOf (readingFault sheet G)
     (firstOf (workFault sheet work) (firstOf (workingFault sheet F) (workingFault sheet G)))))
 
--- the moment at which the implication of the two signals fails first, and its verdict
-unfoldable pub claimFails : List ℕ → Tree → Tree → Option ℕ
-claimFails sheet f g = firstFailing (signalOn sheet f) (signalOn sheet g) (max (settlingDate sheet f) (settlingDate sheet g))
+-- the first unbroken run of the moments at which the implication of the two signals fails, and its verdict
+unfoldable pub claimFails : List ℕ → Tree → Tree → Option Span
+claimFails sheet f g = firstSpan (signalOn sheet f) (signalOn sheet g) (max (settlingDate sheet f) (settlingDate sheet g))
 
 abbrev pub claimVerdict : List ℕ → Tree → Tree → Verdict
 claimVerdict sheet f g = judgedBy (claimFails sheet f g)

@@ -6,6 +6,7 @@ use mathlib.Core.List.{List, _++_}
 use mathlib.Core.Logic.{_↔_}
 use lib.ListN.{length, drop}
 use Rattle.signals.specs.Answers.{faultIn}
+use Rattle.signals.specs.Earliest.{JudgedAs}
 use Rattle.signals.specs.Implication.{faultOfVerdict}
 use Rattle.signals.specs.Settled.{Same}
 use Rattle.signals.specs.declared.Written.the-variants.{Count}
@@ -19,7 +20,7 @@ use Rattle.format.specs.Calls.{appendFault, appended}
 use Rattle.calls.specs.OnSheet.{signalOn}
 use Rattle.calls.specs.Calls.{neededWork}
 use Rattle.calls.specs.Engine.{Engine}
-use Rattle.calls.specs.NormalLists.{TheList, JudgedAs}
+use Rattle.calls.specs.NormalLists.{TheList}
 use Rattle.calls.specs.Tabled.{CallFaultIs, ClaimFaultIs}
 
 -- a call gave these words: their count is its answer, they stand first in the output, and those past the count are the old ones
@@ -53,7 +54,8 @@ pub record ReadsBack (E : Engine) : Type 0 where
       → (work : ℕ) (old : List ℕ) → neededWork (appended sheet name list) ≤ work → length list ≤ length old
       → Delivered E (appended sheet name list) name work old list
 
--- "a claim holds exactly when no instant or gap refutes it, and otherwise the earliest one is shown": what a claim without a fault says
+-- "a claim holds exactly when no instant or gap refutes it, and otherwise the earliest one is shown": what a claim without a fault says,
+-- with the last moment of the unbroken run that begins there, or that it never ends (document 02, request 4)
 pub record GivesTheVerdict (E : Engine) (sheet F G : List ℕ) (work : ℕ) : Type 0 where
   pub treeF : Tree
   pub treeG : Tree

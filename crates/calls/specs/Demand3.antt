@@ -5,6 +5,7 @@ use mathlib.Core.Logic.{_↔_}
 use mathlib.Core.List.{List}
 use lib.ListN.{length, take}
 use Rattle.signals.specs.Answers.{faultIn, countIn}
+use Rattle.signals.specs.Earliest.{JudgedAs}
 use Rattle.signals.specs.Implication.{faultOfVerdict}
 use Rattle.signals.specs.Settled.{Same}
 use Rattle.signals.specs.declared.Written.the-variants as written
@@ -16,7 +17,6 @@ use Rattle.calls.specs.OnSheet.{signalOn}
 use Rattle.calls.specs.Calls.{neededWork, wordsOn}
 use Rattle.calls.specs.Answered.{Answered, Enough}
 use Rattle.calls.specs.Engine.{Engine}
-use Rattle.calls.specs.NormalLists.{JudgedAs}
 use Rattle.calls.specs.Demand2.{GivesTheList}
 
 -- A call without a fault; its words: those, as many as the word count, that it gives.
@@ -62,7 +62,7 @@ pub record Demand3 (E : Engine) : Type 0 where
   pub third : (F G H : List ℕ) (f g : Tree) (d e : ℕ) → Writes F f d → Writes G g e → Rewrites f g
       → (sheet : List ℕ) → Answered sheet F → Answered sheet G → Answered sheet H → SameVerdicts E sheet F G H
   -- "the one that document 01's implication gives for the signals as defined." What every claim call without a fault says, of any two
-  -- formulas answered there
+  -- formulas answered there, how a failing run ends included (document 02, request 4)
   pub claims : (sheet F G : List ℕ) (f g : Tree) (d e : ℕ) → Writes F f d → Writes G g e → Answered sheet F → Answered sheet G
       → (work : ℕ) → faultOfVerdict (E .claim sheet F G work) ≡ 0
       → JudgedAs (signalOn sheet f) (signalOn sheet g) (E .claim sheet F G work)

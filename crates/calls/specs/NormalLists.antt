@@ -1,7 +1,6 @@
--- Statement: The one normal list of a signal, and the verdict that the implication of two signals gives.
+-- Statement: The one normal list of a signal.
 use Prim.Native.Nat.{ℕ, _≤_, _<_}
 use mathlib.Core.Path.{_≡_}
-use mathlib.Core.Logic.{_⊎_, _↔_}
 use mathlib.Core.List.{List}
 use lib.ListN.{length, getD}
 use Rattle.signals.specs.Moment.{M}
@@ -9,10 +8,6 @@ use Rattle.signals.specs.Signal.{Signal}
 use Rattle.signals.specs.Words.{dateOf, signalOf}
 use Rattle.signals.specs.Settled.{Same}
 use Rattle.signals.specs.Normal.{Normal, Accepted}
-use Rattle.signals.specs.Earliest.{Refutes, FirstRefutes}
-use Rattle.signals.specs.Implication.{failsIn}
-use Rattle.signals.specs.declared.Verdict.{Verdict}
-use Rattle.signals.specs.declared.Verdict.the-variants.{Holds}
 
 -- l is a normal list and denotes s at every instant and in every gap; a signal has one such list
 pub record ListFor (s : Signal) (l : List ℕ) : Type 0 where
@@ -25,9 +20,3 @@ pub record TheList (s : Signal) (l : List ℕ) : Type 0 where
   pub only : (m : List ℕ) → ListFor s m → m ≡ l
   pub accepted : Accepted l
   pub withinM : (i : ℕ) → i < length l → dateOf (getD l i 0) ≤ M
-
--- A claim f to g holds exactly when no instant or gap refutes it, and otherwise the earliest one is shown.
-pub record JudgedAs (f g : Signal) (v : Verdict) : Type 0 where
-  pub holds : v ≡ Holds ↔ ((t : ℕ) → Refutes f g t → ⊥)
-  pub fails : (t : ℕ) → v ≡ failsIn t ↔ FirstRefutes f g t
-  pub either : (v ≡ Holds) ⊎ ((t : ℕ) × (v ≡ failsIn t))

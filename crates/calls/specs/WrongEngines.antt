@@ -1,4 +1,4 @@
--- Statement: Seven wrong engines, document 01's six in its order first, each the defined one but for the thing named; demands 2 and 3 shut
+-- Statement: Eight wrong engines, document 01's six in its order first, each the defined one but for the thing named; demands 2 and 3 shut
 -- out each.
 use Prim.Native.Nat.{ℕ, _+_}
 use mathlib.Core.Bool.{cond}
@@ -8,6 +8,7 @@ use lib.ListN.{length}
 use Rattle.signals.specs.Answers.{writtenOf, outputOf}
 use Rattle.signals.specs.declared.Written.{Written}
 use Rattle.signals.specs.declared.Written.the-variants as written
+use Rattle.signals.specs.declared.End.the-variants as ends
 use Rattle.signals.specs.declared.Verdict.{Verdict}
 use Rattle.signals.specs.declared.Verdict.the-variants as verdict
 use Rattle.grammar.specs.Tree.{Tree, leaf, unary, binary}
@@ -91,12 +92,22 @@ shortClaim sheet F G work = cond (eqb (claimFault sheet F G work) 18) verdict.Ho
 abbrev pub holdsWhenShort : Engine
 holdsWhenShort = record { answer = callAnswer; output = callOutput; claim = shortClaim }
 
+-- tells every failing run as a flicker: as its last moment the first
+abbrev pub flicker : Verdict → Verdict
+flicker verdict.Holds = verdict.Holds
+flicker (verdict.FailsAt k end) = verdict.FailsAt k (ends.At k)
+flicker (verdict.FailsAfter k end) = verdict.FailsAfter k (ends.Before (k + 1))
+flicker (verdict.Refused f) = verdict.Refused f
+
+abbrev pub tellsFlickers : Engine
+tellsFlickers = record { answer = callAnswer; output = callOutput; claim = λ sheet F G work. flicker (claimAnswer sheet F G work) }
+
 -- neither demand holds of the engine
 pub record ShutOut (E : Engine) : Type 0 where
   pub byDemand2 : ¬ Demand2 E
   pub byDemand3 : ¬ Demand3 E
 
-pub record SevenShutOut : Type 0 where
+pub record EightShutOut : Type 0 where
   pub zero : ShutOut givesZero
   pub true : ShutOut claimsTrue
   pub five : ShutOut faultsAs5
@@ -104,6 +115,7 @@ pub record SevenShutOut : Type 0 where
   pub copy : ShutOut copiesOperand
   pub count : ShutOut inventsCount
   pub short : ShutOut holdsWhenShort
+  pub flickers : ShutOut tellsFlickers
 
 -- F and G of demand 3 give the same words, and have the same verdicts with a third formula
 pub record ObeysEveryLaw (E : Engine) : Type 0 where

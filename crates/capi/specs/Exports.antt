@@ -6,6 +6,7 @@ use mathlib.Core.List.{List}
 use lib.ListN.{length}
 use Rattle.signals.specs.Signal.{Signal}
 use Rattle.signals.specs.Answers.{writtenOf, outputOf}
+use Rattle.signals.specs.declared.Verdict.{Verdict}
 use Rattle.operations.specs.Calls.{faultOfOne, exactOfOne, faultOfTwo, exactOfTwo, faultOfDelay, exactOfDelay}
 use Rattle.signals.specs.Words.{tidied}
 use Rattle.tidying.specs.Calls.{tidyingFault}
@@ -14,7 +15,7 @@ use Rattle.stretches.specs.Stretches.{sumOfTicks}
 use Rattle.stretches.specs.Calls.{upTimeFor, stretchesOn, upTimeWords, upTimeFault}
 use Rattle.calls.specs.Calls.{callAnswer, callOutput, claimAnswer}
 use Rattle.calls.specs.Work.{firstFault, firstClaimFault, KeptWhen}
-use Rattle.packing.specs.Packing.{packWritten, packVerdict, packUpTime}
+use Rattle.packing.specs.Packing.{packWritten, packVerdict, packSpan, packUpTime}
 
 -- a call with this fault (0 for none) and these words: the number, and the output at exit from the output at entry
 abbrev pub Exported : ℕ → List ℕ → List ℕ → ℕ → List ℕ → Type 0
@@ -49,6 +50,13 @@ ExportedFormula sheet formula work out r outAfter workAfter =
     × (outAfter ≡ callOutput sheet formula (length work) out)
     × KeptWhen (firstFault sheet formula (length work)) work workAfter
 
+-- a claim's answer, packed by the function given
+abbrev pub ExportedAs : (Verdict → ℕ) → List ℕ → List ℕ → List ℕ → List ℕ → ℕ → List ℕ → Type 0
+ExportedAs packed sheet F G work r workAfter =
+    (r ≡ packed (claimAnswer sheet F G (length work))) × KeptWhen (firstClaimFault sheet F G (length work)) work workAfter
+
 abbrev pub ExportedClaim : List ℕ → List ℕ → List ℕ → List ℕ → ℕ → List ℕ → Type 0
-ExportedClaim sheet F G work r workAfter =
-    (r ≡ packVerdict (claimAnswer sheet F G (length work))) × KeptWhen (firstClaimFault sheet F G (length work)) work workAfter
+ExportedClaim = ExportedAs packVerdict
+
+abbrev pub ExportedSpan : List ℕ → List ℕ → List ℕ → List ℕ → ℕ → List ℕ → Type 0
+ExportedSpan = ExportedAs packSpan

@@ -8,9 +8,9 @@ ghost use Rattle.questions.specs.Questions.{valueAtOf, valueInOf, equalOf, impl
 ghost use Rattle.format.specs.Reading.{sheetFault};
 ghost use Rattle.format.specs.Writing.{sheetBytes};
 ghost use Rattle.format.specs.Calls.{beginFault, placeOf};
-ghost use Rattle.packing.specs.Packing.{packFault, packTold, packVerdict, packPlace, tableIn};
+ghost use Rattle.packing.specs.Packing.{packFault, packTold, packVerdict, packSpan, packPlace, tableIn};
 ghost use Rattle.capi.specs.Exports.{Exported, ExportedOne, ExportedTwo, ExportedDelay, ExportedTidying, ExportedAppend};
-ghost use Rattle.capi.specs.Exports.{ExportedUpTime, ExportedFormula, ExportedClaim};
+ghost use Rattle.capi.specs.Exports.{ExportedUpTime, ExportedFormula, ExportedClaim, ExportedSpan};
 use signals::Length;
 
 // The fault of a list.
@@ -59,6 +59,14 @@ pub extern "C" fn sgl_implies(a: &[u32], b: &[u32]) -> u64
     ensures { λ r. ⌜ r ≡ packVerdict (impliesOf (now (a .entry)) (now (b .entry))) ⌝ }
 {
     packing::pack_verdict(comparing::implies(a, b))
+}
+
+// Implication a to b, with the end of the failing run.
+#[no_mangle]
+pub extern "C" fn sgl_implies_span(a: &[u32], b: &[u32]) -> u64
+    ensures { λ r. ⌜ r ≡ packSpan (impliesOf (now (a .entry)) (now (b .entry))) ⌝ }
+{
+    packing::pack_span(comparing::implies(a, b))
 }
 
 // NOT.
@@ -194,4 +202,12 @@ pub extern "C" fn sgl_claim(sheet: &[u8], f: &[u8], g: &[u8], work: &mut [u32]) 
     ensures { λ r. ⌜ ExportedClaim (now (sheet .entry)) (now (f .entry)) (now (g .entry)) (now (work .entry)) r (now (work .exit)) ⌝ }
 {
     packing::pack_verdict(evaluation::claim(sheet, f, g, work))
+}
+
+// The same with the end of the failing run.
+#[no_mangle]
+pub extern "C" fn sgl_claim_span(sheet: &[u8], f: &[u8], g: &[u8], work: &mut [u32]) -> u64
+    ensures { λ r. ⌜ ExportedSpan (now (sheet .entry)) (now (f .entry)) (now (g .entry)) (now (work .entry)) r (now (work .exit)) ⌝ }
+{
+    packing::pack_span(evaluation::claim(sheet, f, g, work))
 }

@@ -9,7 +9,7 @@ use mathlib.Core.Option.{Option, none, some}
 use lib.Dec.{eqb}
 use borrow.Author.Tests.{eqb-false}
 use Rattle.signals.specs.Moment.{isGap, tick}
-use Rattle.signals.specs.Answers.{failsIn, judgedBy, verdictFor, faultOfVerdict}
+use Rattle.signals.specs.Answers.{Span, endOf, failsIn, judgedBy, verdictFor, faultOfVerdict}
 use Rattle.signals.specs.declared.Verdict.{Verdict}
 use Rattle.signals.specs.declared.Verdict.the-variants.{Holds, FailsAt, FailsAfter, Refused}
 use Rattle.grammar.specs.Formula.{formulaTree}
@@ -74,21 +74,22 @@ only-claim sheet F G =
 -- a verdict is no refusal
 abbrev refusing : Verdict → ℕ
 refusing Holds = 0
-refusing (FailsAt k) = 0
-refusing (FailsAfter k) = 0
+refusing (FailsAt k end) = 0
+refusing (FailsAfter k end) = 0
 refusing (Refused n) = 1
 
-failing : (t : ℕ) → refusing (failsIn t) ≡ 0
+failing : (s : Span) → refusing (failsIn s) ≡ 0
 unfolding failsIn
-failing t = go (isGap t)
+failing s = go (isGap (s .first))
   where
-    go : (b : Bool) → refusing (cond b (FailsAfter (tick t)) (FailsAt (tick t))) ≡ 0
+    go : (b : Bool)
+        → refusing (cond b (FailsAfter (tick (s .first)) (endOf (s .last))) (FailsAt (tick (s .first)) (endOf (s .last)))) ≡ 0
     go true = refl
     go false = refl
 
-judging : (first : Option ℕ) → refusing (judgedBy first) ≡ 0
+judging : (first : Option Span) → refusing (judgedBy first) ≡ 0
 judging none = refl
-judging (some t) = failing t
+judging (some s) = failing s
 
 pub refused-given : (sheet F G : List ℕ) (n : ℕ) → claimAnswer sheet F G (neededWork sheet) ≡ Refused n → Given n
 unfolding claimAnswer verdictFor

@@ -1,7 +1,6 @@
--- The law of `implies_at`: of two accepted lists the scan finds the verdict of the implication.
+-- The law of `implies_at`: of two accepted lists the scans find the verdict of the implication.
 use Prim.Native.Nat.{ℕ}
 use mathlib.Core.Path.{_≡_}
-use mathlib.Core.Bool.{false}
 use mathlib.Core.List.{List}
 use Rattle.slices.specs.Bytes.{Words}
 use Rattle.signals.specs.Words.{listFault, pairFault}
@@ -9,14 +8,12 @@ use Rattle.signals.specs.Answers.{firstOf, verdictFor}
 use Rattle.signals.specs.declared.Verdict.{Verdict}
 use Rattle.questions.specs.Questions.{impliesOf}
 use Rattle.comparing.specs.Finding.{Found}
-use Rattle.comparing.proofs.FirstFound.{first-found}
-use Rattle.comparing.proofs.Verdicts.{verdict-told}
+use Rattle.comparing.proofs.Verdicts.{found-verdict}
 
 no-fault : (f g : List ℕ) → listFault f ≡ 0 → listFault g ≡ 0 → pairFault f g ≡ 0
 unfolding pairFault firstOf
 no-fault f g zf zg = rw (zf, zg)
 
-pub implies-exact : (f g : List ℕ) (r : Verdict) → listFault f ≡ 0 → listFault g ≡ 0 → Words f → Words g → Found false f g r
-    → r ≡ impliesOf f g
+pub implies-exact : (f g : List ℕ) (v : Verdict) → listFault f ≡ 0 → listFault g ≡ 0 → Words f → Words g → Found f g v → v ≡ impliesOf f g
 unfolding impliesOf verdictFor
-implies-exact f g r zf zg wf wg h = rw (no-fault f g zf zg) (verdict-told f g zf zg r (first-found false f g wf wg zf zg h))
+implies-exact f g v zf zg wf wg h = rw (no-fault f g zf zg) (found-verdict f g wf wg zf zg v h)

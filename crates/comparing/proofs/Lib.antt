@@ -3,4 +3,5 @@ pub mod Scanning
 pub mod Watching
 pub mod FirstFound
 pub mod Verdicts
+mod Standing
 pub mod ImpliesExact

@@ -1,7 +1,7 @@
--- The scan's loop: its readers go along the lists, and a verdict from here on is one from the start.
+-- The scan's loop: its readers go along the lists, and what is met from here on is met from where it began.
 use Prim.Native.Nat.{ℕ, _+_, _-_, _≤_, _<_, min}
 use native.Mathlib.Omega.{arith}
-use mathlib.Core.Path.{_≡_, sym, subst, _∙_}
+use mathlib.Core.Path.{_≡_, refl, sym, ap, subst, _∙_}
 use mathlib.Core.Logic.{⊎-elim}
 use mathlib.Core.Bool.{Bool, true, false, cond}
 use mathlib.Core.List.{List}
@@ -9,16 +9,18 @@ use lib.ListN.{length}
 use Rattle.slices.specs.Bytes.{Words}
 use Rattle.signals.specs.Words.{valueAfter}
 use Rattle.signals.specs.Passing.{heldValue, isNext, atDate, passedDate}
-use Rattle.signals.specs.declared.Verdict.{Verdict}
-use Rattle.signals.specs.declared.Verdict.the-variants.{Holds, FailsAt, FailsAfter}
 use Rattle.reading.specs.Reading.{NEVER, nextDate, stepPast}
 use Rattle.reading.proofs.Counting.{next-left, passed-next}
-use Rattle.sources.specs.Sources.{cursorAt, startOf, pastOn}
+use Rattle.sources.specs.Sources.{On, pastOn}
 use Rattle.sources.specs.declared.Cursor.{Cursor}
 use Rattle.sources.specs.declared.Passed.{Passed}
-use Rattle.sources.proofs.Going.{On, on-start, on-date, on-held, on-step, on-next}
-use Rattle.comparing.specs.Finding.{failsBy, nextOf, Quiet, Finds, Found, inGap, ended, atInstant, turn}
+use Rattle.sources.proofs.Going.{on-date, on-held, on-step, on-next}
+use Rattle.comparing.specs.declared.Scan.{Scan}
+use Rattle.comparing.specs.declared.Met.{Met}
+use Rattle.comparing.specs.declared.Met.the-variants.{Gap, Instant, Nothing}
+use Rattle.comparing.specs.Finding.{soughtBy, nextOf, Standing, Quiet, Meets, MeetsFrom, inGap, ended, atInstant, turn}
 use Rattle.comparing.proofs.Watching.{one-of}
+use Rattle.comparing.proofs.FirstFound.{passed-is}
 
 passed-le : (l : List ℕ) (i d : ℕ) → i ≤ passedDate l i d
 unfolding passedDate
@@ -34,48 +36,39 @@ passed-one l i d small e =
     let h : i < length l = next-left l i (omega arith) in
     (h, rw e (passed-next l i h))
 
--- where the loop stands: a verdict from here on is one from the start
-pub record Scanning (both : Bool) (a b : List ℕ) (last : ℕ) (x y : Cursor) : Type 0 where
+-- where the loop stands: what is met from here on is met from where the scan began
+pub record Scanning (both failing : Bool) (a b : List ℕ) (from : Scan) (last : ℕ) (x y : Cursor) : Type 0 where
   pub short-a : length a < 4294967296
   pub short-b : length b < 4294967296
   pub words-a : Words a
   pub words-b : Words b
   pub left : On a x (x .passed)
   pub right : On b y (y .passed)
-  pub on : (r : Verdict) → Finds both a b last (x .passed) (y .passed) r → Found both a b r
+  pub on : (r : Met) → Meets both failing a b last (x .passed) (y .passed) r → MeetsFrom both failing a b from r
 
-passed-is : (l : List ℕ) (c : Cursor) (i : ℕ) → On l c i → c .passed ≡ i
-unfolding cursorAt
-passed-is l c i o = rw (o .is)
-
--- at the start the first words are passed
-pub scan-start : (both : Bool) (a b : List ℕ) (x y : Cursor) → length a < 4294967296 → length b < 4294967296 → Words a → Words b
-    → x ≡ startOf a → y ≡ startOf b → Scanning both a b 0 x y
-scan-start both a b x y short-a short-b words-a words-b ex ey =
-    let left = on-start a x ex in
-    let right = on-start b y ey in
-    let i = passed-is a x 1 left in
-    let j = passed-is b y 1 right in
+pub scan-start : (both failing : Bool) (a b : List ℕ) (from : Scan) → length a < 4294967296 → length b < 4294967296 → Words a → Words b
+    → Standing a b from → Scanning both failing a b from (from .after) (from .left) (from .right)
+scan-start both failing a b from short-a short-b words-a words-b h =
     record {
       short-a = short-a;
       short-b = short-b;
       words-a = words-a;
       words-b = words-b;
-      left = subst (On a x) (sym i) left;
-      right = subst (On b y) (sym j) right;
-      on = λ r h. rw (i, j) at h;
+      left = h .left;
+      right = h .right;
+      on = λ r m. m;
     }
 
-module _ {both : Bool} {a b : List ℕ} {last : ℕ} {x y : Cursor} {v : Bool} (w : Scanning both a b last x y)
-    (e : failsBy both (valueAfter (x .last)) (valueAfter (y .last)) ≡ v) where
-  held-fails : failsBy both (heldValue a (x .passed)) (heldValue b (y .passed)) ≡ v
-  held-fails =
+module _ {both failing : Bool} {a b : List ℕ} {from : Scan} {last : ℕ} {x y : Cursor} {v : Bool}
+    (w : Scanning both failing a b from last x y) (e : v ≡ soughtBy both failing (valueAfter (x .last)) (valueAfter (y .last))) where
+  held-sought : soughtBy both failing (heldValue a (x .passed)) (heldValue b (y .passed)) ≡ v
+  held-sought =
       rw
       (← on-held a (w .words-a) (w .short-a) x (x .passed) (w .left), ← on-held b (w .words-b) (w .short-b) y (y .passed) (w .right))
-      e
+      (sym e)
 
-  pub gap-found : v ≡ true → Found both a b (FailsAfter last)
-  gap-found t = w .on (FailsAfter last) (inGap (held-fails ∙ t))
+  pub gap-met : v ≡ true → MeetsFrom both failing a b from (Gap (record { after = last; left = x; right = y }))
+  gap-met t = w .on _ (inGap (held-sought ∙ t) (record { date = refl; left = w .left; right = w .right }))
 
   module _ (quiet : v ≡ false) (d : ℕ) (m : d ≡ min (x .date) (y .date)) where
     next-is : d ≡ nextOf a b (x .passed) (y .passed)
@@ -85,12 +78,12 @@ module _ {both : Bool} {a b : List ℕ} {last : ℕ} {x y : Cursor} {v : Bool} (
         (← on-date a (w .words-a) (w .short-a) x (x .passed) (w .left), ← on-date b (w .words-b) (w .short-b) y (y .passed) (w .right))
         m
 
-    pub none-found : NEVER ≤ d → Found both a b Holds
-    none-found h = w .on Holds (ended (held-fails ∙ quiet) (omega (arith, next-is)))
+    pub none-met : NEVER ≤ d → MeetsFrom both failing a b from Nothing
+    none-met h = w .on Nothing (ended (held-sought ∙ quiet) (omega (arith, next-is)))
 
     module _ (s t : Passed) (small : d < NEVER) (es : s ≡ pastOn a x d) (et : t ≡ pastOn b y d) where
-      quiet-is : Quiet both a b (x .passed) (y .passed) d
-      quiet-is = record { held = held-fails ∙ quiet; next = next-is; left = small }
+      quiet-is : Quiet both failing a b (x .passed) (y .passed) d
+      quiet-is = record { held = held-sought ∙ quiet; next = next-is; left = small }
 
       step-a : s .step ≡ stepPast a (x .passed) d
       step-a = on-step a (w .words-a) (w .short-a) x (x .passed) (w .left) d small s es
@@ -104,28 +97,37 @@ module _ {both : Bool} {a b : List ℕ} {last : ℕ} {x y : Cursor} {v : Bool} (
       next-b : On b (t .next) (t .step .passed)
       next-b = on-next b (w .words-b) (w .short-b) y (y .passed) (w .right) d small t et
 
+      on-a : On a (s .next) (passedDate a (x .passed) d)
+      on-a = subst (On a (s .next)) (ap (λ z. z .passed) step-a) next-a
+
+      on-b : On b (t .next) (passedDate b (y .passed) d)
+      on-b = subst (On b (t .next)) (ap (λ z. z .passed) step-b) next-b
+
       passed-a : s .next .passed ≡ passedDate a (x .passed) d
-      passed-a = passed-is a (s .next) (s .step .passed) next-a ∙ rw step-a
+      passed-a = passed-is a (s .next) _ on-a
 
       passed-b : t .next .passed ≡ passedDate b (y .passed) d
-      passed-b = passed-is b (t .next) (t .step .passed) next-b ∙ rw step-b
+      passed-b = passed-is b (t .next) _ on-b
 
-      at-fails : failsBy both (atDate a (x .passed) d) (atDate b (y .passed) d) ≡ failsBy both (s .step .at) (t .step .at)
-      at-fails = rw (step-a, step-b)
+      at-sought : soughtBy both failing (atDate a (x .passed) d) (atDate b (y .passed) d)
+          ≡ soughtBy both failing (s .step .at) (t .step .at)
+      at-sought = rw (step-a, step-b)
 
-      pub instant-found : failsBy both (s .step .at) (t .step .at) ≡ true → Found both a b (FailsAt d)
-      instant-found u = w .on (FailsAt d) (atInstant quiet-is (at-fails ∙ u))
+      pub instant-met : (u : Bool) → u ≡ soughtBy both failing (s .step .at) (t .step .at) → u ≡ true
+          → MeetsFrom both failing a b from (Instant (record { after = d; left = s .next; right = t .next }))
+      instant-met u h i = w .on _ (atInstant quiet-is (at-sought ∙ sym h ∙ i) (record { date = refl; left = on-a; right = on-b }))
 
-      pub scan-on : failsBy both (s .step .at) (t .step .at) ≡ false → Scanning both a b d (s .next) (t .next)
-      scan-on u =
+      pub scan-on : (u : Bool) → u ≡ soughtBy both failing (s .step .at) (t .step .at) → u ≡ false
+          → Scanning both failing a b from d (s .next) (t .next)
+      scan-on u h i =
           record {
             short-a = w .short-a;
             short-b = w .short-b;
             words-a = w .words-a;
             words-b = w .words-b;
-            left = subst (On a (s .next)) (sym (passed-is a (s .next) (s .step .passed) next-a)) next-a;
-            right = subst (On b (t .next)) (sym (passed-is b (t .next) (t .step .passed) next-b)) next-b;
-            on = λ r h. w .on r (turn quiet-is (at-fails ∙ u) (rw (passed-a, passed-b) at h));
+            left = subst (On a (s .next)) (sym passed-a) on-a;
+            right = subst (On b (t .next)) (sym passed-b) on-b;
+            on = λ r m. w .on r (turn quiet-is (at-sought ∙ sym h ∙ i) (rw (passed-a, passed-b) at m));
           }
 
       -- a word is passed

@@ -2,7 +2,6 @@
 use Prim.Native.Nat.{ℕ}
 use native.Mathlib.Omega.{arith}
 use mathlib.Core.Path.{_≡_, refl, sym, _∙_, ap, ap₂}
-use mathlib.Core.Bool.{false}
 use mathlib.Core.List.{List, [], _∷_, _++_, append-nil}
 use lib.ListN.{length, getD}
 use Rattle.signals.specs.declared.Written.{Written}
@@ -49,10 +48,10 @@ module _ (sheet f g fs gs before : List ℕ) (ran : Ran) (after : List ℕ) (ok 
   pub claim-refused : (ran .fault ≡ 0 → ⊥) → Judged sheet f g before (verdict.Refused (ran .fault)) after
   claim-refused x = judge-refused sheet f g before after ok bytes (cf .read) (cg .read) (ran .fault) (w .end) both x
 
-  pub claim-judged : ran .fault ≡ 0 → (v : Verdict) (a b : Source) → FoundAt false sheet constants constants after a b v → a ≡ ran .below
+  pub claim-judged : ran .fault ≡ 0 → (v : Verdict) (a b : Source) → FoundAt sheet constants constants after a b v → a ≡ ran .below
       → b ≡ ran .top → Judged sheet f g before v after
   claim-judged z v x y found first second =
-      let h : FoundAt false sheet constants constants after (ran .below) (ran .top) v = rw (first, second) at found in
+      let h : FoundAt sheet constants constants after (ran .below) (ran .top) v = rw (first, second) at found in
       let s = stands sheet f g before after ok bytes (cf .read) (cg .read) (ran .fault) (w .end) both z in
       let t : listOf sheet after (ran .top) ≡ wordsOn sheet g = w .top-is z (rw (s .0) (omega arith)) ∙ ap (λ st. getD st 0 []) (s .0) in
       let b : listOf sheet after (ran .below) ≡ wordsOn sheet f = w .below-is z (rw (s .0) (omega arith)) ∙ ap (λ st. getD st 1 [])

@@ -27,24 +27,24 @@ use Rattle.slices.specs.Bytes.{Bytes, Words}
 use Rattle.machine.proofs.Exact.{signal-is, settled-at}
 use Rattle.machine.proofs.FormulaRan.{formula-ran, in-a-row}
 use Rattle.machine.proofs.Calling.{Outcome, outcome}
-use Rattle.signals.specs.Answers.{firstOf, judgedBy, verdictFor}
+use Rattle.signals.specs.Answers.{firstOf, Span, judgedBy, verdictFor}
 use Rattle.signals.proofs.FirstFault.{first-is, next-is, first-assoc}
 
 -- faults in their order
-pub by-first : (f g rest : ℕ) (v : Option ℕ) → g ≡ f → (f ≡ 0 → ⊥) → Refused f ≡ verdictFor (firstOf g rest) v
+pub by-first : (f g rest : ℕ) (v : Option Span) → g ≡ f → (f ≡ 0 → ⊥) → Refused f ≡ verdictFor (firstOf g rest) v
 unfolding verdictFor
 by-first f g rest v e n =
     let m : g ≡ 0 → ⊥ = λ z. n (sym e ∙ z) in
     rw (first-is g rest m, ne-eqb g 0 m, e)
 
-pub by-next : (f rest : ℕ) (v : Option ℕ) (r : Verdict) → f ≡ 0 → r ≡ verdictFor rest v → r ≡ verdictFor (firstOf f rest) v
+pub by-next : (f rest : ℕ) (v : Option Span) (r : Verdict) → f ≡ 0 → r ≡ verdictFor rest v → r ≡ verdictFor (firstOf f rest) v
 by-next f rest v r z h = rw (next-is f rest z) h
 
-by-none : (f : ℕ) (v : Option ℕ) → f ≡ 0 → judgedBy v ≡ verdictFor f v
+by-none : (f : ℕ) (v : Option Span) → f ≡ 0 → judgedBy v ≡ verdictFor f v
 unfolding verdictFor
 by-none f v z = rw (eq-eqb f 0 z)
 
-by-one : (f g : ℕ) (v : Option ℕ) → g ≡ f → (f ≡ 0 → ⊥) → Refused f ≡ verdictFor g v
+by-one : (f g : ℕ) (v : Option Span) → g ≡ f → (f ≡ 0 → ⊥) → Refused f ≡ verdictFor g v
 unfolding verdictFor
 by-one f g v e n = let m : g ≡ 0 → ⊥ = λ z. n (sym e ∙ z) in rw (ne-eqb g 0 m, e)
 

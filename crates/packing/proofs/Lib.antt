@@ -5,3 +5,4 @@ pub mod SmallOperations
 pub mod SmallSheets
 pub mod SmallCalls
 pub mod SmallUpTimes
+pub mod SmallSpans

@@ -9,7 +9,7 @@ use lib.Dec.{eqb}
 use lib.ListN.{length}
 use borrow.Author.Tests.{eqb-true}
 use Rattle.signals.specs.Words.{listFault}
-use Rattle.signals.specs.Answers.{firstOf, faultIn, countIn, writtenOf, faultOfTold, faultOfVerdict, verdictFor}
+use Rattle.signals.specs.Answers.{firstOf, faultIn, countIn, writtenOf, faultOfTold, Span, faultOfVerdict, verdictFor}
 use Rattle.signals.specs.declared.Written.{Written}
 use Rattle.signals.specs.declared.Told.{Told}
 use Rattle.format.specs.Calls.{faultOfPlace, firstByte, byteCount}
@@ -84,5 +84,5 @@ written-small fault words f w = go (eqb fault 0) refl
     go true e = (omega arith, w (eqb-true fault 0 e))
     go false e = (f, omega arith)
 
-pub answer-small : (fault : ℕ) (first : Option ℕ) → fault < 65536 → SmallVerdict (verdictFor fault first)
-answer-small fault first h = subst (λ (f : ℕ). f < 65536) (sym (answers-say .verdict .fault fault first)) h
+pub answer-small : (fault : ℕ) (span : Option Span) → fault < 65536 → SmallVerdict (verdictFor fault span)
+answer-small fault span h = subst (λ (f : ℕ). f < 65536) (sym (answers-say .verdict .fault fault span)) h

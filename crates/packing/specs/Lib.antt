@@ -1,2 +1,3 @@
 -- The packing of answers as definitions.
 pub mod Packing
+pub mod SpansPacked

@@ -1,6 +1,6 @@
 -- Believed: The answers of the library as the one number that an exported function returns, and that number in its 32 or 64 bits for every
 -- answer.
-use Prim.Native.Nat.{ℕ, _+_, _*_, _/_, _%_}
+use Prim.Native.Nat.{ℕ, _+_, _*_, _-_, _/_, _%_}
 use mathlib.Core.Bool.{Bool}
 use mathlib.Core.List.{[], _∷_}
 use lib.Dec.{eqb}
@@ -11,6 +11,8 @@ use Rattle.stretches.specs.Calls.{faultOfUpTime, countOfUpTime, totalOfUpTime}
 use Rattle.stretches.specs.declared.UpTime.{UpTime}
 use Rattle.signals.specs.declared.Written.{Written}
 use Rattle.signals.specs.declared.Told.{Told}
+use Rattle.signals.specs.declared.End.{End}
+use Rattle.signals.specs.declared.End.the-variants as ends
 use Rattle.signals.specs.declared.Verdict.{Verdict}
 use Rattle.signals.specs.declared.Verdict.the-variants as verdict
 use Rattle.format.specs.declared.Place.{Place}
@@ -31,13 +33,30 @@ packTold answer = packFault (faultOfTold answer) + num (valueIn answer)
 -- what fails first: 0 for nothing, 2k for the instant k, 2k+1 for the gap k
 unfoldable pub packMoment : Verdict → ℕ
 packMoment verdict.Holds = 0
-packMoment (verdict.FailsAt k) = 2 * k
-packMoment (verdict.FailsAfter k) = 2 * k + 1
+packMoment (verdict.FailsAt k end) = 2 * k
+packMoment (verdict.FailsAfter k end) = 2 * k + 1
 packMoment (verdict.Refused f) = 0
 
 -- 2^40 × fault + what fails first
 unfoldable pub packVerdict : Verdict → ℕ
 packVerdict answer = 1099511627776 * faultOfVerdict answer + packMoment answer
+
+-- the last moment of a run that ends so, in the same way: 0 for none, since it never ends
+unfoldable pub packEnd : End → ℕ
+packEnd (ends.At k) = 2 * k
+packEnd (ends.Before k) = 2 * k - 1
+packEnd ends.Never = 0
+
+-- what fails last of the first run: 0 for good, where nothing fails and when refused
+unfoldable pub packLast : Verdict → ℕ
+packLast verdict.Holds = 0
+packLast (verdict.FailsAt k end) = packEnd end
+packLast (verdict.FailsAfter k end) = packEnd end
+packLast (verdict.Refused f) = 0
+
+-- 2^32 × (fault, or what fails last of the first run) + what fails first
+unfoldable pub packSpan : Verdict → ℕ
+packSpan answer = 4294967296 * (faultOfVerdict answer + packLast answer) + packMoment answer
 
 -- 2^48 × fault + 2^24 × first byte + byte count; the last two are 0 when refused
 unfoldable pub packPlace : Place → ℕ
@@ -47,8 +66,8 @@ packPlace answer = 281474976710656 * faultOfPlace answer + 16777216 * firstByte 
 unfoldable pub packUpTime : UpTime → ℕ
 packUpTime answer = 281474976710656 * faultOfUpTime answer + 65536 * totalOfUpTime answer + countOfUpTime answer
 
--- The same in 32 bits, or in 64 for a verdict, a place and an up-time, whatever the answer: of each number the low bits that its place
--- has room for.
+-- The same in 32 bits, or in 64 for a verdict, a span, a place and an up-time, whatever the answer: of each number the low bits that its
+-- place has room for.
 unfoldable pub faultBits : ℕ → ℕ
 faultBits f = packFault (f % 65536)
 
@@ -60,6 +79,9 @@ toldBits answer = faultBits (faultOfTold answer) + num (valueIn answer)
 
 unfoldable pub verdictBits : Verdict → ℕ
 verdictBits answer = 1099511627776 * (faultOfVerdict answer % 16777216) + packMoment answer
+
+unfoldable pub spanBits : Verdict → ℕ
+spanBits answer = 4294967296 * (faultOfVerdict answer + packLast answer % 4294967296) + packMoment answer % 4294967296
 
 unfoldable pub placeBits : Place → ℕ
 placeBits answer =

@@ -1,8 +1,12 @@
 // The answers of the library packed into one number each, and the table that a number stands for. Of each number of an answer the low
 // bits are kept that its place has room for: for the answers that a call gives, these are all.
 ghost use mathlib.Core.Path.{_≡_};
-ghost use Rattle.packing.specs.Packing.{faultBits, writtenBits, toldBits, verdictBits, placeBits, upTimeBits, tableIn};
+ghost use Prim.Native.Nat.{_%_};
+ghost use Rattle.signals.specs.declared.End.the-variants.{Before};
+ghost use Rattle.packing.specs.Packing.{faultBits, writtenBits, toldBits, verdictBits, packEnd, spanBits, placeBits, upTimeBits};
+ghost use Rattle.packing.specs.Packing.{tableIn};
 use format::Place;
+use signals::End;
 use signals::Told;
 use signals::Verdict;
 use signals::Written;
@@ -42,9 +46,44 @@ pub fn pack_verdict(answer: Verdict) -> u64
 {
     match answer {
         Verdict::Holds => 0,
-        Verdict::FailsAt(k) => 2 * (k as u64),
-        Verdict::FailsAfter(k) => 2 * (k as u64) + 1,
+        Verdict::FailsAt(k, end) => 2 * (k as u64),
+        Verdict::FailsAfter(k, end) => 2 * (k as u64) + 1,
         Verdict::Refused(fault) => 1099511627776 * ((fault % 16777216) as u64),
+    }
+}
+
+// The gap before the instant k, as a moment; 0 for k 0, which no verdict has.
+fn pack_before(k: u32) -> u64
+    ensures { λ r. ⌜ r ≡ packEnd (Before k) ⌝ }
+{
+    if k == 0 {
+        return 0;
+    }
+    2 * (k as u64) - 1
+}
+
+// The last moment of a run that ends so.
+fn pack_end(end: End) -> u64
+    ensures { λ r. ⌜ r ≡ packEnd end % 4294967296 ⌝ }
+{
+    match end {
+        End::At(k) => 2 * (k as u64) % 4294967296,
+        End::Before(k) => pack_before(k) % 4294967296,
+        End::Never => 0,
+    }
+}
+
+// What a claim answers, with the end of the failing run.
+pub fn pack_span(answer: Verdict) -> u64
+    ensures { λ r. ⌜ r ≡ spanBits answer ⌝ }
+{
+    match answer {
+        Verdict::Holds => 0,
+        Verdict::FailsAt(k, end) => 4294967296 * pack_end(end) + 2 * (k as u64) % 4294967296,
+        Verdict::FailsAfter(k, end) => {
+            4294967296 * pack_end(end) + (2 * (k as u64) + 1) % 4294967296
+        }
+        Verdict::Refused(fault) => 4294967296 * (fault as u64),
     }
 }
 

@@ -12,7 +12,7 @@ use Rattle.questions.specs.Implication.{Implication}
 use Rattle.questions.proofs.LaterLast.{settled-a, settled-b}
 use Rattle.signals.specs.Answers.{firstOf, verdictFor}
 
-verdict-is : (a b : List ℕ) → Accepted a → Accepted b → impliesOf a b ≡ verdictOf (signalOf a) (signalOf b) (laterLast a b)
+pub verdict-is : (a b : List ℕ) → Accepted a → Accepted b → impliesOf a b ≡ verdictOf (signalOf a) (signalOf b) (laterLast a b)
 unfolding impliesOf verdictFor pairFault firstOf
 verdict-is a b za zb = rw (za, zb)
 
@@ -20,8 +20,9 @@ pub implication : Implication
 implication a b za zb =
     let j = verdict-judged (signalOf a) (signalOf b) (laterLast a b) (settled-a a b za zb) (settled-b a b za zb) in
     record {
-      holds = rw (verdict-is a b za zb) (j .holds);
-      failsAt = λ k l. rw (verdict-is a b za zb) (rw (failsIn-instant k l) at (j .fails (instant k)));
-      failsAfter = λ k. rw (verdict-is a b za zb) (rw (failsIn-gap k) at (j .fails (gap k)));
-      either = rw (verdict-is a b za zb) (j .either);
+      said = rw (verdict-is a b za zb) (j .said);
+      failsAt = λ k last l.
+          rw (verdict-is a b za zb) (rw (failsIn-instant k last l) at (j .said .fails (record { first = instant k; last = last })));
+      failsAfter = λ k last.
+          rw (verdict-is a b za zb) (rw (failsIn-gap k last) at (j .said .fails (record { first = gap k; last = last })));
     }

@@ -6,7 +6,7 @@ use lib.Dec.{ltb, eqb}
 use Rattle.signals.specs.Moment.{M, gap, instant}
 use Rattle.signals.specs.Signal.{Signal, every}
 use Rattle.signals.specs.Words.{listFault, pairFault, signalOf, lastDate}
-use Rattle.signals.specs.Implication.{firstFailing}
+use Rattle.signals.specs.Implication.{firstSpan}
 use Rattle.signals.specs.declared.Told.{Told}
 use Rattle.signals.specs.declared.Verdict.{Verdict}
 use Rattle.signals.specs.Answers.{firstOf, toldOf, verdictFor}
@@ -38,4 +38,4 @@ equalOf a b = toldOf (pairFault a b) (every (agreeing (signalOf a) (signalOf b))
 
 -- implication a to b: list, list
 unfoldable pub impliesOf : List ℕ → List ℕ → Verdict
-impliesOf a b = verdictFor (pairFault a b) (firstFailing (signalOf a) (signalOf b) (laterLast a b))
+impliesOf a b = verdictFor (pairFault a b) (firstSpan (signalOf a) (signalOf b) (laterLast a b))

@@ -9,6 +9,7 @@ use random_formulas::cells::SLOTS;
 use random_formulas::cells::TEXT;
 use random_formulas::cells::at;
 use random_formulas::cells::set;
+use signals::End;
 use signals::Verdict;
 use signals::WORDS;
 use signals::Written;
@@ -50,12 +51,25 @@ fn written_number(answer: Written) -> u64 {
     }
 }
 
-// 0 for holds, else 4 * k + 1 for at, 4 * k + 2 for after, 4 * n + 3 for refused.
+// 4 * k + 1 where the instant k is the last to fail, 4 * k + 2 where the gap before it is, 3 where the run never ends.
+fn end_number(end: End) -> u64 {
+    match end {
+        End::At(k) => k as u64 % 1073741824 * 4 + 1,
+        End::Before(k) => k as u64 % 1073741824 * 4 + 2,
+        End::Never => 3,
+    }
+}
+
+fn failing(first: u64, end: End) -> u64 {
+    end_number(end) % 4294967296 * 4294967296 + first % 4294967296
+}
+
+// 0 for holds, else 4 * k + 1 for at, 4 * k + 2 for after, with 2^32 times the number of the end; 4 * n + 3 for refused.
 fn verdict_number(answer: Verdict) -> u64 {
     match answer {
         Verdict::Holds => 0,
-        Verdict::FailsAt(k) => k as u64 * 4 + 1,
-        Verdict::FailsAfter(k) => k as u64 * 4 + 2,
+        Verdict::FailsAt(k, end) => failing(k as u64 * 4 + 1, end),
+        Verdict::FailsAfter(k, end) => failing(k as u64 * 4 + 2, end),
         Verdict::Refused(fault) => fault as u64 * 4 + 3,
     }
 }

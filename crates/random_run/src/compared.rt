@@ -1,6 +1,7 @@
 // A random sheet and two random formulas: each call, and the claim, against the second evaluator.
 // The tally: 0 mismatches, 1 to 18 formulas refused so, 20 formulas answered, 21 to 24 claims that hold, fail at, fail after, are
-// refused. The notes: the sheet's fault, F's, G's, 18 where the work area is short; 5 or 6 that F's parts meet, and G's, 4 further on.
+// refused, 25 those with no failing run, 26 to 28 those whose run ends at an instant, before one, never. The notes: the sheet's fault,
+// F's, G's, 18 where the work area is short; 5 or 6 that F's parts meet, and G's, 4 further on.
 use crate::made::sheet_fault;
 use crate::made::spoil;
 use crate::made::text;
@@ -33,6 +34,7 @@ use random_sheets::rows::word_at;
 use random_sheets::rows::words;
 use signals::WORDS;
 use stepping::FAILS;
+use stepping::FINE;
 use stepping::first;
 use stepping::first_of;
 use stepping::stepped;
@@ -134,28 +136,48 @@ fn formula_call(cells: &mut Cells, f: usize, work: &mut [u32]) {
     call_in(cells, f, work, &mut out[0..room]);
 }
 
-// The verdict of the first failing moment, the end being none.
-fn verdict_of(fault: u64, moment: usize, end: usize, date: u64) -> u64 {
+// The verdict of the first failing moment, the end being none, and how its run ends.
+fn verdict_of(fault: u64, moment: usize, end: usize, date: u64, run: u64) -> u64 {
     if fault != 0 {
         return fault % 20 * 4 + 3;
     }
     if moment == end {
         return 0;
     }
-    date % 4294967296 * 4 + 2 - (moment % 2) as u64
+    run % 4294967296 * 4294967296 + date % 1073741824 * 4 + 2 - (moment % 2) as u64
+}
+
+fn date_at(cells: &Cells, moment: usize) -> u64 {
+    date_of(cells, moment / 2 + moment % 2) % 1073741824
+}
+
+// How the run ends that goes on at a moment: by the first moment from there on that does not fail.
+fn run_from(cells: &Cells, moment: usize, end: usize) -> u64 {
+    let fine = first(cells, FINE, 0, moment, end);
+    if fine == end {
+        return 3;
+    }
+    date_at(cells, fine) % 1073741824 * 4 + 1 + (fine % 2) as u64
 }
 
 // The verdict expected, moment by moment, up to the last column's gap.
 fn expected_verdict(cells: &Cells) -> u64 {
     let end = (dates(cells) % 417 * 2 + 831) % 832;
     let moment = first(cells, FAILS, 0, 0, end);
-    let date = date_of(cells, moment / 2 + moment % 2);
-    verdict_of(fault_of(cells, 1, 2), moment, end, date)
+    let run = run_from(cells, moment, end);
+    verdict_of(
+        fault_of(cells, 1, 2),
+        moment,
+        end,
+        date_at(cells, moment),
+        run,
+    )
 }
 
 fn judge_claim(cells: &mut Cells, answer: u64) {
     let verdict = expected_verdict(cells);
     tell(cells, verdict % 4 + 21, wrong(answer == verdict, true));
+    tell(cells, verdict / 4294967296 % 4 + 25, 0);
 }
 
 fn calls(cells: &mut Cells, work: &mut [u32]) {

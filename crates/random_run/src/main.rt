@@ -48,6 +48,9 @@ fn told_claims(cells: &Cells) {
     line(b"claims that fail at ", cells, 22);
     line(b"claims that fail after ", cells, 23);
     line(b"claims refused ", cells, 24);
+    line(b"failing runs that end at an instant ", cells, 26);
+    line(b"failing runs that end before one ", cells, 27);
+    line(b"failing runs that never end ", cells, 28);
 }
 
 fn main() {

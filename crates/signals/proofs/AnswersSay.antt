@@ -1,7 +1,7 @@
 -- Reading an answer and giving it are one definition of its cases.
-use Prim.Native.Nat.{ℕ, _≤_, _<_}
+use Prim.Native.Nat.{ℕ, _-_, _≤_, _<_}
 use native.Mathlib.Omega.{arith}
-use mathlib.Core.Path.{_≡_, refl, sym, ap, subst}
+use mathlib.Core.Path.{_≡_, refl, sym, _∙_, ap, subst}
 use mathlib.Core.Logic.{⊎-elim}
 use mathlib.Core.Bool.{Bool, true, false, cond}
 use mathlib.Core.List.{List}
@@ -9,22 +9,27 @@ use mathlib.Core.Option.{Option, none, some}
 use lib.Dec.{eqb, ltb}
 use lib.ListN.{length}
 use borrow.Author.Tests.{eqb-true, eqb-false, ne-eqb, lt-ltb, le-ltb, ltb-true, ltb-false}
-use Rattle.signals.specs.Moment.{M, gap, instant}
+use Rattle.signals.specs.Moment.{M}
 use Rattle.signals.specs.Answers.{sumFor, faultIn, countIn, writtenOf}
 use Rattle.signals.specs.AnswersSay.{faultOfSum, totalIn, pastM}
-use Rattle.signals.specs.Answers.{faultOfTold, valueIn, toldOf, faultOfVerdict, failsFirst, failsIn, judgedBy, verdictFor}
-use Rattle.signals.specs.AnswersSay.{GivenSum, GivenWritten, GivenTold, GivenVerdict, SumSays, WrittenSays, ToldSays, VerdictSays}
+use Rattle.signals.specs.Answers.{faultOfTold, valueIn, toldOf}
+use Rattle.signals.specs.Answers.{Span, faultOfVerdict, lastIn, spanIn, endOf, failsIn, judgedBy, verdictFor}
+use Rattle.signals.specs.AnswersSay.{GivenSum, GivenWritten, GivenTold, GivenEnd, GivenVerdict, SumSays, WrittenSays, ToldSays}
+use Rattle.signals.specs.AnswersSay.{VerdictSays}
 use Rattle.signals.specs.AnswersSay.{AnswersSay}
 use Rattle.signals.specs.declared.Sum.{Sum}
 use Rattle.signals.specs.declared.Sum.the-variants as sum
 use Rattle.signals.specs.declared.Written.{Written}
 use Rattle.signals.specs.declared.Written.the-variants as written
+use Rattle.signals.specs.declared.End.{End}
+use Rattle.signals.specs.declared.End.the-variants as ends
 use Rattle.signals.specs.declared.Verdict.{Verdict}
 use Rattle.signals.specs.declared.Verdict.the-variants as verdict
 use Rattle.signals.specs.declared.Told.{Told}
 use Rattle.signals.specs.declared.Told.the-variants as told
 use Rattle.signals.proofs.Wording.{either}
-use Rattle.signals.proofs.Implication.{failsIn-gap, failsIn-instant}
+use Rattle.signals.proofs.Implication.{failsIn-gap, failsIn-instant, gap-told, instant-told, until-instant, until-before}
+use Rattle.signals.proofs.Implication.{for-good, span-read}
 
 -- an answer by whether there is a fault
 pub by-fault : {A : Type 0} (P : ℕ → A → Type 0) (f : ℕ) (fine : A) (refused : ℕ → A) → P 0 fine → ((g : ℕ) → 1 ≤ g → P g (refused g))
@@ -138,42 +143,54 @@ pub told-says : ToldSays
 told-says = record { fault = told-fault; value = told-value; refused = told-refused; given = told-given; every = told-every }
 
 -- a claim's
-fails-cases : (P : ℕ → Verdict → Type 0) → ((k : ℕ) → P (gap k) (verdict.FailsAfter k))
-    → ((k : ℕ) → 1 ≤ k → P (instant k) (verdict.FailsAt k))
-    → (t : ℕ) → P t (failsIn t)
-fails-cases P in-gap at-instant t =
+end-given : (last : Option ℕ) → GivenEnd (endOf last)
+end-given none = subst GivenEnd (sym for-good) tt
+end-given (some t) =
     ⊎-elim
-    (λ g. rw (g .1, failsIn-gap (g .0)) (in-gap (g .0)))
-    (λ i. rw (i .2, failsIn-instant (i .0) (i .1)) (at-instant (i .0) (i .1)))
+    (λ g. subst (λ u. GivenEnd (endOf (some u))) (sym (g .1)) (subst GivenEnd (sym (until-before (g .0))) (omega arith)))
+    (λ i. subst (λ u. GivenEnd (endOf (some u))) (sym (i .2)) (subst GivenEnd (sym (until-instant (i .0) (i .1))) (i .1)))
     (either t)
 
-verdict-none : (first : Option ℕ) → faultOfVerdict (judgedBy first) ≡ 0
+end-every : (end : End) → GivenEnd end → endOf (lastIn end) ≡ end
+end-every (ends.At k) h = until-instant k h
+end-every (ends.Before k) h = until-before (k - 1) ∙ ap ends.Before (omega arith)
+end-every ends.Never h = for-good
+
+fails-cases : (P : Verdict → Type 0) (s : Span) → ((k : ℕ) → P (verdict.FailsAfter k (endOf (s .last))))
+    → ((k : ℕ) → 1 ≤ k → P (verdict.FailsAt k (endOf (s .last)))) → P (failsIn s)
+fails-cases P s in-gap at-instant =
+    ⊎-elim
+    (λ g. subst P (sym (gap-told s (g .0) (g .1))) (in-gap (g .0)))
+    (λ i. subst P (sym (instant-told s (i .0) (i .1) (i .2))) (at-instant (i .0) (i .1)))
+    (either (s .first))
+
+verdict-none : (span : Option Span) → faultOfVerdict (judgedBy span) ≡ 0
 verdict-none none = refl
-verdict-none (some t) = fails-cases (λ t v. faultOfVerdict v ≡ 0) (λ k. refl) (λ k l. refl) t
+verdict-none (some s) = fails-cases (λ v. faultOfVerdict v ≡ 0) s (λ k. refl) (λ k l. refl)
 
-verdict-value : (first : Option ℕ) → failsFirst (judgedBy first) ≡ first
+verdict-value : (span : Option Span) → spanIn (judgedBy span) ≡ span
 verdict-value none = refl
-verdict-value (some t) = fails-cases (λ t v. failsFirst v ≡ some t) (λ k. refl) (λ k l. refl) t
+verdict-value (some s) = span-read s
 
-judged-given : (first : Option ℕ) → GivenVerdict (judgedBy first)
+judged-given : (span : Option Span) → GivenVerdict (judgedBy span)
 judged-given none = tt
-judged-given (some t) = fails-cases (λ t v. GivenVerdict v) (λ k. tt) (λ k l. l) t
+judged-given (some s) = fails-cases GivenVerdict s (λ k. end-given (s .last)) (λ k l. (l, end-given (s .last)))
 
-verdict-every : (answer : Verdict) → GivenVerdict answer → verdictFor (faultOfVerdict answer) (failsFirst answer) ≡ answer
+verdict-every : (answer : Verdict) → GivenVerdict answer → verdictFor (faultOfVerdict answer) (spanIn answer) ≡ answer
 unfolding verdictFor
 verdict-every verdict.Holds h = refl
-verdict-every (verdict.FailsAt k) h = failsIn-instant k h
-verdict-every (verdict.FailsAfter k) h = failsIn-gap k
+verdict-every (verdict.FailsAt k end) h = failsIn-instant k (lastIn end) (h .0) ∙ ap (verdict.FailsAt k) (end-every end (h .1))
+verdict-every (verdict.FailsAfter k end) h = failsIn-gap k (lastIn end) ∙ ap (verdict.FailsAfter k) (end-every end h)
 verdict-every (verdict.Refused f) h = rw (is-fault f h)
 
 pub verdict-says : VerdictSays
 unfolding verdictFor
 verdict-says =
     record {
-      fault = λ f first. by-fault (λ g x. faultOfVerdict x ≡ g) f (judgedBy first) verdict.Refused (verdict-none first) (λ g l. refl);
+      fault = λ f span. by-fault (λ g x. faultOfVerdict x ≡ g) f (judgedBy span) verdict.Refused (verdict-none span) (λ g l. refl);
       value = verdict-value;
-      refused = λ f first l. rw (is-fault f l);
-      given = λ f first. by-fault (λ g x. GivenVerdict x) f (judgedBy first) verdict.Refused (judged-given first) (λ g l. l);
+      refused = λ f span l. rw (is-fault f l);
+      given = λ f span. by-fault (λ g x. GivenVerdict x) f (judgedBy span) verdict.Refused (judged-given span) (λ g l. l);
       every = verdict-every;
     }
 

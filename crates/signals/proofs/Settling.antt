@@ -18,7 +18,7 @@ use Rattle.signals.proofs.Pulses.{starts-say, TP-up}
 pub settled-later : (f : Signal) (n m : ℕ) → SettledFrom f n → n ≤ m → SettledFrom f m
 settled-later f n m h le t g = h t (omega arith) ∙ sym (h (gap m) (omega arith))
 
-NOT-settles : (f : Signal) (n : ℕ) → SettledFrom f n → SettledFrom (NOT f) n
+pub NOT-settles : (f : Signal) (n : ℕ) → SettledFrom f n → SettledFrom (NOT f) n
 unfolding NOT
 NOT-settles f n h t g = ap not (h t g)
 

@@ -1,7 +1,7 @@
--- Believed: Document 01's number and values for each case of the answers, by one definition for each enum: what every case is read as (its
--- fault number, 0 for none, and its values), and the one answer of a call with this fault number and these values. Contracts use the
--- latter.
-use Prim.Native.Nat.{ℕ, _+_}
+-- Believed: Document 01's number and values for each case of the answers, and the end of a failing run, which document 02's request 4 adds
+-- to a verdict, by one definition for each enum: what every case is read as (its fault number, 0 for none, and its values), and the one
+-- answer of a call with this fault number and these values. Contracts use the latter.
+use Prim.Native.Nat.{ℕ, _+_, _-_}
 use mathlib.Core.Bool.{Bool, true, false, cond}
 use mathlib.Core.List.{List, _++_}
 use mathlib.Core.Option.{Option, none, some}
@@ -13,6 +13,8 @@ use Rattle.signals.specs.declared.Sum.{Sum}
 use Rattle.signals.specs.declared.Sum.the-variants as sum
 use Rattle.signals.specs.declared.Written.{Written}
 use Rattle.signals.specs.declared.Written.the-variants as written
+use Rattle.signals.specs.declared.End.{End}
+use Rattle.signals.specs.declared.End.the-variants as ends
 use Rattle.signals.specs.declared.Verdict.{Verdict}
 use Rattle.signals.specs.declared.Verdict.the-variants as verdict
 use Rattle.signals.specs.declared.Told.{Told}
@@ -70,28 +72,45 @@ toldValue false = told.No
 unfoldable pub toldOf : ℕ → Bool → Told
 toldOf fault value = cond (eqb fault 0) (toldValue value) (told.Refused fault)
 
--- Verdict. The fault number; the moment that fails first, none where the claim holds and when refused.
+-- An unbroken run of failing moments: its first, and its last, none where it never ends.
+pub record Span : Type 0 where
+  pub first : ℕ
+  pub last : Option ℕ
+
+-- Verdict. The fault number; the first unbroken run of failing moments, none where the claim holds and when refused.
 abbrev pub faultOfVerdict : Verdict → ℕ
 faultOfVerdict verdict.Holds = 0
-faultOfVerdict (verdict.FailsAt k) = 0
-faultOfVerdict (verdict.FailsAfter k) = 0
+faultOfVerdict (verdict.FailsAt k end) = 0
+faultOfVerdict (verdict.FailsAfter k end) = 0
 faultOfVerdict (verdict.Refused f) = f
 
-abbrev pub failsFirst : Verdict → Option ℕ
-failsFirst verdict.Holds = none
-failsFirst (verdict.FailsAt k) = some (instant k)
-failsFirst (verdict.FailsAfter k) = some (gap k)
-failsFirst (verdict.Refused f) = none
+-- the last moment of a run that ends so: until k is the instant k, until before k the gap before it
+abbrev pub lastIn : End → Option ℕ
+lastIn (ends.At k) = some (instant k)
+lastIn (ends.Before k) = some (gap (k - 1))
+lastIn ends.Never = none
 
--- the verdict of a claim whose earliest failing moment is t
-unfoldable pub failsIn : ℕ → Verdict
-failsIn t = cond (isGap t) (verdict.FailsAfter (tick t)) (verdict.FailsAt (tick t))
+abbrev pub spanIn : Verdict → Option Span
+spanIn verdict.Holds = none
+spanIn (verdict.FailsAt k end) = some (record { first = instant k; last = lastIn end })
+spanIn (verdict.FailsAfter k end) = some (record { first = gap k; last = lastIn end })
+spanIn (verdict.Refused f) = none
 
--- the verdict where this moment fails first, or none does
-abbrev pub judgedBy : Option ℕ → Verdict
+-- the end of a run with this last moment, or none
+unfoldable pub endOf : Option ℕ → End
+endOf none = ends.Never
+endOf (some t) = cond (isGap t) (ends.Before (tick t + 1)) (ends.At (tick t))
+
+-- the verdict of a claim whose failing moments first run so
+unfoldable pub failsIn : Span → Verdict
+failsIn s =
+    cond (isGap (s .first)) (verdict.FailsAfter (tick (s .first)) (endOf (s .last))) (verdict.FailsAt (tick (s .first)) (endOf (s .last)))
+
+-- the verdict where the failing moments first run so, or none fails
+abbrev pub judgedBy : Option Span → Verdict
 judgedBy none = verdict.Holds
-judgedBy (some t) = failsIn t
+judgedBy (some s) = failsIn s
 
--- the answer of a claim with this fault (0 for none) where this moment fails first, or none does
-unfoldable pub verdictFor : ℕ → Option ℕ → Verdict
-verdictFor fault first = cond (eqb fault 0) (judgedBy first) (verdict.Refused fault)
+-- the answer of a claim with this fault (0 for none) where the failing moments first run so, or none fails
+unfoldable pub verdictFor : ℕ → Option Span → Verdict
+verdictFor fault span = cond (eqb fault 0) (judgedBy span) (verdict.Refused fault)

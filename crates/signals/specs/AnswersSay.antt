@@ -10,11 +10,13 @@ use lib.Dec.{ltb}
 use lib.ListN.{length}
 use Rattle.signals.specs.Moment.{M}
 use Rattle.signals.specs.Answers.{sumFor, faultIn, countIn, writtenOf}
-use Rattle.signals.specs.Answers.{faultOfTold, valueIn, toldOf, faultOfVerdict, failsFirst, verdictFor}
+use Rattle.signals.specs.Answers.{faultOfTold, valueIn, toldOf, faultOfVerdict, Span, spanIn, verdictFor}
 use Rattle.signals.specs.declared.Sum.{Sum}
 use Rattle.signals.specs.declared.Sum.the-variants as sum
 use Rattle.signals.specs.declared.Written.{Written}
 use Rattle.signals.specs.declared.Written.the-variants as written
+use Rattle.signals.specs.declared.End.{End}
+use Rattle.signals.specs.declared.End.the-variants as ends
 use Rattle.signals.specs.declared.Verdict.{Verdict}
 use Rattle.signals.specs.declared.Verdict.the-variants as verdict
 use Rattle.signals.specs.declared.Told.{Told}
@@ -36,7 +38,7 @@ pastM (sum.On date) = false
 pastM (sum.PastM total) = true
 pastM (sum.Refused f) = false
 
--- The answers that a call can give: a refusal has a number, a date is up to M and a sum past M above it, an instant is from 1 on.
+-- The answers that these definitions give: a refusal has a number, a date is up to M and a sum past M above it, an instant is from 1 on.
 abbrev pub GivenSum : Sum → Type 0
 GivenSum (sum.On date) = date .0 ≤ M
 GivenSum (sum.PastM total) = M < total
@@ -51,10 +53,15 @@ GivenTold told.Yes = Unit
 GivenTold told.No = Unit
 GivenTold (told.Refused f) = 1 ≤ f
 
+abbrev pub GivenEnd : End → Type 0
+GivenEnd (ends.At k) = 1 ≤ k
+GivenEnd (ends.Before k) = 1 ≤ k
+GivenEnd ends.Never = Unit
+
 abbrev pub GivenVerdict : Verdict → Type 0
 GivenVerdict verdict.Holds = Unit
-GivenVerdict (verdict.FailsAt k) = 1 ≤ k
-GivenVerdict (verdict.FailsAfter k) = Unit
+GivenVerdict (verdict.FailsAt k end) = (1 ≤ k) × GivenEnd end
+GivenVerdict (verdict.FailsAfter k end) = GivenEnd end
 GivenVerdict (verdict.Refused f) = 1 ≤ f
 
 pub record SumSays : Type 0 where
@@ -80,11 +87,11 @@ pub record ToldSays : Type 0 where
   pub every : (answer : Told) → GivenTold answer → toldOf (faultOfTold answer) (valueIn answer) ≡ answer
 
 pub record VerdictSays : Type 0 where
-  pub fault : (f : ℕ) (first : Option ℕ) → faultOfVerdict (verdictFor f first) ≡ f
-  pub value : (first : Option ℕ) → failsFirst (verdictFor 0 first) ≡ first
-  pub refused : (f : ℕ) (first : Option ℕ) → 1 ≤ f → failsFirst (verdictFor f first) ≡ none
-  pub given : (f : ℕ) (first : Option ℕ) → GivenVerdict (verdictFor f first)
-  pub every : (answer : Verdict) → GivenVerdict answer → verdictFor (faultOfVerdict answer) (failsFirst answer) ≡ answer
+  pub fault : (f : ℕ) (span : Option Span) → faultOfVerdict (verdictFor f span) ≡ f
+  pub value : (span : Option Span) → spanIn (verdictFor 0 span) ≡ span
+  pub refused : (f : ℕ) (span : Option Span) → 1 ≤ f → spanIn (verdictFor f span) ≡ none
+  pub given : (f : ℕ) (span : Option Span) → GivenVerdict (verdictFor f span)
+  pub every : (answer : Verdict) → GivenVerdict answer → verdictFor (faultOfVerdict answer) (spanIn answer) ≡ answer
 
 pub record AnswersSay : Type 0 where
   pub sum : SumSays

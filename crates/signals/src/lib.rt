@@ -25,11 +25,18 @@ pub enum Written {
     Refused(u32),
 }
 
-// What a claim answers: it holds, fails at an instant, fails after an instant (in the gap), or is refused.
+// How the first unbroken run of failing moments ends: its last is the instant k, or the gap before the instant k; or it never ends.
+pub enum End {
+    At(u32),
+    Before(u32),
+    Never,
+}
+
+// What a claim answers: it holds; fails first at the instant k, or in the gap k, which is after it, with the end of that run; is refused.
 pub enum Verdict {
     Holds,
-    FailsAt(u32),
-    FailsAfter(u32),
+    FailsAt(u32, End),
+    FailsAfter(u32, End),
     Refused(u32),
 }
 

@@ -12,7 +12,7 @@ use Rattle.signals.specs.Words.{valueAt, valueAfter, dateOf}
 use Rattle.signals.specs.Passing.{heldValue, isNext, atDate, afterDate, passedDate}
 use Rattle.reading.specs.Reading.{NEVER, nextDate, heldOn, stepPast}
 use Rattle.reading.specs.declared.Step.{Step}
-use Rattle.sources.specs.Sources.{nextWord, cursorAt, startOf, pastOn}
+use Rattle.sources.specs.Sources.{nextWord, cursorAt, startOf, On, pastOn}
 use Rattle.sources.specs.declared.Cursor.{Cursor}
 use Rattle.sources.specs.declared.Passed.{Passed}
 use Rattle.sources.proofs.SourceWords.{passOn, no-word-left, pass-word, pass-none}
@@ -28,12 +28,6 @@ passed-few l i d short few = go (ltb i (length l)) (eqb (dateOf (getD l i 0)) d)
     go true true e = let h = ltb-true i (length l) e in omega arith
     go true false e = few
     go false u e = few
-
--- A reader by value stands past so many words of a list.
-pub record On (l : List ℕ) (c : Cursor) (i : ℕ) : Type 0 where
-  pub is : c ≡ cursorAt l i (c .last)
-  pub held : valueAfter (c .last) ≡ heldValue l i
-  pub few : i < 4294967296
 
 pub on-start : (l : List ℕ) (c : Cursor) → c ≡ startOf l → On l c 1
 unfolding cursorAt

@@ -7,10 +7,10 @@ use Rattle.slices.specs.Bytes.{Words}
 use Rattle.signals.specs.Words.{valueAfter}
 use Rattle.signals.specs.Passing.{heldValue}
 use Rattle.reading.specs.Reading.{NEVER, nextDate, stepPast}
-use Rattle.sources.specs.Sources.{cursorAt, startOf, pastOn}
+use Rattle.sources.specs.Sources.{cursorAt, startOf, pastOn, On}
 use Rattle.sources.specs.declared.Cursor.{Cursor}
 use Rattle.sources.specs.declared.Passed.{Passed}
-use Rattle.sources.proofs.Going.{On, on-start, on-date, on-held, on-step, on-next}
+use Rattle.sources.proofs.Going.{on-start, on-date, on-held, on-step, on-next}
 
 on-passed : (l : List ℕ) (c : Cursor) (i : ℕ) → On l c i → c .passed ≡ i
 unfolding cursorAt

@@ -1,12 +1,14 @@
 -- Mirrored: The list that a source names in the memory that it stands in, the next of its words, passing a date by it, and slots of the
 -- work area.
-use Prim.Native.Nat.{ℕ, _+_, _-_, _/_, _%_, min}
+use Prim.Native.Nat.{ℕ, _+_, _-_, _/_, _%_, _<_, min}
+use mathlib.Core.Path.{_≡_}
 use mathlib.Core.Bool.{Bool, true, cond, _||_}
 use mathlib.Core.List.{List, _++_}
 use lib.Dec.{leb, ltb, eqb}
 use lib.ListN.{length, take, drop, getD}
 use Rattle.slices.specs.Bytes.{low32, wordsIn}
 use Rattle.signals.specs.Words.{valueAt, valueAfter}
+use Rattle.signals.specs.Passing.{heldValue}
 use Rattle.reading.specs.declared.Step.{Step}
 use Rattle.reading.specs.Reading.{heldOn}
 use Rattle.sources.specs.declared.Memory.{Memory}
@@ -47,6 +49,12 @@ cursorAt l passed last =
 
 abbrev pub startOf : List ℕ → Cursor
 startOf l = cursorAt l 1 (nextWord l 0)
+
+-- a reader by value stands past so many words of a list
+pub record On (l : List ℕ) (c : Cursor) (i : ℕ) : Type 0 where
+  pub is : c ≡ cursorAt l i (c .last)
+  pub held : valueAfter (c .last) ≡ heldValue l i
+  pub few : i < 4294967296
 
 -- past a date by the reader: a word of that date is passed
 unfoldable pub pastOn : List ℕ → Cursor → ℕ → Passed

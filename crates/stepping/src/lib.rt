@@ -12,7 +12,7 @@ use random_sheets::rows::store;
 use random_sheets::rows::up;
 
 // The tests of a place: a row is down or up at a moment, row 1 is up and row 2 down, a part of the tree has a length above M, a part
-// is a name that the sheet lacks.
+// is a name that the sheet lacks, row 1 is not up or row 2 not down.
 pub const DOWN: u64 = 0;
 
 pub const UP: u64 = 1;
@@ -22,6 +22,8 @@ pub const FAILS: u64 = 2;
 pub const LONG: u64 = 3;
 
 pub const STRANGE: u64 = 4;
+
+pub const FINE: u64 = 5;
 
 fn fails(cells: &Cells, moment: usize) -> bool {
     if up(cells, 1, moment) {
@@ -51,6 +53,9 @@ fn passes(cells: &Cells, test: u64, row: usize, i: usize) -> bool {
     }
     if test == FAILS {
         return fails(cells, i);
+    }
+    if test == FINE {
+        return !fails(cells, i);
     }
     let word = at(cells, TREE + i % 256);
     if test == LONG {

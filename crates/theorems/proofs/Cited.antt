@@ -27,8 +27,8 @@ calls-Printed-Printed = Rattle.calls.proofs.Printed.printed
 pub calls-TreesOnSheets-TreesOnSheets : Rattle.calls.specs.TreesOnSheets.TreesOnSheets
 calls-TreesOnSheets-TreesOnSheets = Rattle.calls.proofs.NamedFormula.trees-on-sheets
 
-pub calls-WrongEngines-SevenShutOut : Rattle.calls.specs.WrongEngines.SevenShutOut
-calls-WrongEngines-SevenShutOut = Rattle.calls.proofs.WrongEngines.seven-shut-out
+pub calls-WrongEngines-EightShutOut : Rattle.calls.specs.WrongEngines.EightShutOut
+calls-WrongEngines-EightShutOut = Rattle.calls.proofs.WrongEngines.eight-shut-out
 
 pub calls-WrongEngines-ZeroObeysEveryLaw : Rattle.calls.specs.WrongEngines.ZeroObeysEveryLaw
 calls-WrongEngines-ZeroObeysEveryLaw = Rattle.calls.proofs.ZeroObeys.zero-obeys
@@ -165,6 +165,9 @@ operations-CallFaults-NeverMet = Rattle.operations.proofs.NeverMet.never-met
 pub operations-OperationsGive-OperationsGive : Rattle.operations.specs.OperationsGive.OperationsGive
 operations-OperationsGive-OperationsGive = Rattle.operations.proofs.OperationsGive.operations-give
 
+pub packing-SpansPacked-SpansPacked : Rattle.packing.specs.SpansPacked.SpansPacked
+packing-SpansPacked-SpansPacked = Rattle.packing.proofs.SmallSpans.spans-packed
+
 pub pulsing-FewWords-PulsesFew : Rattle.pulsing.specs.FewWords.PulsesFew
 pulsing-FewWords-PulsesFew = Rattle.pulsing.proofs.FewWords.pulses-few
 
@@ -299,6 +302,9 @@ uptime_page-PageCases-PageCases = Rattle.uptime_page.proofs.PageCases.page-case
 
 pub uptime_page-PageSays-PageSays : Rattle.uptime_page.specs.PageSays.PageSays
 uptime_page-PageSays-PageSays = Rattle.uptime_page.proofs.PageSays.page-says
+
+pub verdict_line-LineCases-LineCases : Rattle.verdict_line.specs.LineCases.LineCases
+verdict_line-LineCases-LineCases = Rattle.verdict_line.proofs.LineCases.line-cases
 
 pub working-Layout-LayoutFits : Rattle.working.specs.Layout.LayoutFits
 working-Layout-LayoutFits = Rattle.working.proofs.WorkLayout.layout-fits

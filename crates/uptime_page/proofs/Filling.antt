@@ -10,21 +10,13 @@ use Rattle.slices.specs.Slices.{putAt}
 use Rattle.signals.specs.Words.{mostWords}
 use Rattle.texts.specs.Decimal.{decimal}
 use Rattle.verdict_line.specs.Written.{longest, over, Filled, Lined}
-use Rattle.verdict_line.proofs.Filling.{filled}
+use Rattle.verdict_line.specs.Putting.{Put}
+use Rattle.verdict_line.proofs.Putting.{put-length, text-put, both-put}
+use Rattle.verdict_line.proofs.Filling.{put-filled}
 use Rattle.uptime_page.specs.Page.{pairLine, totalText, totalLine}
 use Rattle.uptime_page.specs.Printing.{mostBytes}
-use Rattle.uptime_page.specs.Words.{wordLines, wordsPage, Put}
-use Rattle.uptime_page.proofs.Putting.{put-length, text-put, both-put, pair-length, total-put, total-length}
-
--- a text put at the front of zeros
-put-filled : (room : ℕ) (text bytes : List ℕ) (count : ℕ) → length text ≤ room → Put (replicate room 0) 0 text count bytes
-    → Filled room text bytes count
-unfolding over
-put-filled room text bytes count h p =
-    let r : length (replicate {A = ℕ} room 0) ≡ room = length-replicate room 0 in
-    filled room text bytes count (put-length (replicate room 0) 0 text count bytes (omega (arith, r)) p ∙ r) h
-    (p .0 ∙ zero-add (length text))
-    (p .1 ∙ ap (λ (k : ℕ). text ++ drop k (replicate room 0)) (zero-add (length text)))
+use Rattle.uptime_page.specs.Words.{wordLines, wordsPage}
+use Rattle.uptime_page.proofs.Putting.{pair-length, total-put, total-length}
 
 pub lines-size : (words : List ℕ) → length (wordLines words) ≤ 11 * length words
 unfolding wordLines

@@ -1,42 +1,17 @@
--- Texts, numbers and lines put into an output, one after the other.
+-- Numbers and lines put into an output, one after the other.
 use Prim.Native.Nat.{ℕ, _+_, _≤_}
 use native.Mathlib.Omega.{arith}
-use mathlib.Core.Path.{_≡_, refl, ap, _∙_}
+use mathlib.Core.Path.{_≡_}
 use mathlib.Core.List.{List, [], _∷_, _++_, append-assoc}
-use lib.ListN.{length, take, drop, length-append, length-drop}
-use lib.Seq.{length-take-le}
+use lib.ListN.{length, length-append}
 use Rattle.slices.specs.Slices.{putAt}
-use Rattle.slices.proofs.Placing.{then-put, put-fits}
 use Rattle.texts.specs.Decimal.{decimal, PutNumber}
 use Rattle.texts.proofs.Digits.{decimal-length}
 use Rattle.verdict_line.specs.Line.{line}
+use Rattle.verdict_line.specs.Putting.{Put}
 use Rattle.verdict_line.proofs.Lines.{length-line}
+use Rattle.verdict_line.proofs.Putting.{put-length, text-put, number-put, both-put}
 use Rattle.uptime_page.specs.Page.{pairLine, totalText, totalLine}
-use Rattle.uptime_page.specs.Words.{Put}
-
--- an output keeps its length
-pub put-length : (out : List ℕ) (at : ℕ) (text : List ℕ) (next : ℕ) (exit : List ℕ) → at + length text ≤ length out
-    → Put out at text next exit → length exit ≡ length out
-put-length out at text next exit h p =
-    ap length (p .1)
-    ∙ length-append (take at out ++ text) (drop (at + length text) out)
-    ∙ rw (length-append (take at out) text, length-take-le at out (omega arith), length-drop (at + length text) out) (omega arith)
-
-pub text-put : (out : List ℕ) (at : ℕ) (text exit : List ℕ) → at + length text ≤ length out → exit ≡ putAt out at text
-    → Put out at text (at + length text) exit
-text-put out at text exit h e = (refl, e ∙ put-fits out at text h)
-
-pub number-put : (out : List ℕ) (at n count : ℕ) (exit : List ℕ) → at + 10 ≤ length out → PutNumber out at n count exit
-    → Put out at (decimal n) (at + count) exit
-number-put out at n count exit h p = (ap (λ (k : ℕ). at + k) (p .0), p .1 ∙ put-fits out at (decimal n) (omega (arith, decimal-length n)))
-
--- one text after the other
-pub both-put : (out o₁ o₂ : List ℕ) (at k next : ℕ) (x y : List ℕ) → at + length x + length y ≤ length out
-    → Put out at x k o₁ → Put o₁ k y next o₂ → Put out at (x ++ y) next o₂
-both-put out o₁ o₂ at k next x y h p q = (
-  q .0 ∙ rw (length-append x y) (omega (arith, p .0)),
-  then-put out o₁ o₂ at k x y (p .1) (q .1) (p .0) (omega (arith, p .0)),
-)
 
 -- a number, then one byte
 pub number-byte : (out o₁ o₂ : List ℕ) (at n count b : ℕ) → at + 11 ≤ length out → PutNumber out at n count o₁

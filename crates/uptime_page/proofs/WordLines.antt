@@ -7,10 +7,12 @@ use lib.ListN.{length, getD, drop, length-append, length-drop}
 use Rattle.slices.proofs.Steps.{drop-step}
 use Rattle.slices.proofs.Placing.{placed-none}
 use Rattle.signals.specs.Words.{mostWords}
+use Rattle.verdict_line.specs.Putting.{Put}
+use Rattle.verdict_line.proofs.Putting.{put-length, both-put}
 use Rattle.uptime_page.specs.Page.{pairLine}
 use Rattle.uptime_page.specs.Printing.{mostBytes}
-use Rattle.uptime_page.specs.Words.{wordLines, Put}
-use Rattle.uptime_page.proofs.Putting.{put-length, both-put, pair-length}
+use Rattle.uptime_page.specs.Words.{wordLines}
+use Rattle.uptime_page.proofs.Putting.{pair-length}
 
 -- the lines of the first i words are put
 pub record LinesPut (out₀ words out : List ℕ) (at i : ℕ) : Type 0 where

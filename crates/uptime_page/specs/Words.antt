@@ -1,12 +1,9 @@
 -- Mirrored: The page as the code writes it, from the words of the stretches, two by two, and H as it reads it. Tied to what is believed by
 -- `PageOfInput`, the contract of `page_of`.
 use Prim.Native.Nat.{ℕ, _+_}
-use mathlib.Core.Path.{_≡_}
 use mathlib.Core.Bool.{cond}
 use mathlib.Core.List.{List, [], _∷_, _++_}
 use lib.Dec.{eqb}
-use lib.ListN.{length}
-use Rattle.slices.specs.Slices.{placed}
 use Rattle.signals.specs.Moment.{M}
 use Rattle.signals.specs.Answers.{firstOf}
 use Rattle.signals.specs.declared.Verdict.the-variants.{Refused}
@@ -36,7 +33,3 @@ faultOn sheet name H = firstOf (lookupFault sheet name) (horizonFault H)
 unfoldable pub pageOn : List ℕ → List ℕ → ℕ → List ℕ
 pageOn sheet name H =
     cond (eqb (faultOn sheet name H) 0) (pageText (stretchesOn sheet name H)) (lineOf (Refused (faultOn sheet name H)))
-
--- a text put into an output at a place: the place after it, the output at exit
-abbrev pub Put : List ℕ → ℕ → List ℕ → ℕ → List ℕ → Type 0
-Put out at text next exit = (next ≡ at + length text) × (exit ≡ placed out at text)

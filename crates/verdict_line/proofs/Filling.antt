@@ -1,61 +1,49 @@
--- A line written into an array of zeros, and the line of a claim's answer.
+-- A text written into an array of zeros, and the line of a claim's answer.
 use Prim.Native.Nat.{ℕ, _+_, _≤_, _<_}
 use native.Mathlib.Nat.{zero-add}
 use native.Mathlib.Omega.{arith}
-use mathlib.Core.Path.{_≡_, refl, sym, ap, _∙_}
+use mathlib.Core.Path.{_≡_, sym, ap, _∙_, subst}
 use mathlib.Core.List.{List, [], _∷_, _++_}
-use lib.ListN.{length, take, drop, replicate, length-append}
+use lib.ListN.{length, drop, replicate, length-append, length-replicate}
 use lib.Seq.{length-take-le}
 use Rattle.signals.specs.declared.Verdict.{Verdict}
-use Rattle.slices.specs.Slices.{placed, putAt}
-use Rattle.slices.proofs.Placing.{then-put, put-fits}
-use Rattle.verdict_line.specs.Line.{line, lineOf, holdsText}
-use Rattle.verdict_line.specs.Written.{longest, over, Filled, Lined}
-use Rattle.texts.specs.Decimal.{decimal, PutNumber}
-use Rattle.texts.proofs.Digits.{decimal-length}
-use Rattle.verdict_line.proofs.Lines.{length-line}
+use Rattle.slices.specs.Slices.{putAt}
+use Rattle.verdict_line.specs.Line.{lineOf}
+use Rattle.verdict_line.specs.Written.{longest, over, Filled, LineOfVerdict}
+use Rattle.verdict_line.specs.Putting.{Put, AnswerPut}
+use Rattle.verdict_line.proofs.Lines.{line-fits}
+use Rattle.verdict_line.proofs.Putting.{put-length, text-put, both-put}
 
--- a text, digits and the line feed, put one after the other
-line-put : (text digits out o₁ o₂ o₃ : List ℕ) → length text + length digits < length out
-    → o₁ ≡ placed out 0 text → o₂ ≡ placed o₁ (length text) digits → o₃ ≡ placed o₂ (length text + length digits) (10 ∷ [])
-    → o₃ ≡ over (line text digits) out
-unfolding line over
-line-put text digits out o₁ o₂ o₃ h e f g = all ∙ ap (λ (k : ℕ). line text digits ++ drop k out) (zero-add (length (line text digits)))
-  where
-    both : o₂ ≡ placed out 0 (text ++ digits)
-    both = then-put out o₁ o₂ 0 (length text) text digits e f (omega arith) (omega arith)
-
-    all : o₃ ≡ placed out 0 (line text digits)
-    all =
-        then-put out o₂ o₃ 0 (length text + length digits) (text ++ digits) (10 ∷ []) both g
-        (rw (length-append text digits) (omega arith)) (omega arith)
-
--- a text that was written to an array of zeros that has room for it
-pub filled : (room : ℕ) (text bytes : List ℕ) (count : ℕ) → length bytes ≡ room → length text ≤ room → count ≡ length text
-    → bytes ≡ over text (replicate room 0) → Filled room text bytes count
-filled room text bytes count k h e f =
+-- a text put at the front of zeros
+pub put-filled : (room : ℕ) (text bytes : List ℕ) (count : ℕ) → length text ≤ room → Put (replicate room 0) 0 text count bytes
+    → Filled room text bytes count
+unfolding over
+put-filled room text bytes count h p =
+    let r : length (replicate {A = ℕ} room 0) ≡ room = length-replicate room 0 in
+    let l = put-length (replicate room 0) 0 text count bytes (omega (arith, r)) p in
+    let e : count ≡ length text = p .0 ∙ zero-add (length text) in
     let b : count ≤ length bytes = omega arith in
-    (e, f, b, sym (length-take-le count bytes b))
+    (e, p .1 ∙ ap (λ (k : ℕ). text ++ drop k (replicate room 0)) (zero-add (length text)), b, sym (length-take-le count bytes b))
 
--- a text, a number and the line feed, put one after the other into an array that keeps its length
-pub number-put : (text o₁ o₂ o₃ : List ℕ) (n count : ℕ) → length text ≤ 12 → length o₁ ≡ longest → length o₂ ≡ longest → length o₃ ≡ longest
-    → o₁ ≡ putAt (replicate longest 0) 0 text → PutNumber o₁ (length text) n count o₂
-    → o₃ ≡ putAt o₂ (length text + count) (10 ∷ []) → Lined (line text (decimal n)) o₃ (length text + count + 1)
-number-put text o₁ o₂ o₃ n count t k l m e p g =
-    let d = decimal-length n in
-    let s = length-line text (decimal n) in
-    rw (p .0)
-    (filled longest (line text (decimal n)) o₃ (length text + length (decimal n) + 1) m (omega arith) (sym s)
-    (line-put text (decimal n) (replicate longest 0) o₁ o₂ o₃ (omega arith)
-    (e ∙ put-fits _ _ _ (omega arith))
-    (p .1 ∙ put-fits _ _ _ (omega arith))
-    ((rw (p .0) at g) ∙ put-fits o₂ (length text + length (decimal n)) (10 ∷ []) (omega arith))))
+-- an answer's line but for its line feed leaves room for it, and then the line feed is put
+pub answer-room : (v : Verdict) (out o₁ : List ℕ) (last : ℕ) → AnswerPut out v last o₁ → last < longest
+answer-room v out o₁ last (text, e, p) = omega (arith, line-fits v, ap length e, length-append text (10 ∷ []), p .0)
 
--- the line of a claim that holds
-pub holds-put : (bytes : List ℕ) → bytes ≡ putAt (replicate longest 0) 0 (holdsText ++ (10 ∷ [])) → Lined (line holdsText []) bytes 6
-unfolding line over holdsText
-holds-put bytes e = rw (e ∙ put-fits (replicate longest 0) 0 (holdsText ++ (10 ∷ [])) (omega arith)) (refl, refl, omega arith, refl)
+pub answer-filled : (v : Verdict) (o₁ o₂ : List ℕ) (last : ℕ) → AnswerPut (replicate longest 0) v last o₁
+    → o₂ ≡ putAt o₁ last (10 ∷ []) → LineOfVerdict v o₂ (last + 1)
+answer-filled v o₁ o₂ last (text, e, p) f =
+    put-filled longest (lineOf v) o₂ (last + 1) (line-fits v) (subst (λ (l : List ℕ). Put zeros 0 l (last + 1) o₂) (sym e) whole)
+  where
+    zeros : List ℕ
+    zeros = replicate longest 0
 
--- the line of an answer that is the same
-pub told-as : (v w : Verdict) (l bytes : List ℕ) (count : ℕ) → v ≡ w → l ≡ lineOf w → Lined l bytes count → Lined (lineOf v) bytes count
-told-as v w l bytes count e f h = rw (f ∙ sym (ap lineOf e)) at h
+    room : length text + 1 ≤ longest
+    room = omega (arith, line-fits v, ap length e, length-append text (10 ∷ []))
+
+    kept : length o₁ ≡ longest
+    kept = put-length zeros 0 text last o₁ (omega (arith, room)) p
+
+    whole : Put zeros 0 (text ++ (10 ∷ [])) (last + 1) o₂
+    whole =
+        both-put zeros o₁ o₂ 0 last (last + 1) text (10 ∷ []) (omega (arith, room)) p
+        (text-put o₁ last (10 ∷ []) o₂ (omega (arith, room, kept, p .0)) f)

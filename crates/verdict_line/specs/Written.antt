@@ -7,9 +7,9 @@ use lib.ListN.{length, take, drop, replicate}
 use Rattle.signals.specs.declared.Verdict.{Verdict}
 use Rattle.verdict_line.specs.Line.{lineOf}
 
--- the bytes of the longest line, fails after M, with its line feed
+-- the bytes of the longest line, "fails after 1073741822 until before 1073741823", with its line feed
 abbrev pub longest : ℕ
-longest = 23
+longest = 47
 
 -- an output that a text was written to: its bytes, those past them being the old ones
 unfoldable pub over : List ℕ → List ℕ → List ℕ

@@ -3,6 +3,7 @@ use borrow.Author.Needs.{needs}
 use native.Mathlib.Omega.{arith}
 use Prim.Native.Nat.{ℕ, _+_, _*_, _%_}
 use mathlib.Core.Path.{_≡_, refl, sym, ap, _∙_}
+use Rattle.signals.specs.declared.End.{End}
 use Rattle.signals.specs.declared.Verdict.the-variants.{Holds, FailsAt, FailsAfter, Refused}
 use Rattle.packing.specs.Packing.{packMoment, verdictBits}
 use Rattle.packing.proofs.pack_verdict.Statement.{statement}
@@ -45,13 +46,13 @@ holds : 0 ≡ verdictBits Holds
 unfolding verdictBits packMoment
 holds = refl
 
-at-instant : (k : ℕ) → 2 * k ≡ verdictBits (FailsAt k)
+at-instant : (k : ℕ) (end : End) → 2 * k ≡ verdictBits (FailsAt k end)
 unfolding verdictBits packMoment
-at-instant k = omega arith
+at-instant k end = omega arith
 
-in-gap : (k : ℕ) → 2 * k + 1 ≡ verdictBits (FailsAfter k)
+in-gap : (k : ℕ) (end : End) → 2 * k + 1 ≡ verdictBits (FailsAfter k end)
 unfolding verdictBits packMoment
-in-gap k = omega arith
+in-gap k end = omega arith
 
 refused : (f : ℕ) → 1099511627776 * (f % 16777216) ≡ verdictBits (Refused f)
 unfolding verdictBits packMoment
@@ -61,10 +62,10 @@ returns : tie.Need-returns
 returns c = holds ∙ sym (ap verdictBits (c .enum-told .given .1))
 
 returns-2 : tie.Need-returns-2
-returns-2 c = at-instant (c .before .answer .given .0 .0) ∙ sym (ap verdictBits (c .before .answer .given .1))
+returns-2 c = at-instant _ _ ∙ sym (ap verdictBits (c .before .answer .given .1))
 
 returns-3 : tie.Need-returns-3
-returns-3 c = in-gap (c .before .answer2 .given .0 .0) ∙ sym (ap verdictBits (c .before .answer2 .given .1))
+returns-3 c = in-gap _ _ ∙ sym (ap verdictBits (c .before .answer2 .given .1))
 
 returns-4 : tie.Need-returns-4
 returns-4 c = refused (c .before .answer3 .given .0 .0) ∙ sym (ap verdictBits (c .before .answer3 .given .1))

@@ -7,9 +7,10 @@ use mathlib.Core.List.{[], _∷_, _++_}
 use denote.Ref.{now}
 use Rattle.texts.specs.Decimal.{decimal}
 use Rattle.texts.proofs.Digits.{decimal-length}
+use Rattle.verdict_line.specs.Putting.{Put}
+use Rattle.verdict_line.proofs.Putting.{put-length}
 use Rattle.uptime_page.specs.Printing.{mostBytes}
-use Rattle.uptime_page.specs.Words.{Put}
-use Rattle.uptime_page.proofs.Putting.{put-length, byte-length, number-byte, pair-put}
+use Rattle.uptime_page.proofs.Putting.{byte-length, number-byte, pair-put}
 use Rattle.uptime_page.proofs.put_line.Statement.{statement}
 use Rattle.uptime_page.proofs.put_line.Tie as tie
 

@@ -1,82 +1,44 @@
 -- `verdict_line::line_for` meets its contract.
 use borrow.Author.Needs.{needs}
-use mathlib.Core.Path.{refl}
-use Rattle.verdict_line.specs.Line.{lineOf, failsAtText, failsAfterText, refusedText}
-use Rattle.verdict_line.proofs.Filling.{told-as}
+use native.Mathlib.Omega.{arith}
+use Rattle.verdict_line.proofs.Filling.{answer-room, answer-filled}
 use Rattle.verdict_line.proofs.line_for.Statement.{statement}
 use Rattle.verdict_line.proofs.line_for.Tie as tie
 
-enum-told : tie.Need-enum-told
-enum-told c = search needs
+slice-aggregate-put-answer : tie.Need-slice-aggregate-put-answer
+slice-aggregate-put-answer c = search needs
 
-holds-line-requires : tie.Need-holds-line-requires
-holds-line-requires c κs = search needs
+put-answer-requires : tie.Need-put-answer-requires
+put-answer-requires c κs = search needs
 
-enum-known-verdict : tie.Need-enum-known-verdict
-enum-known-verdict c = search needs
+slice-aggregate-put : tie.Need-slice-aggregate-put
+slice-aggregate-put c = search needs
 
-slice-aggregate-number-line : tie.Need-slice-aggregate-number-line
-slice-aggregate-number-line c = search needs
+slice-aggregate-put-2 : tie.Need-slice-aggregate-put-2
+slice-aggregate-put-2 c = search needs
 
-number-line-requires : tie.Need-number-line-requires
-number-line-requires c κs = search needs
+put-requires : tie.Need-put-requires
+put-requires c κs = search needs
 
-enum-known-verdict-2 : tie.Need-enum-known-verdict-2
-enum-known-verdict-2 c = search needs
-
-slice-aggregate-number-line-2 : tie.Need-slice-aggregate-number-line-2
-slice-aggregate-number-line-2 c = search needs
-
-number-line-requires-2 : tie.Need-number-line-requires-2
-number-line-requires-2 c κs = search needs
-
-enum-known-verdict-3 : tie.Need-enum-known-verdict-3
-enum-known-verdict-3 c = search needs
-
-slice-aggregate-number-line-3 : tie.Need-slice-aggregate-number-line-3
-slice-aggregate-number-line-3 c = search needs
-
-number-line-requires-3 : tie.Need-number-line-requires-3
-number-line-requires-3 c κs = search needs
+add-t13 : tie.Need-add-t13
+add-t13 c =
+    let put = c .before .before .before .before .before in
+    omega (arith, answer-room (put .before .before .args .verdict) _ _ _ (put .put-answer .ensures))
 
 returns : tie.Need-returns
-unfolding lineOf
-returns c = told-as (c .before .before .before .args .verdict) _ _ _ _ (c .before .enum-told .given .1) refl (c .holds-line .ensures)
-
-returns-2 : tie.Need-returns-2
-unfolding lineOf failsAtText
-returns-2 c =
-    let start = c .before .before .before in
-    told-as (start .before .before .args .verdict) _ _ _ _ (start .verdict .given .1) refl (c .number-line .ensures)
-
-returns-3 : tie.Need-returns-3
-unfolding lineOf failsAfterText
-returns-3 c =
-    let start = c .before .before .before in
-    told-as (start .before .before .args .verdict) _ _ _ _ (start .verdict2 .given .1) refl (c .number-line2 .ensures)
-
-returns-4 : tie.Need-returns-4
-unfolding lineOf refusedText
-returns-4 c =
-    let start = c .before .before .before in
-    told-as (start .before .before .args .verdict) _ _ _ _ (start .verdict3 .given .1) refl (c .number-line3 .ensures)
+returns c =
+    let put = c .before .before .before .before .before in
+    answer-filled (put .before .before .args .verdict) (put .put-answer .last .0) (c .before .put .last .0) (put .put-answer .result)
+    (put .put-answer .ensures) (c .before .put .ensures)
 
 pub line-for-spec : {M : Type 1} → statement M
 line-for-spec =
     tie.close
     (tie.spec
-    enum-told
-    holds-line-requires
-    enum-known-verdict
-    slice-aggregate-number-line
-    number-line-requires
-    enum-known-verdict-2
-    slice-aggregate-number-line-2
-    number-line-requires-2
-    enum-known-verdict-3
-    slice-aggregate-number-line-3
-    number-line-requires-3
-    returns
-    returns-2
-    returns-3
-    returns-4)
+    slice-aggregate-put-answer
+    put-answer-requires
+    slice-aggregate-put
+    slice-aggregate-put-2
+    put-requires
+    add-t13
+    returns)

@@ -1,31 +1,25 @@
--- `comparing::scan` meets its contract: a verdict from where the loop stands is one from the start, and each turn passes a word.
+-- `comparing::seek` meets its contract: what is met from where the loop stands is met from where it began, and each turn passes a word.
 use borrow.Author.Needs.{needs}
 use Prim.Native.Nat.{_+_, _-_}
 use native.Mathlib.Omega.{arith}
-use mathlib.Core.Path.{sym, _∙_}
 use lib.ListN.{length}
 use Rattle.slices.specs.Bytes.{Words}
 use Rattle.sources.specs.Sources.{listAt}
 use Rattle.sources.specs.declared.Source.{Source}
 use Rattle.sources.proofs.Sourcing.{list-short, words-at}
 use Rattle.signals.specs.Words.{valueAfter}
-use Rattle.comparing.proofs.Scanning.{Scanning, scan-start, gap-found, none-found, instant-found, scan-on, falls}
-use Rattle.comparing.proofs.scan.Statement.{statement}
-use Rattle.comparing.proofs.scan.Tie as tie
+use Rattle.comparing.proofs.Scanning.{Scanning, scan-start, gap-met, none-met, instant-met, scan-on, falls}
+use Rattle.comparing.proofs.seek.Statement.{statement}
+use Rattle.comparing.proofs.seek.Tie as tie
 
 abbrev Inv-loop : tie.InvT-loop
-Inv-loop both sheet left right work f g last₀ a₀ b₀ last a b =
-    Scanning both (listAt sheet left right work f) (listAt sheet left right work g) last a b
+Inv-loop both failing sheet left right work f g last₀ a₀ b₀ last a b =
+    Scanning both failing (listAt sheet left right work f) (listAt sheet left right work g)
+    (record { after = last₀; left = a₀; right = b₀ }) last a b
 
 abbrev μ-loop : tie.MeasureT-loop
-μ-loop both sheet left right work f g last₀ a₀ b₀ last a b =
+μ-loop both failing sheet left right work f g last₀ a₀ b₀ last a b =
     (length (listAt sheet left right work f) - a .passed) + (length (listAt sheet left right work g) - b .passed)
-
-start-requires : tie.Need-start-requires Inv-loop μ-loop
-start-requires c κs = search needs
-
-start-requires-2 : tie.Need-start-requires-2 Inv-loop μ-loop
-start-requires-2 c κs = search needs
 
 loop-holds : tie.Need-loop-holds Inv-loop μ-loop
 loop-holds c =
@@ -37,17 +31,17 @@ loop-holds c =
     (λ i. known .before .before .before .shared-slice-known .given i .fits)
     (λ i. known .before .before .shared-slice-known2 .given i .fits) (λ i. known .before .shared-slice-known3 .given i .fits)
     (λ i. known .shared-slice-known4 .given i .fits) in
-    scan-start (x .both) _ _ _ _
-    (omega (arith, start .good .1 .1 .1 .1 .1 .0, list-short (x .sheet .now) (x .left .now) (x .right .now) (x .work .now) (x .f)))
-    (omega (arith, start .good .1 .1 .1 .1 .1 .1 .0, list-short (x .sheet .now) (x .left .now) (x .right .now) (x .work .now) (x .g)))
-    (words (x .f)) (words (x .g)) (c .before .start .ensures) (c .start2 .ensures)
+    scan-start (x .both) (x .failing) _ _ _
+    (omega (arith, start .good .1 .1 .1 .1 .1 .1 .0, list-short (x .sheet .now) (x .left .now) (x .right .now) (x .work .now) (x .f)))
+    (omega (arith, start .good .1 .1 .1 .1 .1 .1 .1 .0, list-short (x .sheet .now) (x .left .now) (x .right .now) (x .work .now) (x .g)))
+    (words (x .f)) (words (x .g)) (start .pre)
 
-fails-by-requires : tie.Need-fails-by-requires Inv-loop μ-loop
-fails-by-requires c κs = search needs
+sought-requires : tie.Need-sought-requires Inv-loop μ-loop
+sought-requires c κs = search needs
 
 returns : tie.Need-returns Inv-loop μ-loop
 unfolding valueAfter
-returns c = gap-found (c .before .before .before .before .loop .inv) (sym (c .before .fails-by .ensures)) (c .if1 .taken)
+returns c = gap-met (c .before .before .before .before .loop .inv) (c .before .sought .ensures) (c .if1 .taken)
 
 earlier-requires : tie.Need-earlier-requires Inv-loop μ-loop
 earlier-requires c κs = search needs
@@ -56,7 +50,7 @@ returns-2 : tie.Need-returns-2 Inv-loop μ-loop
 unfolding valueAfter
 returns-2 c =
     let d = c .before in
-    none-found (d .before .before .before .before .before .loop .inv) (sym (d .before .before .fails-by .ensures))
+    none-met (d .before .before .before .before .before .loop .inv) (d .before .before .sought .ensures)
     (d .before .if1 .left) _ (d .earlier .ensures) (c .if2 .taken)
 
 past-requires : tie.Need-past-requires Inv-loop μ-loop
@@ -65,25 +59,25 @@ past-requires c κs = search needs
 past-requires-2 : tie.Need-past-requires-2 Inv-loop μ-loop
 past-requires-2 c κs = search needs
 
-fails-by-requires-2 : tie.Need-fails-by-requires-2 Inv-loop μ-loop
-fails-by-requires-2 c κs = search needs
+sought-requires-2 : tie.Need-sought-requires-2 Inv-loop μ-loop
+sought-requires-2 c κs = search needs
 
 returns-3 : tie.Need-returns-3 Inv-loop μ-loop
 unfolding valueAfter
 returns-3 c =
-    let t = c .before .before in
+    let t = c .before .before .before .before in
     let d = t .before .before .before in
-    instant-found (d .before .before .before .before .before .loop .inv) (sym (d .before .before .fails-by .ensures))
+    instant-met (d .before .before .before .before .before .loop .inv) (d .before .before .sought .ensures)
     (d .before .if1 .left) _ (d .earlier .ensures)
     _ _ (t .before .before .if2 .left) (t .before .past .ensures) (t .past2 .ensures)
-    (sym (c .before .fails-by2 .ensures) ∙ c .if3 .taken)
+    _ (c .before .sought2 .ensures) (c .if3 .taken)
 
 loop-less : tie.Need-loop-less Inv-loop μ-loop
 unfolding valueAfter
 loop-less c =
     let t = c .before .before .before .before in
     let d = t .before .before .before in
-    falls (d .before .before .before .before .before .loop .inv) (sym (d .before .before .fails-by .ensures))
+    falls (d .before .before .before .before .before .loop .inv) (d .before .before .sought .ensures)
     (d .before .if1 .left) _ (d .earlier .ensures)
     _ _ (t .before .before .if2 .left) (t .before .past .ensures) (t .past2 .ensures)
 
@@ -92,27 +86,25 @@ unfolding valueAfter
 loop-again c =
     let t = c .before .before .before .before in
     let d = t .before .before .before in
-    scan-on (d .before .before .before .before .before .loop .inv) (sym (d .before .before .fails-by .ensures))
+    scan-on (d .before .before .before .before .before .loop .inv) (d .before .before .sought .ensures)
     (d .before .if1 .left) _ (d .earlier .ensures)
     _ _ (t .before .before .if2 .left) (t .before .past .ensures) (t .past2 .ensures)
-    (sym (c .before .before .before .fails-by2 .ensures) ∙ c .before .before .if3 .left)
+    _ (c .before .sought2 .ensures) (c .if3 .left)
 
-pub scan-spec : {M : Type 1} → statement M
-scan-spec =
+pub seek-spec : {M : Type 1} → statement M
+seek-spec =
     tie.close
     (tie.spec
     Inv-loop
     μ-loop
-    start-requires
-    start-requires-2
     loop-holds
-    fails-by-requires
+    sought-requires
     returns
     earlier-requires
     returns-2
     past-requires
     past-requires-2
-    fails-by-requires-2
+    sought-requires-2
     returns-3
     loop-less
     loop-again)
