@@ -60,6 +60,17 @@ static void *span_to(void *none) {
     return none;
 }
 
+static void *formula_fault(void *none) {
+    answer = SGL_STOP_FAULT(sgl_formula_fault((const uint8_t *)text, bytes));
+    return none;
+}
+
+static void *formula_parts(void *none) {
+    static uint64_t parts[SGL_FORMULA_PARTS];
+    answer = SGL_FAULT(sgl_formula_parts((const uint8_t *)text, bytes, parts));
+    return none;
+}
+
 static void *uptime(void *none) {
     answer = SGL_UPTIME_FAULT(sgl_uptime(full[0], SGL_SHEET_BYTES, (const uint8_t *)text, bytes, SGL_M, out, SGL_LIST_WORDS));
     return none;
@@ -100,6 +111,8 @@ static void calls(uint64_t fault) {
     call(claim_to, fault);
     call(span_from, fault);
     call(span_to, fault);
+    call(formula_fault, fault);
+    call(formula_parts, fault);
 }
 
 static void add(const char *part) {

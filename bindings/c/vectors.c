@@ -1,4 +1,5 @@
-/* Document 01's cases, document 02's pulse timer, up-times and spans through the header: every exported function, from C. */
+/* Document 01's cases, document 02's pulse timer, up-times and spans through the header: every exported function and every macro,
+ * each macro on refusals too. C99, C11 and C++. */
 #include <stdio.h>
 #include <string.h>
 #include "rascrunel.h"
@@ -178,6 +179,128 @@ static void sheets(void) {
     PLACE(18ull << 48, 18, 0, 0);
 }
 
+/* Words taken from a sheet, where they are not aligned; none past them, and none of a refusal. */
+static void looked_up(void) {
+    static const uint32_t high[] = {1, 0x04030201u, 4294967292u};
+    uint32_t n = sgl_append(N(printed), TEXT("b2"), N(high), bytes, sizeof bytes);
+    uint64_t a = sgl_lookup(bytes, n, TEXT("a")), b = sgl_lookup(bytes, n, TEXT("b2")), no = sgl_lookup(bytes, n, TEXT("c"));
+    IS(n, sizeof printed + 22);
+    IS(SGL_PLACE_START(b), 39);
+    IS(SGL_PLACE_WORDS(a), 3);
+    IS(SGL_PLACE_WORDS(b), 3);
+    IS(SGL_PLACE_WORDS(no), 0);
+    for (uint32_t i = 0; i < 3; i++) {
+        IS(sgl_place_word(bytes, a, i), f[i]);
+        IS(sgl_place_word(bytes, b, i), high[i]);
+        IS(sgl_place_word(bytes, no, i), 0);
+    }
+    IS(sgl_place_word(bytes, a, 3), 0);
+    IS(sgl_place_word(bytes, b, 4294967295u), 0);
+}
+
+/* Every fault by its name, as the library gives it. */
+static void faults(void) {
+    static const struct { enum sgl_fault fault; uint32_t number; } named[] = {
+        {SGL_OK, 0}, {SGL_LIST_LENGTH, 1}, {SGL_FIRST_WORD, 2}, {SGL_DATE_ORDER, 3}, {SGL_NO_CHANGE, 4}, {SGL_TOO_LONG, 5},
+        {SGL_CHANGES_AFTER_M, 6}, {SGL_SHORT_OUTPUT, 7}, {SGL_LENGTH_ABOVE_M, 8}, {SGL_DATE, 9}, {SGL_FORMULA_LENGTH, 10},
+        {SGL_GRAMMAR, 11}, {SGL_TOO_COMPLEX, 12}, {SGL_UNKNOWN_NAME, 13}, {SGL_MARK, 14}, {SGL_SHEET_SIZE, 15}, {SGL_NAME, 16},
+        {SGL_SHEET_LIST, 17}, {SGL_SHORT_WORK, 18}, {SGL_HORIZON_ABOVE_M, 19}};
+    uint8_t cut[sizeof printed];
+    for (size_t i = 0; i < sizeof named / sizeof *named; i++) {
+        IS((uint32_t)named[i].fault, named[i].number);
+        IS(SGL_FAULT(REFUSED(named[i].number)), named[i].number);
+        IS(SGL_COUNT(REFUSED(named[i].number)), 0);
+        IS(SGL_YES(REFUSED(named[i].number)), 0);
+    }
+    memcpy(cut, printed, sizeof printed);
+    cut[17] = 2;
+    IS(SGL_FAULT(sgl_list_fault(N(f))), SGL_OK);
+    IS(SGL_FAULT(sgl_list_fault(f, 0)), SGL_LIST_LENGTH);
+    IS(SGL_FAULT(sgl_list_fault(N(bad2))), SGL_FIRST_WORD);
+    IS(SGL_FAULT(sgl_list_fault(N(bad3))), SGL_DATE_ORDER);
+    IS(SGL_FAULT(sgl_list_fault(N(bad4))), SGL_NO_CHANGE);
+    IS(SGL_FAULT(sgl_ton(1, N(up), OUT)), SGL_CHANGES_AFTER_M);
+    IS(SGL_FAULT(sgl_not(N(f), out, 0)), SGL_SHORT_OUTPUT);
+    IS(SGL_FAULT(sgl_ton(SGL_M + 1, N(f), OUT)), SGL_LENGTH_ABOVE_M);
+    IS(SGL_FAULT(sgl_value_at(N(f), 0)), SGL_DATE);
+    IS(SGL_FAULT(sgl_evaluate(N(printed), TEXT(""), N(work), OUT)), SGL_FORMULA_LENGTH);
+    IS(SGL_FAULT(sgl_evaluate(N(printed), TEXT("a+"), N(work), OUT)), SGL_GRAMMAR);
+    IS(SGL_FAULT(sgl_evaluate(N(printed), TEXT("!!!!!!!!!!!!!!!!!a"), N(work), OUT)), SGL_TOO_COMPLEX);
+    IS(SGL_FAULT(sgl_evaluate(N(printed), TEXT("b"), N(work), OUT)), SGL_UNKNOWN_NAME);
+    IS(SGL_FAULT(sgl_sheet_fault(printed, 2)), SGL_MARK);
+    IS(SGL_FAULT(sgl_sheet_fault(printed, 20)), SGL_SHEET_SIZE);
+    IS(SGL_FAULT(sgl_append(N(printed), TEXT("a"), N(f), bytes, sizeof bytes)), SGL_NAME);
+    IS(SGL_FAULT(sgl_sheet_fault(N(cut))), SGL_SHEET_LIST);
+    IS(SGL_FAULT(sgl_evaluate(N(printed), TEXT("a"), work, 0, OUT)), SGL_SHORT_WORK);
+    IS(SGL_UPTIME_FAULT(sgl_uptime(N(printed), TEXT("a"), SGL_M + 1, OUT)), SGL_HORIZON_ABOVE_M);
+    IS(SGL_FAULT(65535u), 0);
+    IS(SGL_YES(sgl_equal(N(f), N(f))), 1);
+    IS(SGL_YES(sgl_equal(N(f), N(e))), 0);
+    IS(SGL_YES(sgl_equal(N(f), N(bad2))), 0);
+}
+
+static void stop(int line, uint64_t got, uint32_t fault, uint32_t at) {
+    same(line, got, (uint64_t)fault << 48 | at);
+    same(line, SGL_STOP_FAULT(got), fault);
+    same(line, SGL_STOP_PLACE(got), at);
+}
+
+#define STOP(fault, at, ...) stop(__LINE__, sgl_formula_fault(__VA_ARGS__), (fault), (at))
+
+static void stops(void) {
+    uint8_t deep[SGL_FORMULA_BYTES + 1];
+    memset(deep, '(', sizeof deep);
+    STOP(SGL_OK, 8, TEXT("TON(5,a)"));
+    STOP(SGL_GRAMMAR, 2, TEXT("a+"));
+    STOP(SGL_GRAMMAR, 2, TEXT("TOM(5,a)"));
+    STOP(SGL_GRAMMAR, 8, TEXT("abcdefghij"));
+    STOP(SGL_GRAMMAR, 1, TEXT("a b"));
+    STOP(SGL_GRAMMAR, 5, TEXT("TON(05,a)"));
+    STOP(SGL_LENGTH_ABOVE_M, 17, TEXT("TON(1073741824,a)"));
+    STOP(SGL_TOO_COMPLEX, 18, TEXT("!!!!!!!!!!!!!!!!!a"));
+    STOP(SGL_FORMULA_LENGTH, 0, TEXT(""));
+    STOP(SGL_GRAMMAR, SGL_FORMULA_BYTES, deep, SGL_FORMULA_BYTES);
+    STOP(SGL_FORMULA_LENGTH, 0, N(deep));
+}
+
+static void part(int line, uint64_t got, enum sgl_part kind, uint32_t start, uint32_t count, uint32_t length) {
+    same(line, SGL_PART_KIND(got), kind);
+    same(line, SGL_PART_NAME_START(got), start);
+    same(line, SGL_PART_NAME_COUNT(got), count);
+    same(line, SGL_PART_LENGTH(got), length);
+}
+
+#define PART(i, kind, start, count, length) part(__LINE__, parts[i], (kind), (start), (count), (length))
+
+static void formula_parts(void) {
+    uint64_t parts[SGL_FORMULA_PARTS];
+    IS(sgl_formula_parts(TEXT("SR(0,1)+!needle.^~a2"), parts), 10);
+    PART(0, SGL_PART_ZERO, 0, 0, 0);
+    PART(1, SGL_PART_ONE, 0, 0, 0);
+    PART(2, SGL_PART_SR, 0, 0, 0);
+    PART(3, SGL_PART_NAME, 9, 6, 0);
+    PART(4, SGL_PART_NOT, 0, 0, 0);
+    PART(5, SGL_PART_NAME, 18, 2, 0);
+    PART(6, SGL_PART_FALLING, 0, 0, 0);
+    PART(7, SGL_PART_RISING, 0, 0, 0);
+    PART(8, SGL_PART_AND, 0, 0, 0);
+    PART(9, SGL_PART_OR, 0, 0, 0);
+    IS(sgl_formula_parts(TEXT("TON(1073741823,RS(abcdefgh,TOF(0,TP(12,a))))"), parts), 6);
+    PART(0, SGL_PART_NAME, 18, 8, 0);
+    PART(1, SGL_PART_NAME, 39, 1, 0);
+    PART(2, SGL_PART_TP, 0, 0, 12);
+    PART(3, SGL_PART_TOF, 0, 0, 0);
+    PART(4, SGL_PART_RS, 0, 0, 0);
+    PART(5, SGL_PART_TON, 0, 0, SGL_M);
+    parts[3] = 7;
+    IS(sgl_formula_parts(TEXT("a+a"), parts), 3);
+    IS(parts[3], 7);
+    IS(sgl_formula_parts(TEXT("a+"), parts), REFUSED(11));
+    IS(sgl_formula_parts(TEXT(""), parts), REFUSED(10));
+    IS(sgl_formula_parts(TEXT("TON(1073741824,a)"), parts), REFUSED(8));
+    IS(sgl_formula_parts(TEXT("!!!!!!!!!!!!!!!!!a"), parts), REFUSED(12));
+}
+
 static void formulas(void) {
     WORDS(sgl_evaluate(N(printed), TEXT("TON(2,a)"), N(work), OUT), 0, 31, 36);
     WORDS(sgl_evaluate(N(printed), TEXT("TP(2,a)"), N(work), OUT), 0, 23, 28);
@@ -198,6 +321,17 @@ static void span(int line, uint64_t got, uint64_t verdict, uint32_t fault, uint3
     same(line, got, (uint64_t)(fault ? fault : end) << 32 | first);
     same(line, verdict, fault ? (uint64_t)fault << 40 : first);
     same(line, SGL_VERDICT_FAULT(verdict), fault);
+    same(line, SGL_VERDICT_HOLDS(verdict), !fault && !first);
+    same(line, SGL_VERDICT_FAILS(verdict), first != 0);
+    same(line, SGL_VERDICT_MOMENT(verdict), first);
+    same(line, SGL_VERDICT_AT(verdict), first && first % 2 == 0);
+    same(line, SGL_VERDICT_AFTER(verdict), first % 2);
+    same(line, SGL_VERDICT_K(verdict), first / 2);
+    same(line, SGL_SPAN_HOLDS(got), !fault && !first);
+    same(line, SGL_SPAN_FAILS(got), first != 0);
+    same(line, SGL_MOMENT_AT(SGL_SPAN_LAST(got)), end && end % 2 == 0);
+    same(line, SGL_MOMENT_AFTER(SGL_SPAN_LAST(got)), end % 2);
+    same(line, SGL_MOMENT_K(SGL_SPAN_LAST(got)), end / 2);
     same(line, SGL_SPAN_FAULT(got), fault);
     same(line, SGL_SPAN_FIRST(got), first);
     same(line, SGL_SPAN_LAST(got), end);
@@ -314,7 +448,11 @@ int main(void) {
     tidyings();
     operations();
     sheets();
+    looked_up();
+    faults();
     formulas();
+    stops();
+    formula_parts();
     spans();
     claims();
     uptimes();

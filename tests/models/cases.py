@@ -222,8 +222,10 @@ def part_text(kind, value):
 
 
 def read(text):
-    fault, parts = formulas.read(text.decode("latin-1"))
-    return refused(fault) if fault else " ".join(part_text(*part) for part in parts)
+    text = text.decode("latin-1")
+    fault, parts = formulas.read(text)
+    shown_parts = refused(fault) if fault else " ".join(part_text(*part) for part in parts)
+    return "%s at %d" % (shown_parts, formulas.stop(text))
 
 
 def evaluated(parts, sheet):

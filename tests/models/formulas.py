@@ -81,6 +81,76 @@ class Reader:
         self.part("name", name, depth)
 
 
+class Beginnings:
+    """All the ways at once in which the grammar goes along a text, and the farthest place that one of them comes to.
+
+    Each rule gives the places after it. What it has passed some formula begins with, since each rule derives some bytes.
+    """
+
+    LETTERS = "abcdefghijklmnopqrstuvwxyz"
+    DIGITS = "0123456789"
+
+    def __init__(self, text):
+        self.text, self.far, self.known = text, 0, {}
+
+    def any_of(self, bytes_, places):
+        after = {place + 1 for place in places if self.text[place:place + 1] in list(bytes_)}
+        self.far = max(self.far, *after, 0)
+        return after
+
+    def token(self, token, places):
+        for byte in token:
+            places = self.any_of(byte, places)
+        return places
+
+    def after(self, rule, places):
+        for place in places:
+            if (rule, place) not in self.known:
+                self.known[rule, place] = getattr(self, rule)(place)
+        return set().union(*(self.known[rule, place] for place in places))
+
+    def chain(self, operator, operand, place):
+        ends = more = self.after(operand, {place})
+        while more:
+            more = self.after(operand, self.token(operator, more)) - ends
+            ends = ends | more
+        return ends
+
+    def sum(self, place):
+        return self.chain("+", "product", place)
+
+    def product(self, place):
+        return self.chain(".", "factor", place)
+
+    def repeated(self, first, others, most, place):
+        ends = more = self.any_of(first, {place})
+        for _ in range(most - 1):
+            more = self.any_of(others, more)
+            ends = ends | more
+        return ends
+
+    def length(self, place):
+        return self.token("0", {place}) | self.repeated(self.DIGITS[1:], self.DIGITS, len(self.text), place)
+
+    def factor(self, place):
+        ends = self.after("factor", self.any_of("!^~", {place})) | self.any_of("01", {place})
+        ends |= self.token(")", self.after("sum", self.token("(", {place})))
+        ends |= self.repeated(self.LETTERS, self.LETTERS + self.DIGITS, 8, place)
+        for word, operand in (("SR(", "sum"), ("RS(", "sum"), ("TON(", "length"), ("TOF(", "length"), ("TP(", "length")):
+            second = self.token(",", self.after(operand, self.token(word, {place})))
+            ends |= self.token(")", self.after("sum", second))
+        return ends
+
+
+def stop(text):
+    """The length of the longest beginning of a text that some formula begins with; 0 for one that is not read."""
+    if len(text) > 1024:
+        return 0
+    beginnings = Beginnings(text)
+    beginnings.sum(0)
+    return beginnings.far
+
+
 def read(text):
     """The fault, and the parts in the order in which they are worked out."""
     if not 1 <= len(text) <= 1024:

@@ -8,15 +8,8 @@ extern "C" {
     pub fn sgl_implies(a: *const u32, a_words: usize, b: *const u32, b_words: usize) -> u64;
     pub fn sgl_implies_span(a: *const u32, a_words: usize, b: *const u32, b_words: usize) -> u64;
     pub fn sgl_not(a: *const u32, a_words: usize, out: *mut u32, out_words: usize) -> u32;
-    pub fn sgl_connective(
-        table: u32,
-        a: *const u32,
-        a_words: usize,
-        b: *const u32,
-        b_words: usize,
-        out: *mut u32,
-        out_words: usize,
-    ) -> u32;
+    pub fn sgl_connective(table: u32, a: *const u32, a_words: usize, b: *const u32, b_words: usize, out: *mut u32, out_words: usize)
+        -> u32;
     pub fn sgl_rising(a: *const u32, a_words: usize, out: *mut u32, out_words: usize) -> u32;
     pub fn sgl_falling(a: *const u32, a_words: usize, out: *mut u32, out_words: usize) -> u32;
     pub fn sgl_sr(s: *const u32, s_words: usize, r: *const u32, r_words: usize, out: *mut u32, out_words: usize) -> u32;
@@ -37,6 +30,8 @@ extern "C" {
         out: *mut u8,
         out_bytes: usize,
     ) -> u32;
+    pub fn sgl_formula_fault(formula: *const u8, formula_bytes: usize) -> u64;
+    pub fn sgl_formula_parts(formula: *const u8, formula_bytes: usize, parts: *mut [u64; 32]) -> u32;
     pub fn sgl_evaluate(
         sheet: *const u8,
         sheet_bytes: usize,

@@ -1,7 +1,18 @@
-use crate::list::{written, List};
-use crate::{calls, Fault, Stretch, UpTime, Verdict, LIST_WORDS, SHEET_BYTES, WORK_WORDS};
+use crate::whereabouts::{sheet_refusal, SheetRefusal};
+use crate::{calls, Fault, List, Stretch, UpTime, LIST_WORDS, SHEET_BYTES};
+use std::iter::FusedIterator;
 
 /// An accepted sheet: up to 32 named signals.
+///
+/// ```
+/// # use rascrunel::Sheet;
+/// let sheet = Sheet::begin()?.append("a", &[0, 23, 36])?.append("b", &[1])?;
+/// for (name, list) in &sheet {
+///     println!("{name}: {} changes", list.changes().len());
+/// }
+/// assert_eq!(Sheet::try_from(sheet.bytes())?, sheet);
+/// # Ok::<(), rascrunel::Fault>(())
+/// ```
 #[derive(Clone, Debug, PartialEq, Eq, Hash)]
 pub struct Sheet {
     bytes: Vec<u8>,
@@ -15,18 +26,28 @@ fn sheet(call: impl FnOnce(&mut [u8]) -> Result<usize, Fault>) -> Result<Sheet, 
     Ok(Sheet { bytes: out })
 }
 
+// The layout: mark, version and count of signals; of each signal its name, its count of words, its words.
+pub(crate) const FRONT: usize = 7;
+pub(crate) const NAME: usize = 8;
+
+// The words that stand in these bytes, low byte first.
+pub(crate) fn words(bytes: &[u8]) -> Vec<u32> {
+    bytes.chunks_exact(4).map(|b| u32::from_le_bytes([b[0], b[1], b[2], b[3]])).collect()
+}
+
 impl Sheet {
     /// The sheet without signals.
     pub fn begin() -> Result<Sheet, Fault> {
-        sheet(|out| calls::begin(out))
+        sheet(calls::begin)
     }
 
-    /// The sheet of these bytes, if they are one.
+    /// The sheet of these bytes, if they are one. `Sheet::try_from` tells also where they are refused.
     pub fn new(bytes: &[u8]) -> Result<Sheet, Fault> {
         calls::sheet_fault(bytes)?;
         Ok(Sheet { bytes: bytes.to_vec() })
     }
 
+    /// Its bytes, as a sheet file has them.
     pub fn bytes(&self) -> &[u8] {
         &self.bytes
     }
@@ -39,11 +60,7 @@ impl Sheet {
     /// The list of a signal.
     pub fn lookup(&self, name: &str) -> Result<List, Fault> {
         let (start, count) = calls::lookup(&self.bytes, name.as_bytes())?;
-        let words: Vec<u32> = self.bytes[start..start + count]
-            .chunks_exact(4)
-            .map(|b| u32::from_le_bytes([b[0], b[1], b[2], b[3]]))
-            .collect();
-        List::new(&words)
+        List::try_from(words(&self.bytes[start..start + count]))
     }
 
     /// When a signal was up before the date h: its up stretches, and their total in ticks. Faults 16, 13, 19.
@@ -64,64 +81,91 @@ impl Sheet {
         Ok(UpTime { stretches, total })
     }
 
-    /// The names of the signals, in order: each stands 10 bytes before its words, and the next after them.
-    pub fn names(&self) -> Result<Vec<String>, Fault> {
-        let mut names = Vec::new();
-        let mut at = 7;
-        while at < self.bytes.len() {
-            let field = &self.bytes[at..at + 8];
-            let name = String::from_utf8_lossy(field).trim_end_matches('\0').to_string();
-            let (start, count) = calls::lookup(&self.bytes, name.as_bytes())?;
-            at = start + count;
-            names.push(name);
-        }
-        Ok(names)
-    }
-}
-
-/// The text of a formula. The calls judge it.
-#[derive(Clone, Debug, PartialEq, Eq, Hash)]
-pub struct Formula(pub String);
-
-impl From<&str> for Formula {
-    fn from(text: &str) -> Formula {
-        Formula(text.to_string())
-    }
-}
-
-/// Formula calls and claims, with the work area that they need.
-pub struct Checker {
-    work: Vec<u32>,
-}
-
-impl Default for Checker {
-    fn default() -> Checker {
-        Checker::new()
-    }
-}
-
-impl Checker {
-    pub fn new() -> Checker {
-        Checker { work: vec![0; WORK_WORDS] }
-    }
-
-    /// The list of a formula's signal on a sheet.
-    pub fn evaluate(&mut self, sheet: &Sheet, formula: &Formula) -> Result<List, Fault> {
-        let work = &mut self.work;
-        written(|out| calls::evaluate(&sheet.bytes, formula.0.as_bytes(), work, out))
-    }
-
-    /// The verdict of the claim f to g on a sheet.
+    /// The signals in order, each with its name and its list.
     ///
     /// ```
-    /// # use rascrunel::{Checker, End, Sheet, Verdict};
-    /// let sheet = Sheet::begin()?.append("a", &[0, 23, 36])?; // up from 5, down from 9
-    /// let verdict = Checker::new().claim(&sheet, &"a".into(), &"TON(2,a)".into())?;
-    /// assert_eq!(verdict, Verdict::FailsAt(5, End::Before(7)));
-    /// assert_eq!(verdict.to_string(), "fails at 5 until before 7");
+    /// # use rascrunel::Sheet;
+    /// let sheet = Sheet::begin()?.append("a", &[0, 23])?.append("b", &[1])?;
+    /// let up: Vec<&str> = sheet.signals().filter(|(_, list)| list.start()).map(|(name, _)| name).collect();
+    /// assert_eq!(up, ["b"]);
     /// # Ok::<(), rascrunel::Fault>(())
     /// ```
-    pub fn claim(&mut self, sheet: &Sheet, f: &Formula, g: &Formula) -> Result<Verdict, Fault> {
-        calls::claim(&sheet.bytes, f.0.as_bytes(), g.0.as_bytes(), &mut self.work)
+    pub fn signals(&self) -> Signals<'_> {
+        let (front, rest) = self.bytes.split_at(FRONT);
+        Signals { rest, left: usize::from(u16::from_le_bytes([front[FRONT - 2], front[FRONT - 1]])) }
+    }
+
+    /// The names of the signals, in order. It is never refused: the result is as it was before there was [`signals`](Sheet::signals).
+    pub fn names(&self) -> Result<Vec<String>, Fault> {
+        Ok(self.signals().map(|(name, _)| name.to_string()).collect())
+    }
+}
+
+/// The signals of a sheet in order, each with its name and its list.
+#[derive(Clone, Debug)]
+pub struct Signals<'a> {
+    // the signals of an accepted sheet that are still to come, and nothing else
+    rest: &'a [u8],
+    // as many as they are
+    left: usize,
+}
+
+impl<'a> Iterator for Signals<'a> {
+    type Item = (&'a str, List);
+
+    fn next(&mut self) -> Option<(&'a str, List)> {
+        let (name, rest) = self.rest.split_first_chunk::<NAME>()?;
+        let (count, rest) = rest.split_first_chunk()?;
+        let (held, rest) = rest.split_at_checked(4 * usize::from(u16::from_le_bytes(*count)))?;
+        (self.rest, self.left) = (rest, self.left - 1);
+        let name = std::str::from_utf8(name).ok()?.trim_end_matches('\0');
+        Some((name, List::accepted(words(held))))
+    }
+
+    fn size_hint(&self) -> (usize, Option<usize>) {
+        (self.left, Some(self.left))
+    }
+}
+
+impl ExactSizeIterator for Signals<'_> {}
+
+impl FusedIterator for Signals<'_> {}
+
+impl<'a> IntoIterator for &'a Sheet {
+    type Item = (&'a str, List);
+    type IntoIter = Signals<'a>;
+
+    fn into_iter(self) -> Signals<'a> {
+        self.signals()
+    }
+}
+
+impl AsRef<[u8]> for Sheet {
+    fn as_ref(&self) -> &[u8] {
+        &self.bytes
+    }
+}
+
+/// Tells also where bytes are refused.
+impl TryFrom<Vec<u8>> for Sheet {
+    type Error = SheetRefusal;
+
+    fn try_from(bytes: Vec<u8>) -> Result<Sheet, SheetRefusal> {
+        sheet_refusal(&bytes).map_or(Ok(Sheet { bytes }), Err)
+    }
+}
+
+/// Tells also where bytes are refused.
+impl TryFrom<&[u8]> for Sheet {
+    type Error = SheetRefusal;
+
+    fn try_from(bytes: &[u8]) -> Result<Sheet, SheetRefusal> {
+        Sheet::try_from(bytes.to_vec())
+    }
+}
+
+impl From<Sheet> for Vec<u8> {
+    fn from(sheet: Sheet) -> Vec<u8> {
+        sheet.bytes
     }
 }

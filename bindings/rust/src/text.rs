@@ -1,38 +1,163 @@
-//! Sheets as text, one line a signal: `NAME = WORD WORD ..`, or `NAME : CHANGE, CHANGE ..`.
+//! Sheets as text, one line a signal: `NAME : CHANGE, CHANGE ..`, or `NAME = WORD WORD ..`.
+//!
 //! The first change is `up` or `down`, the value from the start on. The others are `up from 5` (at 5 and after it), `up after 5`
-//! (not yet at 5) and `up at 5` (at 5 only), or the same with `down`. Empty lines and lines that begin with # say nothing.
-//! To be tidied, a text may have any number of lines, any names, and changes that change nothing, such as `up from 7` while up.
-use crate::{calls, Fault, Sheet, Wrongs, LIST_WORDS, M};
-use std::fmt::{self, Write};
+//! (not yet at 5) and `up at 5` (at 5 only), or the same with `down`. A list of changes may go on in the next line, after a comma. Empty
+//! lines and lines that begin with # say nothing.
+//!
+//! A text may begin with a byte order mark, and its lines may end with a carriage return and a line feed. To be tidied, it may have any
+//! number of lines, any names, and changes that change nothing, such as `up from 7` while up.
+//!
+//! ```
+//! use rascrunel::{List, Sheet};
+//! let sheet: Sheet = "needle : down, up from 150, down from 190\n".parse()?;
+//! assert_eq!(sheet.lookup("needle")?.words(), [0, 603, 760]);
+//! assert_eq!(sheet.to_string(), "needle : down, up from 150, down from 190\n");
+//! let list: List = "down, up at 5".parse()?;
+//! assert_eq!((list.words(), list.to_string().as_str()), (&[0, 22][..], "down, up at 5"));
+//! # Ok::<(), Box<dyn std::error::Error>>(())
+//! ```
+mod lines;
+mod signals;
 
-/// What is wrong with a text, and in which line.
-#[derive(Debug, PartialEq, Eq)]
+use crate::{calls, raw, Change, Fault, List, Sheet, Wrongs};
+use lines::{end_of, Bad, Line, Lines};
+use signals::{Notation, Signal};
+use std::error::Error;
+use std::fmt::{self, Write};
+use std::iter;
+use std::str::FromStr;
+
+/// What is wrong with a text, and where.
+#[derive(Clone, Debug, PartialEq, Eq)]
+#[non_exhaustive]
 pub struct Wrong {
+    /// The line, counted from 1.
     pub line: usize,
+    /// The character of the line at which the name, change or number that is wrong begins, counted from 1.
+    pub column: usize,
+    /// The fault with which the library refuses it; none for what it is not asked, since it is no name and no word.
+    pub fault: Option<Fault>,
+    /// What is wrong, with the name, change or number itself.
     pub what: String,
 }
 
 impl fmt::Display for Wrong {
     fn fmt(&self, f: &mut fmt::Formatter<'_>) -> fmt::Result {
-        write!(f, "line {}: {}", self.line, self.what)
-    }
-}
-
-/// The sheet of a text, by begin and append.
-pub fn read(text: &str) -> Result<Sheet, Wrong> {
-    let mut sheet = Sheet::begin().map_err(|fault| wrong(0, fault))?;
-    for (i, line) in text.lines().enumerate() {
-        if says_nothing(line) {
-            continue;
+        write!(f, "line {}, column {}: ", self.line, self.column)?;
+        if let Some(fault) = self.fault {
+            write!(f, "refused {}: ", fault.number())?;
         }
-        let at = |what| Wrong { line: i + 1, what };
-        let Signal { name, words, .. } = signal(line).map_err(at)?;
-        sheet = sheet.append(name, &words).map_err(|fault| wrong(i + 1, fault))?;
+        f.write_str(&self.what)
     }
-    Ok(sheet)
 }
 
-/// The text with the list of each signal tidied, in the notation that it has; all other lines stay as they are, and names are not judged.
+impl Error for Wrong {}
+
+pub(crate) const BYTE_ORDER_MARK: &str = "\u{feff}";
+
+// The byte order mark of a text, where it has one, and the text after it.
+fn split_mark(text: &str) -> (&str, &str) {
+    text.split_at(if text.starts_with(BYTE_ORDER_MARK) { BYTE_ORDER_MARK.len() } else { 0 })
+}
+
+/// The text of a file, which is in UTF-8.
+///
+/// ```
+/// # use rascrunel::text;
+/// assert_eq!(text::utf8(b"a : up\n").unwrap(), "a : up\n");
+/// let wrong = text::utf8(b"a : up\n# \xfcber\n").unwrap_err();
+/// assert_eq!(wrong.to_string(), "line 2, column 3: byte 9 of the file, 0xfc, is no UTF-8; save the text as UTF-8");
+/// ```
+pub fn utf8(bytes: &[u8]) -> Result<&str, Wrong> {
+    let wrong = |(line, column), what| Wrong { line, column, fault: None, what };
+    if is_utf16(bytes) {
+        return Err(wrong((1, 1), IN_UTF16.to_string()));
+    }
+    std::str::from_utf8(bytes).map_err(|_| {
+        let before = bytes.utf8_chunks().next().map_or("", |chunk| chunk.valid());
+        let (_, text) = split_mark(before);
+        let (at, byte) = (before.len(), bytes[before.len()]);
+        wrong(end_of(text), format!("byte {at} of the file, 0x{byte:02x}, is no UTF-8; save the text as UTF-8"))
+    })
+}
+
+#[doc(hidden)]
+pub const IN_UTF16: &str = "the file is in UTF-16; save the text as UTF-8";
+
+/// Whether a file begins with the byte order mark of UTF-16.
+pub fn is_utf16(bytes: &[u8]) -> bool {
+    bytes.starts_with(&[0xff, 0xfe]) || bytes.starts_with(&[0xfe, 0xff])
+}
+
+/// Whether a file is a sheet, good or bad, and no text: the mark of a sheet may begin a text too, but one without a zero byte.
+pub fn is_sheet(bytes: &[u8]) -> bool {
+    bytes.starts_with(b"SGL") && raw::is_raw(bytes)
+}
+
+/// The sheet of a text, by begin and append. Of what is wrong each place is told, not the first alone.
+///
+/// ```
+/// # use rascrunel::text;
+/// let wrongs = text::read("a : down, up from 9, down from 5\nB : up, down at 1073741824\n").unwrap_err();
+/// assert_eq!(
+///     wrongs.to_string(),
+///     "line 1, column 22: refused 3: the date of \"down from 5\" is not above 9, that of \"up from 9\" before it\n\
+///      line 2, column 1: refused 16: the name \"B\" has \"B\" in it: a name is 1 to 8 lowercase letters and digits, a letter first\n\
+///      line 2, column 17: the date \"1073741824\" is above M = 1073741823"
+/// );
+/// ```
+pub fn read(text: &str) -> Result<Sheet, Wrongs<Wrong>> {
+    let (_, text) = split_mark(text);
+    let mut wrongs = Wrongs::none();
+    let mut names = Vec::new();
+    let mut sheet = Sheet::begin().map_err(|fault| Wrongs::one(refused_whole(fault)))?;
+    for line in Lines::of(text) {
+        let signal = match signal_of(&line) {
+            Ok(Some(signal)) => signal,
+            Ok(None) => continue,
+            Err(bad) => {
+                wrongs.add(|| line.wrong(bad));
+                continue;
+            }
+        };
+        let list = judged(&signal);
+        // for a list that is wrong another stands in, so that all names and their count are judged
+        let appended = sheet.append(signal.name, list.as_deref().unwrap_or(&[0]));
+        if let Err(fault) = appended {
+            wrongs.add(|| line.wrong(signal.name_refused(fault, &names)));
+        }
+        // one that finds no room is counted too
+        if appended != Err(Fault::Name) {
+            names.push((signal.name, line.number));
+        }
+        sheet = appended.unwrap_or(sheet);
+        if let Err(bad) = list {
+            wrongs.add(|| line.wrong(bad));
+        }
+    }
+    wrongs.or(sheet)
+}
+
+// What the library says of no place in the text.
+fn refused_whole(fault: Fault) -> Wrong {
+    Wrong { line: 1, column: 1, fault: Some(fault), what: fault.text().to_string() }
+}
+
+// The words of a signal's list, if they are accepted.
+fn judged<'a>(signal: &Signal<'a>) -> Result<Vec<u32>, Bad<'a>> {
+    let words = signal.words()?;
+    match calls::list_fault(&words) {
+        Ok(()) => Ok(words),
+        Err(fault) => {
+            let bad = signal.refused(&words, fault, calls::list_fault);
+            let hint = if fault == Fault::NoChange { "; `sheet tidy` leaves it out" } else { "" };
+            Err(Bad { what: bad.what + hint, ..bad })
+        }
+    }
+}
+
+/// The text with the list of each signal tidied, in the notation that it has and on one line; all other lines stay as they are, as do
+/// a byte order mark and the ends of lines, and names are not judged.
 ///
 /// ```
 /// # use rascrunel::text;
@@ -42,158 +167,157 @@ pub fn read(text: &str) -> Result<Sheet, Wrong> {
 pub fn tidy(text: &str) -> Result<String, Wrongs<Wrong>> {
     let mut tidied = String::with_capacity(text.len());
     let mut wrongs = Wrongs::none();
-    for (i, whole) in text.split_inclusive('\n').enumerate() {
-        if says_nothing(whole) {
-            tidied.push_str(whole);
-            continue;
-        }
-        // the line feed, with a carriage return before it where there is one, stays
-        let line = whole.lines().next().unwrap_or_default();
-        match tidy_line(line, &mut tidied) {
-            Ok(()) => tidied.push_str(&whole[line.len()..]),
-            Err(what) => wrongs.add(|| Wrong { line: i + 1, what }),
+    let (mark, text) = split_mark(text);
+    tidied.push_str(mark);
+    for line in Lines::of(text) {
+        match tidy_line(&line, &mut tidied) {
+            Ok(()) => tidied.push_str(line.end),
+            Err(bad) => wrongs.add(|| line.wrong(bad)),
         }
     }
     wrongs.or(tidied)
 }
 
-fn tidy_line(line: &str, to: &mut String) -> Result<(), String> {
-    let Signal { name, notation, words } = signal(line)?;
-    let mut out = [0; LIST_WORDS];
-    let count = calls::tidy(&words, &mut out).map_err(|fault| fault.to_string())?;
-    let words = &out[..count];
-    to.push_str(name);
-    match notation {
+fn tidy_line<'a>(line: &Line<'a>, to: &mut String) -> Result<(), Bad<'a>> {
+    let Some(signal) = signal_of(line)? else {
+        to.push_str(line.body);
+        return Ok(());
+    };
+    let words = signal.words()?;
+    let tidied = match List::tidy(&words) {
+        Ok(tidied) => tidied,
+        Err(fault) => return Err(signal.refused(&words, fault, |words| List::tidy(words).map(drop))),
+    };
+    to.push_str(signal.name);
+    let put = match signal.notation {
         Notation::Words => {
             to.push_str(" =");
-            put_words(words, to);
+            tidied.words().iter().try_for_each(|word| write!(to, " {word}"))
         }
-        Notation::Changes => {
-            to.push_str(" : ");
-            put_changes(words, to);
-        }
-    }
+        Notation::Changes => write!(to, " : {tidied}"),
+    };
+    put.expect("a string takes all that is put into it");
     Ok(())
 }
 
-fn wrong(line: usize, fault: Fault) -> Wrong {
-    Wrong { line, what: fault.to_string() }
-}
-
-fn says_nothing(line: &str) -> bool {
-    let line = line.trim();
-    line.is_empty() || line.starts_with('#')
-}
-
-enum Notation {
-    Words,
-    Changes,
-}
-
-struct Signal<'a> {
-    name: &'a str,
-    notation: Notation,
-    words: Vec<u32>,
-}
-
-fn signal(line: &str) -> Result<Signal<'_>, String> {
-    if let Some((name, words)) = line.split_once('=') {
-        let words = words.split_whitespace().map(number).collect::<Result<_, _>>()?;
-        return Ok(Signal { name: name.trim(), notation: Notation::Words, words });
-    }
-    match line.split_once(':') {
-        Some((name, changes)) => Ok(Signal { name: name.trim(), notation: Notation::Changes, words: words_of(changes)? }),
-        None => Err("neither `NAME = words` nor `NAME : changes`".to_string()),
+// The signal of a line, none where the line says nothing.
+fn signal_of<'a>(line: &Line<'a>) -> Result<Option<Signal<'a>>, Bad<'a>> {
+    match line.stray() {
+        Some(bad) => Err(bad),
+        None if line.says_nothing() => Ok(None),
+        None => Signal::new(line.body).map(Some),
     }
 }
 
-// A piece of a text as it is told, its end left out where it is long.
-fn told(text: &str) -> String {
-    const MOST: usize = 60;
-    match text.char_indices().nth(MOST) {
-        Some((end, _)) => format!("{:?}..", &text[..end]),
-        None => format!("{text:?}"),
-    }
-}
+// The most columns of a line that is shown; a list goes on in the next, below its beginning.
+const COLUMNS: usize = 120;
 
-fn number(text: &str) -> Result<u32, String> {
-    let digits = !text.is_empty() && text.bytes().all(|b| b.is_ascii_digit());
-    match text.parse() {
-        Ok(n) if digits => Ok(n),
-        _ => Err(format!("{} is no number up to 4294967295", told(text))),
-    }
-}
-
-fn words_of(changes: &str) -> Result<Vec<u32>, String> {
-    let mut words = Vec::new();
-    let mut before = 0;
-    for change in changes.split(',') {
-        let change = change.trim();
-        let mut parts = change.split_whitespace();
-        let to = match parts.next() {
-            Some("up") => 1,
-            Some("down") => 0,
-            _ => return Err(format!("{} begins with neither `up` nor `down`", told(change))),
-        };
-        let (how, date, more) = (parts.next(), parts.next(), parts.next());
-        if words.is_empty() {
-            if how.is_some() {
-                return Err(format!("the first change is `up` or `down` alone, not {}", told(change)));
-            }
-            words.push(to);
-            before = to;
-            continue;
-        }
-        let (Some(how), Some(date), None) = (how, date, more) else {
-            return Err(format!("{} is not like `up from 5`, `up after 5` or `up at 5`", told(change)));
-        };
-        let date = number(date)?;
-        if date > M {
-            return Err(format!("date {date} is above {M}"));
-        }
-        let (at, after) = match how {
-            "from" => (to, to),
-            "after" => (before, to),
-            "at" => (to, before),
-            word => return Err(format!("{} is none of `from`, `after` and `at`", told(word))),
-        };
-        words.push(4 * date + 2 * at + after);
-        before = after;
-    }
-    Ok(words)
-}
-
-/// The text of a sheet, by lookup.
-pub fn write(sheet: &Sheet) -> Result<String, Fault> {
+/// The text of a sheet, of which [`read`] makes the same sheet. A list that is too long for a line of 120 columns goes on in the next.
+///
+/// ```
+/// # use rascrunel::{text, Sheet};
+/// let sheet = Sheet::begin()?.append("a", &[0, 23, 36])?.append("lamp", &[1])?;
+/// assert_eq!(text::write(&sheet), "a : down, up from 5, down from 9\nlamp : up\n");
+/// # Ok::<(), rascrunel::Fault>(())
+/// ```
+pub fn write(sheet: &Sheet) -> String {
     let mut text = String::new();
-    for name in sheet.names()? {
-        text += &name;
+    for (name, list) in sheet {
+        let start = text.len();
+        text += name;
         text += " : ";
-        put_changes(sheet.lookup(&name)?.words(), &mut text);
+        let indent = text.len() - start;
+        text += level(list.start());
+        let mut column = text.len() - start;
+        for change in changes(&list) {
+            let change = change.to_string();
+            // with a comma and a blank before it, and a comma after it
+            if column + change.len() + 3 > COLUMNS {
+                text += ",\n";
+                text.extend(iter::repeat_n(' ', indent));
+                column = indent;
+            } else {
+                text += ", ";
+                column += 2;
+            }
+            text += &change;
+            column += change.len();
+        }
         text += "\n";
     }
-    Ok(text)
+    text
 }
 
-fn put_words(words: &[u32], to: &mut String) {
-    for word in words {
-        write!(to, " {word}").unwrap();
+fn level(up: bool) -> &'static str {
+    if up {
+        "up"
+    } else {
+        "down"
     }
 }
 
-// The changes of an accepted list.
-fn put_changes(words: &[u32], to: &mut String) {
-    let level = |v: u32| if v == 1 { "up" } else { "down" };
-    let mut before = words[0];
-    to.push_str(level(before));
-    for w in &words[1..] {
-        let (date, at, after) = (w / 4, w / 2 % 2, w % 2);
-        let (value, how) = match (at == before, after == before) {
+// A change as it is written.
+struct Told {
+    up: bool,
+    how: &'static str,
+    date: u32,
+}
+
+impl fmt::Display for Told {
+    fn fmt(&self, f: &mut fmt::Formatter<'_>) -> fmt::Result {
+        write!(f, "{} {} {}", level(self.up), self.how, self.date)
+    }
+}
+
+fn changes(list: &List) -> impl Iterator<Item = Told> + '_ {
+    list.changes().scan(list.start(), |before, Change { date, at, after }| {
+        let (up, how) = match (at == *before, after == *before) {
             (false, false) => (after, "from"),
             (true, _) => (after, "after"),
             (false, true) => (at, "at"),
         };
-        write!(to, ", {} {how} {date}", level(value)).unwrap();
-        before = after;
+        *before = after;
+        Some(Told { up, how, date })
+    })
+}
+
+/// As a text, by [`read`].
+impl FromStr for Sheet {
+    type Err = Wrongs<Wrong>;
+
+    fn from_str(text: &str) -> Result<Sheet, Wrongs<Wrong>> {
+        read(text)
+    }
+}
+
+/// As a text, by [`write`](fn@write).
+impl fmt::Display for Sheet {
+    fn fmt(&self, f: &mut fmt::Formatter<'_>) -> fmt::Result {
+        f.write_str(&write(self))
+    }
+}
+
+/// By its changes, such as `down, up from 5, down from 9`.
+///
+/// ```
+/// # use rascrunel::List;
+/// let wrong = "down, up from 5, up from 9".parse::<List>().unwrap_err();
+/// assert_eq!(wrong.to_string(), "line 1, column 18: refused 4: \"up from 9\" changes nothing: the signal is up already");
+/// ```
+impl FromStr for List {
+    type Err = Wrong;
+
+    fn from_str(changes: &str) -> Result<List, Wrong> {
+        let (line, signal) = (Line::whole(changes), Signal::of_changes(changes));
+        let words = signal.words().map_err(|bad| line.wrong(bad))?;
+        List::new(&words).map_err(|fault| line.wrong(signal.refused(&words, fault, calls::list_fault)))
+    }
+}
+
+/// By its changes, on one line.
+impl fmt::Display for List {
+    fn fmt(&self, f: &mut fmt::Formatter<'_>) -> fmt::Result {
+        f.write_str(level(self.start()))?;
+        changes(self).try_for_each(|change| write!(f, ", {change}"))
     }
 }

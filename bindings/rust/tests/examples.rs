@@ -38,7 +38,7 @@ fn told(file: &str, of: impl Fn(&Sheet, &str, &str) -> String) {
 
 #[test]
 fn claims() {
-    told("claims.txt", |sheet, f, g| Checker::new().claim(sheet, &f.into(), &g.into()).unwrap().to_string());
+    told("claims.txt", |sheet, f, g| Checker::new().claim(sheet, f, g).unwrap().to_string());
 }
 
 #[test]

@@ -77,7 +77,7 @@ fn moments(last: u32) -> std::ops::Range<u32> {
 /// Whether a list is up at a moment.
 fn is_up(words: &[u32], moment: u32) -> bool {
     let last = *words[1..].iter().rev().find(|&&word| word / 4 <= moment / 2).unwrap_or(&words[0]);
-    if moment % 2 == 0 && last / 4 == moment / 2 {
+    if moment.is_multiple_of(2) && last / 4 == moment / 2 {
         last / 2 % 2 == 1
     } else {
         last % 2 == 1
@@ -220,12 +220,11 @@ fn claims() {
         for (i, words) in lists.iter().enumerate() {
             sheet = sheet.append(&format!("s{i}"), &later(words, by)).unwrap();
         }
-        let signals: Vec<Vec<bool>> =
-            lists.iter().map(|words| moments(last).map(|moment| is_up(words, moment)).collect()).collect();
+        let signals: Vec<Vec<bool>> = lists.iter().map(|words| moments(last).map(|moment| is_up(words, moment)).collect()).collect();
         let (f, f_up) = formula(&mut random, &signals, DEPTH);
         let (g, g_up) = formula(&mut random, &signals, DEPTH);
         let (verdict, number) = told(run(last, |m| f_up[m as usize - 1] && !g_up[m as usize - 1]), by);
-        assert_eq!(Checker::new().claim(&sheet, &f.as_str().into(), &g.as_str().into()), Ok(verdict), "{lists:?} {by} {f} {g}");
+        assert_eq!(Checker::new().claim(&sheet, &f, &g), Ok(verdict), "{lists:?} {by} {f} {g}");
         assert_eq!(calls::claim_number(sheet.bytes(), f.as_bytes(), g.as_bytes(), &mut work), number, "{lists:?} {by} {f} {g}");
         forms.count(verdict);
     }

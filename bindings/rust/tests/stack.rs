@@ -1,5 +1,5 @@
 // The formulas that go deepest, and an up-time, through the safe calls, in threads of STACK_BYTES bytes of stack.
-use rascrunel::{Checker, Fault, Formula, Sheet, STACK_BYTES};
+use rascrunel::{Checker, Fault, Sheet, STACK_BYTES};
 use std::thread;
 
 // What opens a level, what stands in the innermost, and what closes a level.
@@ -22,10 +22,11 @@ const SHAPES: [(&str, &str, &str); 13] = [
 fn refused(text: String, fault: Fault) {
     let sheet = Sheet::begin().unwrap().append("a", &[0, 23, 36]).unwrap();
     let calls = move || {
-        let (mut checker, formula, up) = (Checker::new(), Formula(text), Formula::from("1"));
-        assert_eq!(checker.evaluate(&sheet, &formula), Err(fault));
-        assert_eq!(checker.claim(&sheet, &formula, &up), Err(fault));
-        assert_eq!(checker.claim(&sheet, &up, &formula), Err(fault));
+        // where each is refused is found in the same stack
+        let mut checker = Checker::new();
+        assert_eq!(checker.evaluate(&sheet, &text).unwrap_err().fault, fault);
+        assert_eq!(checker.claim(&sheet, &text, "1").unwrap_err().fault, fault);
+        assert_eq!(checker.claim(&sheet, "1", &text).unwrap_err().fault, fault);
     };
     thread::Builder::new().stack_size(STACK_BYTES).spawn(calls).unwrap().join().unwrap();
 }

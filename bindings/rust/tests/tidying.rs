@@ -3,7 +3,7 @@ mod random;
 mod tool;
 
 use random::{later, Random};
-use rascrunel::{calls, raw, text, Fault, Sheet, LIST_WORDS, M};
+use rascrunel::{calls, raw, text, Fault, List, LIST_WORDS, M};
 use std::fs;
 use std::path::{Path, PathBuf};
 use tool::{folder, sheet};
@@ -103,40 +103,40 @@ fn all_else_stays() {
     assert_eq!(tidied(&"a : up, up from 5\n".repeat(5000)), "a : up\n".repeat(5000));
 }
 
+// What is wrong with single pieces is told as of `read`, in tests/text.rs; here what tidying judges.
 #[test]
 fn wrong_texts() {
     let what = |t: &str| text::tidy(t).unwrap_err().to_string();
-    assert_eq!(what("a : down, up from 9, down from 5"), "line 1: refused 3: date not above the last");
-    assert_eq!(what("a : down, down from 9, down from 9"), "line 1: refused 3: date not above the last");
-    assert_eq!(what("a : down, up from 0"), "line 1: refused 3: date not above the last");
-    assert_eq!(what("a ="), "line 1: refused 1: list empty or over 256 words");
-    assert_eq!(what("a = 2 2"), "line 1: refused 2: first word above 1");
-    assert_eq!(what("a :"), "line 1: \"\" begins with neither `up` nor `down`");
-    assert_eq!(what("a : up from 3"), "line 1: the first change is `up` or `down` alone, not \"up from 3\"");
-    assert_eq!(what("a : up, down from 5 6"), "line 1: \"down from 5 6\" is not like `up from 5`, `up after 5` or `up at 5`");
-    assert_eq!(what("a : up, down on 5"), "line 1: \"on\" is none of `from`, `after` and `at`");
-    assert_eq!(what("a : down, up from 1073741824"), "line 1: date 1073741824 is above 1073741823");
-    assert_eq!(what("a = 0 4294967296"), "line 1: \"4294967296\" is no number up to 4294967295");
+    let order = "the date of \"down from 9\" is not above 9, that of \"down from 9\" before it";
+    assert_eq!(what("a : down, down from 9, down from 9"), format!("line 1, column 24: refused 3: {order}"));
+    assert_eq!(what("A : down, up from 0"), "line 1, column 11: refused 3: the date of \"up from 0\" is 0, and dates begin at 1");
+    assert_eq!(what("a ="), "line 1, column 4: refused 1: the list is empty: it has at least one word");
+    assert_eq!(what("a = 2 2"), "line 1, column 5: refused 2: the word \"2\": the first word is 0 or 1");
+    assert_eq!(what("a :"), "line 1, column 4: a change is missing here");
     // over 256 words, also where fewer are left
     let changes: String = (1..=256).map(|date| format!(", down from {date}")).collect();
     let words: String = (1..=256).map(|date| format!(" {}", 4 * date)).collect();
-    assert_eq!(what(&format!("a : down{changes}")), "line 1: refused 1: list empty or over 256 words");
-    assert_eq!(what(&format!("\na = 0{words}")), "line 2: refused 1: list empty or over 256 words");
+    let told = "is number 257 of its list, which has at most 256";
+    assert_eq!(what(&format!("a : down{changes}")), format!("line 1, column {}: refused 1: \"down from 256\" {told}", changes.len() - 4));
+    assert_eq!(what(&format!("\na = 0{words}")), format!("line 2, column {}: refused 1: \"1024\" {told}", words.len() + 2));
     assert_eq!(tidied(&format!("a : down{}", changes.replace(", down from 256", ""))), "a : down");
     // what is quoted of a long line is not long
     let long = what(&format!("a : down, {}", "ü".repeat(1_000_000)));
-    assert_eq!(long, format!("line 1: \"{}\".. begins with neither `up` nor `down`", "ü".repeat(60)));
+    assert_eq!(long, format!("line 1, column 11: \"{}\".. is neither `up` nor `down`", "ü".repeat(60)));
     // good and bad lines mixed
+    let first = "refused 2: the word \"2\": the first word is 0 or 1";
     assert_eq!(
         what("a : up\nb = 2\n# c = 2\n\nd : up, up from 5\ne\nf = 0 23 23\n"),
-        "line 2: refused 2: first word above 1\n\
-         line 6: neither `NAME = words` nor `NAME : changes`\n\
-         line 7: refused 3: date not above the last"
+        format!(
+            "line 2, column 5: {first}\n\
+             line 6, column 1: \"e\" is neither `NAME : changes` nor `NAME = words`\n\
+             line 7, column 10: refused 3: the word \"23\": its date, 5, is not above the last, 5"
+        )
     );
     // twenty, and more
     let twenty = what(&"a : up\na = 2\n".repeat(20));
     assert_eq!(twenty.lines().count(), 20);
-    assert!(twenty.ends_with("\nline 40: refused 2: first word above 1"));
+    assert!(twenty.ends_with(&format!("\nline 40, column 5: {first}")));
     assert_eq!(what(&"a : up\na = 2\n".repeat(21)), format!("{twenty}\nand 1 more"));
     assert_eq!(what(&"a : up\na = 2\n".repeat(3000)), format!("{twenty}\nand 2980 more"));
 }
@@ -176,25 +176,37 @@ fn raw_lists() {
 fn wrong_raw_lists() {
     let what = |bytes: &[u8]| raw::tidy(bytes).unwrap_err().to_string();
     let full: Vec<u32> = (0..257).map(|i| 4 * i).collect();
-    assert_eq!(what(&counted(0, &[])), "list 1 at byte 0: refused 1: list empty or over 256 words");
-    assert_eq!(what(&counted(257, &full)), "list 1 at byte 0: refused 1: list empty or over 256 words");
-    assert_eq!(what(&counted(65535, &vec![0; 65535])), "list 1 at byte 0: refused 1: list empty or over 256 words");
-    assert_eq!(what(&counted(1, &[2])), "list 1 at byte 0: refused 2: first word above 1");
-    assert_eq!(what(&counted(3, &[0, 23, 23])), "list 1 at byte 0: refused 3: date not above the last");
+    let length = |count: usize| format!("refused 1: {count} words, and a list has 1 to 256");
+    assert_eq!(what(&counted(0, &[])), format!("list 1 at byte 0: {}", length(0)));
+    assert_eq!(what(&counted(257, &full)), format!("list 1 at byte 0: {}", length(257)));
+    assert_eq!(what(&counted(65535, &vec![0; 65535])), format!("list 1 at byte 0: {}", length(65535)));
+    assert_eq!(what(&counted(1, &[2])), "list 1 at byte 0: refused 2: word 1 of 1, at byte 2, is 2: the first word is 0 or 1");
+    assert_eq!(
+        what(&counted(2, &[0, 3])),
+        "list 1 at byte 0: refused 3: word 2 of 2, at byte 6, is 3: its date is 0, and dates begin at 1"
+    );
+    assert_eq!(
+        what(&counted(4, &[0, 23, 23, 36])),
+        "list 1 at byte 0: refused 3: word 3 of 4, at byte 10, is 23: its date, 5, is not above the last, 5"
+    );
     assert_eq!(what(&counted(4, &[0, 23, 36])), "list 1 at byte 0: the file ends inside its words");
     // good and bad lists mixed: one that is refused hides none after it
     let mixed = [counted(1, &[1]), counted(257, &full), counted(2, &[0, 23]), counted(0, &[]), counted(1, &[3]), vec![9]].concat();
     assert_eq!(
         what(&mixed),
-        "list 2 at byte 6: refused 1: list empty or over 256 words\n\
-         list 4 at byte 1046: refused 1: list empty or over 256 words\n\
-         list 5 at byte 1048: refused 2: first word above 1\n\
-         list 6 at byte 1054: the file ends inside its count"
+        format!(
+            "list 2 at byte 6: {}\n\
+             list 4 at byte 1046: {}\n\
+             list 5 at byte 1048: refused 2: word 1 of 1, at byte 1050, is 3: the first word is 0 or 1\n\
+             list 6 at byte 1054: the file ends inside its count",
+            length(257),
+            length(0)
+        )
     );
     // twenty, and more
     let twenty = what(&[0; 40]);
     assert_eq!(twenty.lines().count(), 20);
-    assert!(twenty.ends_with("\nlist 20 at byte 38: refused 1: list empty or over 256 words"));
+    assert!(twenty.ends_with(&format!("\nlist 20 at byte 38: {}", length(0))));
     assert_eq!(what(&[0; 41]), format!("{twenty}\nand 1 more"));
     assert_eq!(what(&[0; 6000]), format!("{twenty}\nand 2980 more"));
 }
@@ -288,8 +300,8 @@ fn tidy_all(random: &mut Random, lists: &[Vec<u32>]) -> Vec<Vec<u32>> {
         one_signal(list, words);
         tidy_into(list, words);
         text += &format!("s{i} = {}\ns : {}\n", number_list(list), changes(random, list));
-        let shown = text::write(&Sheet::begin().unwrap().append("s", words).unwrap()).unwrap();
-        wanted += &format!("s{i} = {}\n{shown}", number_list(words));
+        let shown = List::new(words).unwrap();
+        wanted += &format!("s{i} = {}\ns : {shown}\n", number_list(words));
     }
     assert_eq!(self::tidied(&text), wanted);
     assert_eq!(lists_of(&raw::tidy(&raw_of(&tidied)).unwrap()), tidied);
@@ -399,6 +411,7 @@ impl Drop for Tool {
 #[test]
 fn the_tool() {
     let tool = Tool::new("tidy");
+    tool.tidies("\u{feff}a : down, up from 5,\r\n    up from 7\r\nb = 0\r\n", "\u{feff}a : down, up from 5\r\nb = 0\r\n");
     tool.tidies("# old\na : down, up from 5, up from 7\r\n\nB = 1 7", "# old\na : down, up from 5\r\n\nB = 1");
     tool.tidies(raw_of(&[vec![0, 20], vec![1, 20, 24]]), raw_of(&[vec![0], vec![1, 20]]));
     tool.tidies("", "");
@@ -410,18 +423,24 @@ fn the_tool() {
     let said = |bytes: &[u8]| tool.refuses(&tool.from(bytes));
     assert_eq!(
         said(b"a : up\nb = 2\nc = 0 23 23\n"),
-        "line 2: refused 2: first word above 1\nline 3: refused 3: date not above the last\n"
+        "line 2, column 5: refused 2: the word \"2\": the first word is 0 or 1\n\
+         line 3, column 10: refused 3: the word \"23\": its date, 5, is not above the last, 5\n"
     );
     assert_eq!(
         said(&[0; 2]),
-        "byte 0 is 0, so these are raw lists and no text\nlist 1 at byte 0: refused 1: list empty or over 256 words\n"
+        "byte 0 is 0, so these are raw lists and no text\nlist 1 at byte 0: refused 1: 0 words, and a list has 1 to 256\n"
     );
     let many = said(&b"a = 2\n".repeat(23));
     assert_eq!(many.lines().count(), 21);
-    assert!(many.starts_with("line 1: refused 2") && many.contains("\nline 20: refused 2") && many.ends_with("\nand 3 more\n"));
-    assert_eq!(said(b"a = 0\n\xff = 0\n"), "not a text\n");
-    assert_eq!(said(b"SGL\x01\0\0\0"), "is a sheet; a text or raw lists are tidied\n");
-    assert_eq!(said(b"SGL = 0 2\n"), "line 1: refused 3: date not above the last\n");
+    assert!(
+        many.starts_with("line 1, column 5: refused 2")
+            && many.contains("\nline 20, column 5: refused 2")
+            && many.ends_with("\nand 3 more\n")
+    );
+    assert_eq!(said(b"a = 0\n\xff = 0\n"), "line 2, column 1: byte 6 of the file, 0xff, is no UTF-8; save the text as UTF-8\n");
+    assert_eq!(said(b"\xfe\xff\0a"), "line 1, column 1: the file is in UTF-16; save the text as UTF-8\n");
+    assert_eq!(said(b"SGL\x01\0\0\0"), "is a sheet and no text; `sheet show` prints it as one\n");
+    assert_eq!(said(b"SGL = 0 2\n"), "line 1, column 9: refused 3: the word \"2\": its date is 0, and dates begin at 1\n");
     // too long: the file has a hole, so it takes no place
     fs::File::create(tool.dir.join("in")).unwrap().set_len((256 << 20) + 1).unwrap();
     assert_eq!(tool.refuses(&tool.dir.join("in")), "over 268435456 bytes, too long\n");
@@ -442,10 +461,8 @@ fn raw_lists_that_are_cut() {
         let (list, byte) = ends.iter().enumerate().rfind(|(_, &end)| end < cut).unwrap();
         let part = if cut == byte + 1 { "count" } else { "words" };
         // a file of a byte that is not 0 is a text
-        let raw = format!(
-            "byte 1 is 0, so these are raw lists and no text\nlist {} at byte {byte}: the file ends inside its {part}\n",
-            list + 1
-        );
-        assert_eq!(said, if cut == 1 { "line 1: neither `NAME = words` nor `NAME : changes`\n" } else { &raw });
+        let raw =
+            format!("byte 1 is 0, so these are raw lists and no text\nlist {} at byte {byte}: the file ends inside its {part}\n", list + 1);
+        assert_eq!(said, if cut == 1 { "line 1, column 1: \"\\u{3}\" is neither `NAME : changes` nor `NAME = words`\n" } else { &raw });
     }
 }

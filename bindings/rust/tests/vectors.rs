@@ -1,5 +1,8 @@
 // Document 01's cases, its examples of faults, and document 02's pulse timer, through the bindings.
-use rascrunel::{calls, Checker, End, Fault, Formula, List, Sheet, Verdict, M};
+use rascrunel::{
+    calls, Change, Checker, End, Fault, Formula, FormulaRefusal, List, NoFault, ParseVerdictError, Refusal, Sheet, SheetRefusal, Verdict, M,
+};
+use std::num::NonZeroU32;
 
 fn list(words: &[u32]) -> List {
     List::new(words).unwrap()
@@ -87,7 +90,7 @@ fn tables() {
     let b = list(&[1, 8, 15, 16]);
     for table in 0..16u32 {
         let mut out = [7; 256];
-        let n = calls::connective(table + 16 * table, &a.words(), &b.words(), &mut out).unwrap();
+        let n = calls::connective(table + 16 * table, a.words(), b.words(), &mut out).unwrap();
         let c = list(&out[..n]);
         for k in 0..6 {
             let p = a.value_in(k).unwrap() as u32;
@@ -163,7 +166,13 @@ fn a_full_sheet() {
     }
     assert_eq!(sheet.bytes().len(), rascrunel::SHEET_BYTES);
     assert_eq!(sheet.lookup("signal31").unwrap().words(), words);
-    assert_eq!(sheet.names().unwrap().len(), 32);
+    assert_eq!(sheet.names().unwrap(), (0..32).map(|i| format!("signal{i}")).collect::<Vec<_>>());
+    let mut signals = sheet.signals();
+    for left in (0..32).rev() {
+        assert!(signals.next().is_some());
+        assert_eq!((signals.len(), signals.size_hint()), (left, (left, Some(left))));
+    }
+    assert!(signals.next().is_none() && signals.len() == 0);
     assert_eq!(sheet.append("more", &[0]), Err(Fault::SheetSize));
 }
 
@@ -171,7 +180,7 @@ fn a_full_sheet() {
 fn formulas_and_claims() {
     let sheet = Sheet::new(PRINTED).unwrap();
     let mut checker = Checker::new();
-    let mut words = |text: &str| checker.evaluate(&sheet, &Formula::from(text)).map(|l| l.words().to_vec());
+    let mut words = |text: &str| checker.evaluate(&sheet, text).map(Vec::from).map_err(Fault::from);
     assert_eq!(words("a"), Ok(vec![0, 23, 36]));
     assert_eq!(words("TON(2,a)"), Ok(vec![0, 31, 36]));
     assert_eq!(words("TP(2,a)"), Ok(vec![0, 23, 28]));
@@ -190,7 +199,7 @@ fn formulas_and_claims() {
     assert_eq!(words(&["a"; 16].join("+")), Ok(vec![0, 23, 36]));
     assert_eq!(words("b"), Err(Fault::UnknownName));
     assert_eq!(words("0.TOF(1073741823,a)"), Err(Fault::ChangesAfterM));
-    let mut claim = |f: &str, g: &str| checker.claim(&sheet, &Formula::from(f), &Formula::from(g));
+    let mut claim = |f: &str, g: &str| checker.claim(&sheet, f, g).map_err(Fault::from);
     assert_eq!(claim("a", "TON(2,a)"), Ok(Verdict::FailsAt(5, End::Before(7))));
     assert_eq!(claim("TON(2,a)", "a"), Ok(Verdict::Holds));
     assert_eq!(claim("a", "TP(3,a)"), Ok(Verdict::FailsAt(8, End::Before(9))));
@@ -214,6 +223,94 @@ fn numbers_and_texts() {
         assert!(!fault.text().is_empty());
     }
     assert_eq!(Fault::of(0), None);
-    assert_eq!(Fault::of(20), None);
+    let none = Fault::try_from(0).unwrap_err();
+    for line in
+        ["refused 0", "refused 013", "refused +1", "refused", "refused ", "refused 4294967296", "refused 4: word", "13", "holds", ""]
+    {
+        assert_eq!(line.parse::<Fault>(), Err(none), "{line}");
+    }
+    // numbers that these bindings do not know
+    for n in [20, 65535, u32::MAX] {
+        let fault = Fault::of(n).unwrap();
+        assert_eq!((fault, fault.number(), u32::from(fault)), (Fault::Other(n), n, n));
+        assert_eq!(Fault::from(NonZeroU32::new(n).unwrap()), fault);
+        assert_eq!((Fault::try_from(n), format!("refused {n}").parse()), (Ok(fault), Ok(fault)));
+        assert!(fault.to_string().starts_with(&format!("refused {n}: ")));
+    }
     assert_eq!(Fault::Name.to_string(), "refused 16: name malformed or repeated");
+}
+
+#[test]
+fn changes_and_signals() {
+    let list = list(&[1, 5, 10, 15, 16]);
+    assert!(list.start());
+    let all = [(1, false, true), (2, true, false), (3, true, true), (4, false, false)].map(|(date, at, after)| Change { date, at, after });
+    assert_eq!(list.changes().collect::<Vec<_>>(), all);
+    assert_eq!((&list).into_iter().rev().collect::<Vec<_>>(), all.iter().rev().copied().collect::<Vec<_>>());
+    let mut changes = list.changes();
+    assert_eq!((changes.len(), changes.next(), changes.next_back(), changes.len()), (4, Some(all[0]), Some(all[3]), 2));
+    assert_eq!(List::new(&[0]).unwrap().changes().next(), None);
+    assert_eq!(List::try_from([0, 23].as_slice()).unwrap().as_ref(), [0, 23]);
+    assert_eq!(List::try_from(vec![0, 20]), Err(Fault::NoChange));
+    let sheet = Sheet::begin().unwrap().append("a", list.words()).unwrap().append("needle12", &[0]).unwrap();
+    let signals: Vec<(&str, List)> = sheet.signals().collect();
+    assert_eq!(signals, [("a", list), ("needle12", List::new(&[0]).unwrap())]);
+    assert_eq!(Sheet::begin().unwrap().signals().count(), 0);
+    assert_eq!(Sheet::try_from(sheet.as_ref()).unwrap(), sheet);
+    assert_eq!(Sheet::try_from(b"SGL".to_vec()).unwrap_err().fault, Fault::Mark);
+    assert_eq!(Vec::from(sheet.clone()), sheet.bytes());
+}
+
+#[test]
+fn verdicts_read_back() {
+    let ends = [End::At(7), End::Before(7), End::Never, End::At(u32::MAX)];
+    let fails =
+        ends.into_iter().flat_map(|end| [0, 5, M].into_iter().flat_map(move |k| [Verdict::FailsAt(k, end), Verdict::FailsAfter(k, end)]));
+    for verdict in fails.chain([Verdict::Holds]) {
+        let line = verdict.to_string();
+        assert_eq!(line.parse(), Ok(verdict), "{line}");
+        // no other line is read as a verdict: a byte less, one more, two blanks, needless zeros
+        for wrong in [line[1..].to_string(), format!("{line} "), format!(" {line}"), line.replacen(' ', "  ", 1)] {
+            assert!(wrong == line || wrong.parse::<Verdict>().is_err(), "{wrong}");
+        }
+    }
+    let wrong =
+        ["", "hold", "holds good", "fails", "fails at", "fails at 5", "fails at 5 until", "fails at 5 until before", "fails at 5 for"];
+    let wrong =
+        wrong.into_iter().chain(["fails at +5 for good", "fails at 05 until 7", "fails at 5 until 07", "fails at 4294967296 for good"]);
+    for line in wrong.chain(["fails at 5 until -7", "refused 13", "fails on 5 for good", "fails at 5 until before before 7", "Holds"]) {
+        assert!(line.parse::<Verdict>().is_err(), "{line}");
+    }
+}
+
+// What carries answers goes from thread to thread and is an error where it is one.
+#[test]
+fn threads_and_errors() {
+    fn shared<T: Send + Sync + std::fmt::Debug>() {}
+    fn error<T: std::error::Error + Clone + Eq + Send + Sync + 'static>() {}
+    shared::<(Checker, Sheet, List, Verdict, End, Formula, Change)>();
+    error::<Fault>();
+    error::<Refusal>();
+    error::<FormulaRefusal>();
+    error::<SheetRefusal>();
+    error::<ParseVerdictError>();
+    error::<NoFault>();
+    error::<calls::Stop>();
+}
+
+#[test]
+fn formulas_by_themselves() {
+    let formula: Formula = "SR(^left.TOF(500,^right),!left)+a1".parse().unwrap();
+    assert_eq!(formula.names(), ["left", "right", "left", "a1"]);
+    assert_eq!(Formula::try_from(formula.to_string()).as_ref(), Ok(&formula));
+    let text: &str = formula.as_ref();
+    assert_eq!((text, formula.as_str(), String::from(formula.clone())), (text, text, text.to_string()));
+    // taken where a text is
+    let sheet = Sheet::new(PRINTED).unwrap();
+    let a = Formula::new("a").unwrap();
+    assert_eq!(Checker::new().claim(&sheet, &a, String::from("a")), Ok(Verdict::Holds));
+    let faults = [("", 10), ("a+", 11), ("TON(1073741824,a)", 8), (&"!".repeat(17), 11), (&("!".repeat(17) + "a"), 12)];
+    for (text, number) in faults {
+        assert_eq!(Formula::try_from(text).unwrap_err().fault.number(), number, "{text}");
+    }
 }

@@ -21,7 +21,8 @@ use Rattle.grammar.specs.Grammar.{Writes, Sum, Product, Factor}
 use Rattle.texts.specs.Lengths as lengths
 use Rattle.grammar.specs.Reader.{run, next, bad, stepped, expect, put, passLength, valueBetween, prefixKind, starts, blockKind, blockBytes}
 use Rattle.grammar.specs.Reader.{blockAt, leafAt, timed, sumAt, sumsAt, productAt, productsAt, factorAt, latchAt, timerAt, readText}
-use Rattle.grammar.specs.Formula.{timedPart, nameAt, accepted, partsOf, depthOf, longestOf, formulaFault}
+use Rattle.grammar.specs.Formula.{accepted, partsOf, depthOf, longestOf, formulaFault}
+use Rattle.grammar.specs.PartWords.{timedPart, nameAt}
 use Rattle.grammar.proofs.Reading.{tree-of}
 use Rattle.grammar.specs.Parts.{parts}
 use Rattle.slices.specs.Bytes.{low16, low32, wordsIn}

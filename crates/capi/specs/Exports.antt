@@ -10,6 +10,7 @@ use Rattle.signals.specs.declared.Verdict.{Verdict}
 use Rattle.operations.specs.Calls.{faultOfOne, exactOfOne, faultOfTwo, exactOfTwo, faultOfDelay, exactOfDelay}
 use Rattle.signals.specs.Words.{tidied}
 use Rattle.tidying.specs.Calls.{tidyingFault}
+use Rattle.grammar.specs.Formula.{formulaFault, codeOf, codeAfter}
 use Rattle.format.specs.Calls.{appendFault, appended}
 use Rattle.stretches.specs.Stretches.{sumOfTicks}
 use Rattle.stretches.specs.Calls.{upTimeFor, stretchesOn, upTimeWords, upTimeFault}
@@ -42,6 +43,11 @@ ExportedUpTime sheet name H out r after =
     let fault = upTimeFault sheet name H (length out) in
     (r ≡ packUpTime (upTimeFor fault (length (upTimeWords sheet name H)) (sumOfTicks (stretchesOn sheet name H))))
     × (after ≡ outputOf fault (upTimeWords sheet name H) out)
+
+-- formula and code words at entry; the number; the code words at exit
+abbrev pub ExportedParts : List ℕ → List ℕ → ℕ → List ℕ → Type 0
+ExportedParts formula code r after =
+    (r ≡ packWritten (writtenOf (formulaFault formula) (codeOf formula))) × (after ≡ codeAfter formula code)
 
 -- sheet, formula, work area and output at entry; the number; output and work area at exit
 abbrev pub ExportedFormula : List ℕ → List ℕ → List ℕ → List ℕ → ℕ → List ℕ → List ℕ → Type 0

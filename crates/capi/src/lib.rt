@@ -8,9 +8,10 @@ ghost use Rattle.questions.specs.Questions.{valueAtOf, valueInOf, equalOf, impl
 ghost use Rattle.format.specs.Reading.{sheetFault};
 ghost use Rattle.format.specs.Writing.{sheetBytes};
 ghost use Rattle.format.specs.Calls.{beginFault, placeOf};
-ghost use Rattle.packing.specs.Packing.{packFault, packTold, packVerdict, packSpan, packPlace, tableIn};
+ghost use Rattle.packing.specs.Packing.{packFault, packTold, packVerdict, packSpan, packPlace, packStop, tableIn};
+ghost use Rattle.grammar.specs.Formula.{formulaFault, stopPlace};
 ghost use Rattle.capi.specs.Exports.{Exported, ExportedOne, ExportedTwo, ExportedDelay, ExportedTidying, ExportedAppend};
-ghost use Rattle.capi.specs.Exports.{ExportedUpTime, ExportedFormula, ExportedClaim, ExportedSpan};
+ghost use Rattle.capi.specs.Exports.{ExportedUpTime, ExportedParts, ExportedFormula, ExportedClaim, ExportedSpan};
 use signals::Length;
 
 // The fault of a list.
@@ -180,6 +181,23 @@ pub extern "C" fn sgl_uptime(sheet: &[u8], name: &[u8], h: u32, out: &mut [u32])
     ensures { λ r. ⌜ ExportedUpTime (now (sheet .entry)) (now (name .entry)) h (now (out .entry)) r (now (out .exit)) ⌝ }
 {
     packing::pack_uptime(uptimes::uptime(sheet, name, h, out))
+}
+
+// The fault of a formula, and how long a beginning of the text some formula begins with.
+#[no_mangle]
+pub extern "C" fn sgl_formula_fault(formula: &[u8]) -> u64
+    ensures { λ r. ⌜ r ≡ packStop (formulaFault (now (formula .entry))) (stopPlace (now (formula .entry))) ⌝ }
+{
+    let mut code = [0u64; 32];
+    packing::pack_stop(formulas::judge(formula, &mut code))
+}
+
+// The parts of a formula, as code words in working-out order.
+#[no_mangle]
+pub extern "C" fn sgl_formula_parts(formula: &[u8], code: &mut [u64; 32]) -> u32
+    ensures { λ r. ⌜ ExportedParts (now (formula .entry)) (now (code .entry)) r (now (code .exit)) ⌝ }
+{
+    packing::pack_written(formulas::read(formula, code))
 }
 
 // The list of a formula's signal on a sheet. Refused by check 18 or an earlier one it leaves the work area as it was; else that is free.

@@ -64,11 +64,14 @@ fn refused(read: Written) {
     }
 }
 
+// The parts of a text or its fault, and where reading it stops.
 fn read(text: &[u8]) {
     let mut code = [7u64; 32];
     let read = formulas::read(text, &mut code);
     parts(text, &code, count_of(read));
     refused(read);
+    io::write_all(1, b" at");
+    number(formulas::judge(text, &mut code).place as u64);
 }
 
 fn evaluated(sheet: &[u8], text: &[u8], work: &mut [u32], out: &mut [u32]) {

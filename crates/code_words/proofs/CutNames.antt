@@ -5,7 +5,7 @@ use mathlib.Core.Path.{_≡_, sym, _∙_}
 use mathlib.Core.List.{List, []}
 use lib.ListN.{length, take, drop, length-drop, drop-of-length-le}
 use lib.Seq.{take-all, take-nil}
-use Rattle.grammar.specs.Formula.{nameAt}
+use Rattle.grammar.specs.PartWords.{nameAt}
 
 pub name-none : (text : List ℕ) (place count : ℕ) → length text ≤ place → [] ≡ nameAt text place count
 unfolding nameAt

@@ -2,7 +2,7 @@
 // these, so that every call has an answer.
 ghost use mathlib.Core.Path.{_≡_};
 ghost use Prim.Native.Nat.{_/_, _%_};
-ghost use Rattle.grammar.specs.Formula.{nameAt};
+ghost use Rattle.grammar.specs.PartWords.{nameAt};
 ghost use Rattle.code_words.specs.CodeWords.{constantOf, leafSource, operandsOf};
 use marks::kind;
 use sources::Memory;

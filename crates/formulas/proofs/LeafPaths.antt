@@ -9,16 +9,18 @@ use lib.Dec.{leb, eqb}
 use lib.ListN.{length, drop, length-drop}
 use borrow.Author.Tests.{eqb-true, lt-ltb, le-ltb}
 use Rattle.names.specs.Names.{letter, nameByte}
-use Rattle.grammar.specs.Reader.{run, bad, stepped, put, leafAt}
+use Rattle.grammar.specs.Reader.{run, bad, stepped, put, astray, leafAt}
 use Rattle.grammar.specs.Formula.{coded, nameWord}
 use Rattle.marks.specs.Marks.{Mark, markOf, nextMark}
+use Rattle.openings.specs.Opening.{reachMark}
 use Rattle.tokens.specs.Tokens.{leafEnd, leafWord}
 use Rattle.marks.proofs.Marking.{inside}
-use Rattle.tokens.proofs.Runs.{run-some, run-most, none-at-0}
-use Rattle.moves.specs.Moves.{failed, putCode, leafWords, leafCode}
+use Rattle.tokens.proofs.Runs.{letter-name, run-some, run-most, none-at-0}
+use Rattle.moves.proofs.Stepping.{stray-fits}
+use Rattle.moves.specs.Moves.{strayed, putCode, leafWords, leafCode}
 use Rattle.formulas.specs.Readers.{viewOf, Ready, Done}
 use Rattle.grammar.proofs.Bytes.{by-cond}
-use Rattle.formulas.proofs.MarkSteps.{badMark, movedMark, putMark, moved-leaves, failed-leaves, put-leaves}
+use Rattle.formulas.proofs.MarkSteps.{movedMark, putMark, strayMark, moved-leaves, stray-leaves, put-leaves}
 use Rattle.formulas.proofs.Doing.{view-next, kept, starting, moving-by, putting, becoming, turned}
 
 abbrev pub LeafRead : List ℕ → ℕ → Mark → List ℕ → List ℕ → Mark → Type 0
@@ -27,11 +29,6 @@ LeafRead text deep m old new r = Done (λ n. leafAt coded text deep) 0 text m ol
 -- the letters and digits from the mark on
 abbrev count : List ℕ → Mark → ℕ
 count text m = run nameByte (drop (m .at) text)
-
--- a letter begins a name
-letter-name : (b : ℕ) → letter b ≡ true → nameByte b ≡ true
-unfolding nameByte
-letter-name b e = rw e refl
 
 -- a constant or name has a byte, and ends in the text
 record Leaf (text : List ℕ) (m : Mark) (n : ℕ) : Type 0 where
@@ -86,14 +83,14 @@ module _ (text : List ℕ) (m : Mark) (deep : ℕ) (out : List ℕ) where
       go false p false e true f false k pos = let z : 0 < 0 = rw (p, e, f, k) at pos in absurd (omega arith)
       go false p false e false f s k pos = let z : 0 < 0 = rw (p, e, f) at pos in absurd (omega arith)
 
-  leaf-none : leafEnd text m ≤ 0 → leafAt coded text deep (viewOf m out) ≡ bad (viewOf m out)
+  leaf-none : leafEnd text m ≤ 0 → leafAt coded text deep (viewOf m out) ≡ astray text (viewOf m out)
   unfolding leafAt leafEnd
   leaf-none h =
       go (eqb (nextMark text m) 48) refl (eqb (nextMark text m) 49) refl (letter (nextMark text m)) refl (leb (count text m) 8) refl h
     where
       go : (p : Bool) → eqb (nextMark text m) 48 ≡ p → (q : Bool) → eqb (nextMark text m) 49 ≡ q → (r : Bool) →
           letter (nextMark text m) ≡ r →
-          (s : Bool) → leb (count text m) 8 ≡ s → leafEnd text m ≤ 0 → leafAt coded text deep (viewOf m out) ≡ bad (viewOf m out)
+          (s : Bool) → leb (count text m) 8 ≡ s → leafEnd text m ≤ 0 → leafAt coded text deep (viewOf m out) ≡ astray text (viewOf m out)
       go true p q e r f s k none = let z : m .at + 1 ≤ 0 = rw p at none in absurd (omega arith)
       go false p true e r f s k none = let z : m .at + 1 ≤ 0 = rw (p, e) at none in absurd (omega arith)
       go false p false e true f true k none =
@@ -127,14 +124,14 @@ module _ (text old : List ℕ) (m : Mark) (deep : ℕ) (g : Ready text old m dee
         (becoming d (λ n out.
         leaf-put text m deep out h ∙ ap (λ (v : ℕ). put v deep 0 (stepped (leafEnd text m - m .at) (viewOf m out))) (sym e)))
 
-  bad-path : leafEnd text m ≤ 0 → (r : Mark) → r ≡ badMark m → LeafRead text deep m old old r
-  unfolding bad
+  bad-path : leafEnd text m ≤ 0 → (r : Mark) → r ≡ strayMark text m → LeafRead text deep m old old r
+  unfolding astray reachMark stepped bad
   bad-path h r q =
       turned refl q
-      (becoming {G = λ n s. bad s} (record {
-        same = λ n h s v. kept bad refl (λ out. refl) v;
+      (becoming {G = λ n s. astray text s} (record {
+        same = λ n h s v. kept (astray text) refl (λ out. refl) v;
         room = g .room;
-        within = g .within;
+        within = omega (arith, g .within, stray-fits text m h);
         on = omega arith;
         few = omega arith;
       })
@@ -155,6 +152,6 @@ leaf-leaves m {text} {old} {new} {r} {deep} h g q = go (decLt 0 (leafEnd text (m
     go (no none) =
         let k : leafEnd text (markOf m) ≤ 0 = omega (arith, none) in
         let e = le-ltb 0 (leafEnd text (markOf m)) k in
-        let p = failed-leaves m h in
-        let rq : r ≡ failed m = rw e at (q .0) in
+        let p = stray-leaves text m h in
+        let rq : r ≡ strayed text m = rw e at (q .0) in
         (ap length rq ∙ p .0, turned (rw e at (q .1)) refl (bad-path text old (markOf m) deep g k (markOf r) (ap markOf rq ∙ p .1)))

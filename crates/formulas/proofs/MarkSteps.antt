@@ -3,17 +3,17 @@ use Prim.Native.Nat.{ℕ, _+_, _≤_, _<_, max}
 use native.Mathlib.Nat.{add-zero}
 use native.Mathlib.Omega.{arith}
 use native.Mathlib.Decide.{decLt}
-use mathlib.Core.Path.{_≡_, refl, sym, _∙_}
+use mathlib.Core.Path.{_≡_, refl, sym, ap, _∙_}
 use mathlib.Core.Bool.{Bool, true, false, cond, and-true}
 use mathlib.Core.List.{List, [], _∷_}
 use lib.Dec.{ltb, eqb}
 use lib.ListN.{length}
 use borrow.Author.Tests.{lt-ltb, le-ltb}
 use Rattle.marks.specs.Marks.{Mark, markOf, nextMark}
-use Rattle.openings.specs.Opening.{openKind, openBytes}
+use Rattle.openings.specs.Opening.{openKind, openBytes, reachMark}
 use Rattle.tokens.specs.Tokens.{lengthEnd}
 use Rattle.openings.proofs.Openings.{none-bytes}
-use Rattle.moves.specs.Moves.{failed, movedTo, begun, isNext, passed, expected, lengthPassed, isCounted, putWords}
+use Rattle.moves.specs.Moves.{failed, movedTo, strayed, begun, isNext, passed, expected, lengthPassed, isCounted, putWords}
 
 -- the words of a mark
 abbrev pub Marked : List ℕ → Mark → Type 0
@@ -58,6 +58,24 @@ moved-leaves m to h = five (λ (x : List ℕ). Marked (movedTo x to) (movedMark 
 pub failed-leaves : (m : List ℕ) → length m ≡ 5 → Marked (failed m) (badMark (markOf m))
 unfolding markOf
 failed-leaves m h = five (λ (x : List ℕ). Marked (failed x) (badMark (markOf x))) (λ a b c d e. (refl, refl)) m h
+
+-- where no factor stands
+abbrev pub strayMark : List ℕ → Mark → Mark
+strayMark text m = badMark (movedMark m (m .at + reachMark text m))
+
+pub stray-leaves : (text m : List ℕ) → length m ≡ 5 → Marked (strayed text m) (strayMark text (markOf m))
+unfolding strayed
+stray-leaves text m h = go (reachMark text (markOf m)) (decLt 0 (reachMark text (markOf m)))
+  where
+    go : (k : ℕ) → Dec (0 < k) →
+        Marked (failed (cond (ltb 0 k) (movedTo m (markOf m .at + k)) m)) (badMark (movedMark (markOf m) (markOf m .at + k)))
+    go k (yes some) =
+        let x = moved-leaves m (markOf m .at + k) h in
+        let p = failed-leaves (movedTo m (markOf m .at + k)) (x .0) in
+        rw (lt-ltb 0 k some) (p .0, p .1 ∙ ap badMark (x .1))
+    go k (no none) =
+        let k-none : k ≡ 0 = omega (arith, none) in
+        rw (k-none, add-zero (markOf m .at)) (failed-leaves m h)
 
 -- a mark that is moved or made bad
 either-leaves : (t : Bool) (m : List ℕ) (to : ℕ) → length m ≡ 5 →

@@ -14,10 +14,16 @@ use Rattle.slices.specs.Slices.{putAt}
 use Rattle.signals.specs.Moment.{M}
 use Rattle.signals.specs.Answers.{writtenOf}
 use Rattle.signals.specs.declared.Written.the-variants as written
-use Rattle.grammar.specs.Reader.{State, start, readText}
+use Rattle.grammar.specs.Reader.{State, start, readText, next, bad, stepped, prefixKind, starts, shared, blockKind, blockAt}
+use Rattle.grammar.specs.Reader.{reach, astray, leafAt, sumAt}
+use Rattle.names.specs.Names.{letter}
+use Rattle.grammar.specs.declared.Stop.{Stop}
 use Rattle.texts.specs.Lengths.{capped}
-use Rattle.grammar.specs.Formula.{spelled, coded, partOf, accepted, partsOf, depthOf, longestOf, formulaFault, codeOf, codeAfter}
+use Rattle.grammar.specs.Formula.{spelled, coded, accepted, partsOf, depthOf, longestOf, formulaFault, stopOf, stopPlace}
+use Rattle.grammar.specs.PartWords.{partOf}
+use Rattle.grammar.specs.Formula.{codeOf, codeAfter}
 use Rattle.marks.specs.Marks.{Mark, markOf, markFault, lent}
+use Rattle.formulas.specs.Calls.{CallOfRead, CallOfJudge}
 use Rattle.formulas.specs.Readers.{Shows, Ready, SumRead, Begun}
 use Rattle.grammar.proofs.Coding.{coded-run, cutPart}
 use Rattle.marks.proofs.Marking.{lent-most}
@@ -81,16 +87,40 @@ pub long-is : (text : List ℕ) → (length text ≡ 0 → ⊥) → 1024 < lengt
 unfolding formulaFault
 long-is text e h = rw (ne-eqb (length text) 0 e, lt-ltb 1024 (length text) h) refl
 
--- what a call answers and leaves, by the fault
-pub refused-is : (text code : List ℕ) (f : ℕ) → formulaFault text ≡ f → (f ≡ 0 → ⊥) →
-    (written.Refused f ≡ writtenOf (formulaFault text) (codeOf text)) × (code ≡ codeAfter text code)
-unfolding writtenOf codeAfter
-refused-is text code f e h = rw (e, ne-eqb f 0 h) (refl, refl)
+-- reading stops at once in a text of no bytes, and one of over 1,024 is not read
+pub empty-stops : (text : List ℕ) → length text ≡ 0 → 0 ≡ stopPlace text
+unfolding stopPlace stopOf readText sumAt leafAt astray reach stepped bad next prefixKind starts blockKind blockAt letter shared
+empty-stops [] e = refl
+empty-stops (b ∷ text) e = absurd (omega arith)
 
-pub written-is : (text code after : List ℕ) (n : ℕ) → formulaFault text ≡ 0 → n ≡ length (codeOf text) → after ≡ sets code 0 (codeOf text) →
-    (written.Count n ≡ writtenOf (formulaFault text) (codeOf text)) × (after ≡ codeAfter text code)
-unfolding writtenOf codeAfter
-written-is text code after n e c a = rw e (ap written.Count c, a)
+pub long-stops : (text : List ℕ) → 1024 < length text → 0 ≡ stopPlace text
+unfolding stopPlace
+long-stops text h = rw (lt-ltb 1024 (length text) h) refl
+
+-- what a call answers and leaves, by the fault
+pub refused-is : (text code : List ℕ) (f place : ℕ) → formulaFault text ≡ f → (f ≡ 0 → ⊥) → place ≡ stopPlace text →
+    CallOfJudge text code (record { fault = f; place = place; parts = 0 }) code
+unfolding codeAfter
+refused-is text code f place e h p = rw (e, ne-eqb f 0 h) (refl, p, refl, refl)
+
+pub written-is : (text code after : List ℕ) (place n : ℕ) → formulaFault text ≡ 0 → place ≡ stopPlace text → n ≡ length (codeOf text) →
+    after ≡ sets code 0 (codeOf text) → CallOfJudge text code (record { fault = 0; place = place; parts = n }) after
+unfolding codeAfter
+written-is text code after place n e p c a = rw e (refl, p, c, a)
+
+-- what reading answers, by what judging does
+pub count-is : (text code : List ℕ) (r : Stop) (after : List ℕ) → CallOfJudge text code r after → r .fault ≡ 0 →
+    CallOfRead text code (written.Count (r .parts)) after
+unfolding writtenOf
+count-is text code r after j e =
+    let q : formulaFault text ≡ 0 = sym (j .0) ∙ e in
+    let n : r .parts ≡ length (codeOf text) = rw q at (j .2) in
+    (rw q (ap written.Count n), j .3)
+
+pub fault-told : (text code : List ℕ) (r : Stop) (after : List ℕ) → CallOfJudge text code r after → (r .fault ≡ 0 → ⊥) →
+    CallOfRead text code (written.Refused (r .fault)) after
+unfolding writtenOf
+fault-told text code r after j h = (rw (← j .0, ne-eqb (r .fault) 0 h) refl, j .3)
 
 -- a text without a fault has few parts
 pub few-words : (m : Mark) (bytes : ℕ) → markFault m bytes ≡ 0 → m .parts ≤ 32
@@ -142,6 +172,10 @@ module _ (text old new : List ℕ) (m : Mark) (d : SumRead text 0 first old new 
   same-count =
       sym (length-map (partsOf text) cutPart) ∙ ap length (sym (coded-run text .out)) ∙ length-map (codeOf text) (partOf text)
       ∙ words-length
+
+  pub place-is : length text ≤ 1024 → m .at ≡ stopPlace text
+  unfolding stopPlace stopOf
+  place-is short = rw (le-ltb 1024 (length text) short) (sym same-at)
 
   pub fault-is : (length text ≡ 0 → ⊥) → length text ≤ 1024 → formulaFault text ≡ markFault m (length text)
   unfolding formulaFault accepted markFault

@@ -8,9 +8,9 @@ use lib.ListN.{length, drop}
 use borrow.Author.Tests.{leb-true}
 use Rattle.names.specs.Names.{digit, letter, nameByte}
 use Rattle.grammar.specs.Kinds as kinds
-use Rattle.grammar.specs.Formula.{Kind, plainKinds, isTimer}
+use Rattle.grammar.specs.PartWords.{Kind, plainKinds, isTimer}
 use Rattle.grammar.specs.Reader.{State, Emission, run, next, bad, stepped, expect, put, passLength, valueBetween, prefixKind}
-use Rattle.grammar.specs.Reader.{blockBytes, blockAt, leafAt, timed, sumAt, sumsAt, productAt, productsAt, factorAt}
+use Rattle.grammar.specs.Reader.{blockBytes, blockAt, astray, leafAt, timed, sumAt, sumsAt, productAt, productsAt, factorAt}
 use Rattle.grammar.specs.Reader.{latchAt, timerAt, readText, start}
 use Rattle.grammar.proofs.Bytes.{never, by-cond, by-block}
 use Rattle.grammar.proofs.Standing.{state-eq}
@@ -62,7 +62,7 @@ module _ {X Y : Type 0} (E : Emission X) (E2 : Emission Y) (f : X → Y) (g : �
   plain-same k deep e s s2 q = put-same (E .plain k) deep 0 s ∙ rw (c .plain k e, c .none, q) refl
 
   leaf-same : (deep : ℕ) (s : State X) → carried (leafAt E text deep s) ≡ leafAt E2 text deep (carried s)
-  unfolding leafAt next stepped bad
+  unfolding leafAt astray next stepped bad
   leaf-same deep s =
       both-ways carried (eqb (next text s) 48) (λ e. plain-same kinds.DOWN deep refl (stepped 1 s) (stepped 1 (carried s)) refl)
       (λ e. both-ways carried (eqb (next text s) 49) (λ e. plain-same kinds.UP deep refl (stepped 1 s) (stepped 1 (carried s)) refl)

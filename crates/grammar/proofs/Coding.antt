@@ -16,8 +16,10 @@ use Rattle.grammar.specs.Code.{Part, operand, one, two, code, longest, t
 use Rattle.grammar.specs.Kinds as kinds
 use Rattle.grammar.specs.Reader.{State, Emission, readText}
 use Rattle.texts.specs.Lengths.{capped}
-use Rattle.grammar.specs.Formula.{Kind, plainKinds, partIn, plainPart, isTimer, timedPart, nameAt, nameWord, timerWord}
-use Rattle.grammar.specs.Formula.{spelled, coded, partOf, accepted, formulaTree, partsOf, codeOf}
+use Rattle.grammar.specs.Formula.{nameWord, timerWord}
+use Rattle.grammar.specs.PartWords.{Kind, plainKinds, partIn, plainPart, isTimer, timedPart, nameAt}
+use Rattle.grammar.specs.Formula.{spelled, coded, accepted, formulaTree, partsOf, codeOf}
+use Rattle.grammar.specs.PartWords.{partOf}
 use Rattle.grammar.specs.Exactness.{CodeExact, AcceptedCode, Breaks11, Breaks12}
 use Rattle.grammar.specs.Grammar.{Sum}
 use Rattle.signals.proofs.Truth.{and-left, and-right}

@@ -18,7 +18,8 @@ use Rattle.grammar.specs.Grammar.{Sum, Product, Factor}
 use Rattle.grammar.specs.Kinds as kinds
 use Rattle.grammar.specs.Reader.{State, stepped, put, passLength, valueBetween, prefixKind, starts, blockKind, blockBytes, leafAt}
 use Rattle.grammar.specs.Reader.{timed, sumAt, sumsAt, productAt, productsAt, factorAt, latchAt, timerAt}
-use Rattle.grammar.specs.Formula.{plainPart, timedPart, nameAt, spelled}
+use Rattle.grammar.specs.Formula.{spelled}
+use Rattle.grammar.specs.PartWords.{plainPart, timedPart, nameAt}
 use Rattle.signals.proofs.Truth.{and-left, and-right}
 use Rattle.grammar.proofs.Bytes.{never, run-all, lower-not}
 use Rattle.grammar.proofs.Standing.{state-eq, At, next-of, step-at, steps-at, block-of, expect-at, after, after-at}
@@ -280,14 +281,15 @@ module _ (text : List ℕ) where
       (clocked kind (value w) o p tk w v t d deep s)
 
   -- a word that begins a block of the kind
-  record Word (word : List ℕ) (kind : ℕ) : Type 0 where
-    some : 0 < kind
-    long : 3 ≤ length word
-    bytes : blockBytes kind ≡ length word
-    begins : (l : List ℕ) → (prefixKind (getD (word ++ l) 0 0) ≡ 0) × (eqb (getD (word ++ l) 0 0) 40 ≡ false) ×
+  pub record Word (word : List ℕ) (kind : ℕ) : Type 0 where
+    pub some : 0 < kind
+    pub long : 3 ≤ length word
+    pub bytes : blockBytes kind ≡ length word
+    pub begins : (l : List ℕ) → (prefixKind (getD (word ++ l) 0 0) ≡ 0) × (eqb (getD (word ++ l) 0 0) 40 ≡ false) ×
         (blockKind (word ++ l) ≡ kind)
 
-  word-next : {word : List ℕ} {kind : ℕ} → Word word kind → (s : State Part) (l : List ℕ) → At text s (word ++ l) → BlockNext text s kind
+  pub word-next : {word : List ℕ} {kind : ℕ} → Word word kind → (s : State Part) (l : List ℕ) → At text s (word ++ l) →
+      BlockNext text s kind
   word-next c s l a =
       let b = c .begins l in
       record {
@@ -301,7 +303,7 @@ module _ (text : List ℕ) where
   grouped : (word w v l : List ℕ) → (word ++ (w ++ (44 ∷ (v ++ (41 ∷ []))))) ++ l ≡ word ++ (w ++ (44 ∷ (v ++ (41 ∷ l))))
   grouped word w v l = append-assoc word (w ++ (44 ∷ (v ++ (41 ∷ [])))) l ∙ ap (λ (x : List ℕ). word ++ x) (regroup w v l)
 
-  latch-word : (word : List ℕ) (kind : ℕ) (o : Binary) → Word word kind → kinds.AND ≤ kind → plainPart kind ≡ two o →
+  pub latch-word : (word : List ℕ) (kind : ℕ) (o : Binary) → Word word kind → kinds.AND ≤ kind → plainPart kind ≡ two o →
       (w v : List ℕ) (t u : Tree) (d e : ℕ) →
       ReadsWhole w t d → ReadsWhole v u e → ReadsFactor (word ++ (w ++ (44 ∷ (v ++ (41 ∷ []))))) (binary o t u) (max d e + 1)
   latch-word word kind o c high p w v t u d e r q zero deep s l y f h = absurd (omega arith)
@@ -314,7 +316,7 @@ module _ (text : List ℕ) where
       ∙ latch-reads kind o p w v t u d e r q n deep (stepped (length word) s) l (steps-at word y2) (omega (arith, c .long))
       ∙ worded word (w ++ (44 ∷ (v ++ (41 ∷ [])))) (binary o t u) (max d e + 1) deep s
 
-  timer-word : (word : List ℕ) (kind : ℕ) (o : ℕ → Unary) → Word word kind → kind < kinds.AND →
+  pub timer-word : (word : List ℕ) (kind : ℕ) (o : ℕ → Unary) → Word word kind → kind < kinds.AND →
       ((k : ℕ) → timedPart kind k ≡ one (o k)) → ((k : ℕ) → ticksOf (o k) ≡ k) →
       (w v : List ℕ) (t : Tree) (d : ℕ) → isLength w ≡ true → ReadsWhole v t d →
       ReadsFactor (word ++ (w ++ (44 ∷ (v ++ (41 ∷ []))))) (unary (o (value w)) t) (d + 1)
@@ -329,23 +331,23 @@ module _ (text : List ℕ) where
       (omega (arith, c .long))
       ∙ worded word (w ++ (44 ∷ (v ++ (41 ∷ [])))) (unary (o (value w)) t) (d + 1) deep s
 
-  sr-word : Word (83 ∷ 82 ∷ 40 ∷ []) kinds.SR
+  pub sr-word : Word (83 ∷ 82 ∷ 40 ∷ []) kinds.SR
   unfolding prefixKind starts blockKind blockBytes
   sr-word = record { some = omega arith; long = omega arith; bytes = refl; begins = λ l. (refl, refl, refl) }
 
-  rs-word : Word (82 ∷ 83 ∷ 40 ∷ []) kinds.RS
+  pub rs-word : Word (82 ∷ 83 ∷ 40 ∷ []) kinds.RS
   unfolding prefixKind starts blockKind blockBytes
   rs-word = record { some = omega arith; long = omega arith; bytes = refl; begins = λ l. (refl, refl, refl) }
 
-  ton-word : Word (84 ∷ 79 ∷ 78 ∷ 40 ∷ []) kinds.TON
+  pub ton-word : Word (84 ∷ 79 ∷ 78 ∷ 40 ∷ []) kinds.TON
   unfolding prefixKind starts blockKind blockBytes
   ton-word = record { some = omega arith; long = omega arith; bytes = refl; begins = λ l. (refl, refl, refl) }
 
-  tof-word : Word (84 ∷ 79 ∷ 70 ∷ 40 ∷ []) kinds.TOF
+  pub tof-word : Word (84 ∷ 79 ∷ 70 ∷ 40 ∷ []) kinds.TOF
   unfolding prefixKind starts blockKind blockBytes
   tof-word = record { some = omega arith; long = omega arith; bytes = refl; begins = λ l. (refl, refl, refl) }
 
-  tp-word : Word (84 ∷ 80 ∷ 40 ∷ []) kinds.TP
+  pub tp-word : Word (84 ∷ 80 ∷ 40 ∷ []) kinds.TP
   unfolding prefixKind starts blockKind blockBytes
   tp-word = record { some = omega arith; long = omega arith; bytes = refl; begins = λ l. (refl, refl, refl) }
 

@@ -14,7 +14,8 @@ use Rattle.grammar.specs.Code.{Part, longest, operand, one, ticksOf}
 use Rattle.texts.specs.Lengths.{isLength, value}
 use Rattle.grammar.specs.Grammar.{Sum}
 use Rattle.grammar.specs.Reader.{State, next, bad, expect, put}
-use Rattle.grammar.specs.Formula.{timedPart, spelled}
+use Rattle.grammar.specs.Formula.{spelled}
+use Rattle.grammar.specs.PartWords.{timedPart}
 use Rattle.grammar.proofs.Bytes.{never, by-cond}
 use Rattle.grammar.proofs.Standing.{At, after}
 use Rattle.grammar.proofs.Branches.{Chain}

@@ -10,7 +10,8 @@ use Rattle.grammar.specs.Code.{Part, operand, two}
 use Rattle.texts.specs.Lengths.{value}
 use Rattle.grammar.specs.Grammar.{Sum}
 use Rattle.grammar.specs.Reader.{State, stepped, expect, put, valueBetween, timed}
-use Rattle.grammar.specs.Formula.{plainPart, spelled}
+use Rattle.grammar.specs.Formula.{spelled}
+use Rattle.grammar.specs.PartWords.{plainPart}
 use Rattle.grammar.proofs.Standing.{At, step-at, steps-at, expect-at, after, after-at}
 use Rattle.grammar.proofs.Steps.{latched, clocked, regroup}
 use Rattle.grammar.proofs.Found.{same-left, Found, LatchFound, TimerFound}

@@ -13,8 +13,9 @@ use Rattle.grammar.specs.Code.{Part, code, longest, operand, one}
 use Rattle.names.specs.Names.{digit, allOf, letter, nameByte, wellNamed}
 use Rattle.texts.specs.Lengths.{isLength}
 use Rattle.grammar.specs.Grammar.{Factor}
-use Rattle.grammar.specs.Reader.{State, run, next, bad, stepped, put, passLength, leafAt}
-use Rattle.grammar.specs.Formula.{nameAt, spelled}
+use Rattle.grammar.specs.Reader.{State, run, next, bad, stepped, put, passLength, astray, leafAt}
+use Rattle.grammar.specs.Formula.{spelled}
+use Rattle.grammar.specs.PartWords.{nameAt}
 use Rattle.signals.proofs.Truth.{and-left}
 use Rattle.grammar.proofs.Bytes.{never, by-cond}
 use Rattle.grammar.proofs.Standing.{state-eq, At, after}
@@ -109,7 +110,7 @@ module _ (text : List ℕ) where
       }
 
   pub leaf-step : (deep : ℕ) (s : State Part) → Finds text Factor deep s (leafAt (spelled text) text deep s)
-  unfolding leafAt bad
+  unfolding leafAt astray bad
   leaf-step deep s =
       by-cond (Finds text Factor deep s) (eqb (next text s) 48)
       (λ e h.

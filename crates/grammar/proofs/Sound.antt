@@ -15,7 +15,8 @@ use Rattle.grammar.specs.Grammar.{Sum, Product, Factor}
 use Rattle.grammar.specs.Kinds as kinds
 use Rattle.grammar.specs.Reader.{State, next, bad, stepped, expect, put, passLength, valueBetween, prefixKind, starts}
 use Rattle.grammar.specs.Reader.{blockBytes, blockAt, timed, sumAt, sumsAt, productAt, productsAt, factorAt, latchAt, timerAt}
-use Rattle.grammar.specs.Formula.{plainPart, timedPart, spelled}
+use Rattle.grammar.specs.Formula.{spelled}
+use Rattle.grammar.specs.PartWords.{plainPart, timedPart}
 use Rattle.grammar.proofs.Bytes.{never, by-cond, by-block}
 use Rattle.grammar.proofs.Standing.{At, step-at, word-at, expect-at, after, after-at}
 use Rattle.grammar.proofs.Steps.{joined, prefixed, bracketed, worded}

@@ -7,7 +7,7 @@ use lib.ListN.{length, length-append}
 use Rattle.grammar.specs.Tree.{Tree, Unary, Binary, unary, binary}
 use Rattle.grammar.specs.Code.{Part, code, longest, one, two, ticksOf}
 use Rattle.grammar.specs.Reader.{State, stepped, put}
-use Rattle.grammar.specs.Formula.{plainPart, timedPart}
+use Rattle.grammar.specs.PartWords.{plainPart, timedPart}
 use Rattle.grammar.proofs.Standing.{state-eq, after}
 
 -- two operands and their operator

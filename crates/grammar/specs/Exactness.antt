@@ -11,7 +11,8 @@ use Rattle.grammar.specs.Tree.{Tree, Leaf, Unary, Binary, leaf, unary, b
 use Rattle.grammar.specs.Code.{code}
 use Rattle.names.specs.Names.{wellNamed}
 use Rattle.grammar.specs.Grammar.{Sum}
-use Rattle.grammar.specs.Formula.{accepted, formulaTree, depthOf, partsOf, formulaFault, partOf, codeOf}
+use Rattle.grammar.specs.Formula.{accepted, formulaTree, depthOf, partsOf, formulaFault, codeOf}
+use Rattle.grammar.specs.PartWords.{partOf}
 
 -- The reader accepts exactly the bytes that the grammar derives, with that tree and depth.
 abbrev pub ReaderExact : Type 0

@@ -1,4 +1,4 @@
--- Mirrored: The kinds of parts: the low four bits of a code word. Tied to what is believed by `AcceptedCode`.
+-- Believed: The kinds of parts: the low four bits of a code word, as `sgl_formula_parts` gives them.
 use Prim.Native.Nat.{ℕ}
 
 -- 0 and 1

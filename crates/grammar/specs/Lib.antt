@@ -4,6 +4,7 @@ pub mod Grammar
 pub mod Code
 pub mod Parts
 pub mod Kinds
+pub mod PartWords
 pub mod Reader
 pub mod Formula
 pub mod Exactness

@@ -1,4 +1,5 @@
--- Mirrored: A reader that computes: sum, product and factor readers by fuel. Tied to what is believed by `ReaderExact`.
+-- Mirrored: A reader that computes: sum, product and factor readers by fuel. Tied to what is believed by `ReaderExact` and, where it
+-- stops, by `StopsExact`.
 use Prim.Native.Nat.{ℕ, zero, suc, _+_, _*_, _-_, max}
 use mathlib.Core.Bool.{Bool, true, false, cond, _&&_, _||_}
 use mathlib.Core.List.{List, [], _∷_, _++_}
@@ -69,17 +70,50 @@ unfoldable pub starts : List ℕ → List ℕ → Bool
 starts [] l = true
 starts (b ∷ w) l = eqb (getD l 0 0) b && starts w (drop 1 l)
 
--- the kind of the block that bytes begin, by its word and bracket: SR( RS( TON( TOF( TP(; 0 for none
+-- the word and bracket of each block: SR( RS( TON( TOF( TP(
+abbrev pub SR-WORD : List ℕ
+SR-WORD = 83 ∷ 82 ∷ 40 ∷ []
+
+abbrev pub RS-WORD : List ℕ
+RS-WORD = 82 ∷ 83 ∷ 40 ∷ []
+
+abbrev pub TON-WORD : List ℕ
+TON-WORD = 84 ∷ 79 ∷ 78 ∷ 40 ∷ []
+
+abbrev pub TOF-WORD : List ℕ
+TOF-WORD = 84 ∷ 79 ∷ 70 ∷ 40 ∷ []
+
+abbrev pub TP-WORD : List ℕ
+TP-WORD = 84 ∷ 80 ∷ 40 ∷ []
+
+-- the kind of the block that bytes begin, by its word and bracket; 0 for none
 unfoldable pub blockKind : List ℕ → ℕ
 blockKind l =
-    cond (starts (83 ∷ 82 ∷ 40 ∷ []) l) kinds.SR
-    (cond (starts (82 ∷ 83 ∷ 40 ∷ []) l) kinds.RS
-    (cond (starts (84 ∷ 79 ∷ 78 ∷ 40 ∷ []) l) kinds.TON
-    (cond (starts (84 ∷ 79 ∷ 70 ∷ 40 ∷ []) l) kinds.TOF (cond (starts (84 ∷ 80 ∷ 40 ∷ []) l) kinds.TP 0))))
+    cond (starts SR-WORD l) kinds.SR
+    (cond (starts RS-WORD l) kinds.RS
+    (cond (starts TON-WORD l) kinds.TON (cond (starts TOF-WORD l) kinds.TOF (cond (starts TP-WORD l) kinds.TP 0))))
 
 -- how many bytes the word and bracket of a block have, by its kind: those of TON and TOF have four
 unfoldable pub blockBytes : ℕ → ℕ
 blockBytes kind = cond (eqb kind kinds.TON || eqb kind kinds.TOF) 4 3
+
+-- how many bytes of a word, none of which is 0, bytes begin with
+unfoldable pub shared : List ℕ → List ℕ → ℕ
+shared [] l = 0
+shared (b ∷ w) l = cond (eqb (getD l 0 0) b) (suc (shared w (drop 1 l))) 0
+
+-- how many bytes are there of a block's word and bracket
+abbrev pub wordReach : List ℕ → ℕ
+wordReach l =
+    max (shared SR-WORD l) (max (shared RS-WORD l) (max (shared TON-WORD l) (max (shared TOF-WORD l) (shared TP-WORD l))))
+
+-- where no factor stands, how many bytes are there of one: 8 of a name that is too long, else those of a block's word and bracket
+unfoldable pub reach : List ℕ → ℕ
+reach l = cond (letter (getD l 0 0)) 8 (wordReach l)
+
+-- reading stops where no factor stands: after what is there of one
+unfoldable pub astray : {X : Type 0} → List ℕ → State X → State X
+astray text s = bad (stepped (cond (s .ok) (reach (drop (s .at) text)) 0) s)
 
 -- the kind of the block that is next; 0 for none and when all is not well
 unfoldable pub blockAt : {X : Type 0} → List ℕ → State X → ℕ
@@ -94,10 +128,10 @@ module _ {X : Type 0} (E : Emission X) (text : List ℕ) where
       (cond (letter (next text s))
       (cond (leb (run nameByte (drop (s .at) text)) 8)
       (put (E .named (s .at) (run nameByte (drop (s .at) text))) deep 0 (stepped (run nameByte (drop (s .at) text)) s))
-      (bad s))
-      (bad s)))
+      (astray text s))
+      (astray text s)))
 
-  -- a timer whose length has been passed, from a to where s stands, is closed
+  -- a timer whose length stands from a to e is closed where s stands, after its sum
   unfoldable pub timed : ℕ → ℕ → ℕ → ℕ → State X → State X
   timed kind deep a e s = put (E .timed kind (valueBetween text a e)) deep (E .ticks (valueBetween text a e)) (expect text 41 s)
 

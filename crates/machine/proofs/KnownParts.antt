@@ -8,7 +8,7 @@ use Rattle.signals.specs.Moment.{M}
 use Rattle.grammar.specs.Kinds as kinds
 use Rattle.grammar.specs.Tree.{Leaf, down, up, name}
 use Rattle.grammar.specs.Code.{Part, operand, one, two, ticksOf}
-use Rattle.grammar.specs.Formula.{nameAt}
+use Rattle.grammar.specs.PartWords.{nameAt}
 use Rattle.names.specs.Names.{wellNamed}
 use Rattle.format.specs.Names.{among}
 use Rattle.format.specs.Reading.{signalsOn, names}

@@ -19,7 +19,7 @@ use Rattle.sources.specs.Sources.{listOnSheet}
 use Rattle.names.specs.Names.{wellNamed}
 use Rattle.grammar.specs.Kinds as kinds
 use Rattle.grammar.specs.Tree.{Leaf, leaf, down, up, name}
-use Rattle.grammar.specs.Formula.{nameAt}
+use Rattle.grammar.specs.PartWords.{nameAt}
 use Rattle.format.specs.Names.{among}
 use Rattle.format.specs.Reading.{sheetFault, signalsOn, names, listNamed, environmentOn}
 use Rattle.format.specs.Calls.{lookupFault, lookupOf, placeOf, partAt, placeJudged, firstByte, byteCount}

@@ -8,7 +8,7 @@ use lib.Dec.{ltb, eqb}
 use Rattle.grammar.specs.Kinds as kinds
 use Rattle.grammar.specs.Tree.{Leaf, down, up, name}
 use Rattle.grammar.specs.Code.{Part, operand, one, two}
-use Rattle.grammar.specs.Formula.{partOf, plainPart, isTimer, timedPart, nameAt}
+use Rattle.grammar.specs.PartWords.{partOf, plainPart, isTimer, timedPart, nameAt}
 use Rattle.code_words.specs.CodeWords.{arity, operandsOf}
 use Rattle.applying.specs.PartCalls.{unaryOf, binaryOf}
 use Rattle.machine.proofs.KnownParts.{leafOf}

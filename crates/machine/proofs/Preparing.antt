@@ -13,7 +13,8 @@ use Rattle.signals.proofs.Truth.{and-left, and-right}
 use Rattle.grammar.specs.Kinds as kinds
 use Rattle.grammar.specs.Tree.{Tree, Leaf, leaf, unary, binary, down, up, name}
 use Rattle.grammar.specs.Code.{Part, one, two, code, longest}
-use Rattle.grammar.specs.Formula.{partOf, codeOf, formulaFault, formulaTree, longestOf, partsOf, depthOf, accepted}
+use Rattle.grammar.specs.Formula.{codeOf, formulaFault, formulaTree, longestOf, partsOf, depthOf, accepted}
+use Rattle.grammar.specs.PartWords.{partOf}
 use Rattle.grammar.proofs.Coding.{code-exact}
 use Rattle.grammar.proofs.Reading.{reader-exact, parts-exact, longest-of}
 use Rattle.grammar.proofs.Faults.{fine-of}

@@ -15,7 +15,7 @@ use Rattle.grammar.specs.Kinds as kinds
 use Rattle.grammar.specs.Tree.{Tree, leaf, unary, binary}
 use Rattle.grammar.specs.Code.{one, two, code, work, top, ticksOf}
 use Rattle.signals.specs.Moment.{M}
-use Rattle.grammar.specs.Formula.{partOf}
+use Rattle.grammar.specs.PartWords.{partOf}
 use Rattle.format.specs.Reading.{sheetFault}
 use Rattle.operations.specs.Calls.{partFault}
 use Rattle.calls.specs.OnSheet.{exactOn}

@@ -9,7 +9,8 @@ use Rattle.signals.specs.Answers.{firstOf, writtenOf, outputOf, verdictFor}
 use Rattle.signals.specs.declared.Written.{Written}
 use Rattle.signals.specs.declared.Verdict.{Verdict}
 use Rattle.grammar.specs.Kinds as kinds
-use Rattle.grammar.specs.Formula.{nameAt, codeOf, formulaTree}
+use Rattle.grammar.specs.Formula.{codeOf, formulaTree}
+use Rattle.grammar.specs.PartWords.{nameAt}
 use Rattle.format.specs.Calls.{firstByte, byteCount, placeJudged}
 use Rattle.format.specs.declared.Place.{Place}
 use Rattle.calls.specs.Calls.{readingFault, workFault, workingFault, wordsOn, claimFails}

@@ -3,6 +3,7 @@
 pub mod kind;
 
 ghost use mathlib.Core.Path.{_≡_};
+ghost use Prim.Native.Nat.{max};
 ghost use Rattle.marks.specs.Marks.{markOf, lent, nextMark, markFault};
 
 // The words of a mark: 1 if all is well and 0 if not, the bytes passed, the parts put out, and the largest depth and length of a part.
@@ -36,6 +37,13 @@ pub fn next(text: &[u8; 1024], bytes: usize, m: &[usize; 5]) -> u8
         }
     }
     0
+}
+
+// The larger of two numbers.
+pub fn larger(a: usize, b: usize) -> usize
+    ensures { λ r. ⌜ r ≡ max a b ⌝ }
+{
+    if a < b { b } else { a }
 }
 
 // The fault of a text of so many bytes that was read up to the mark: 11, 8, 12, 0 for none.

@@ -4,20 +4,22 @@ use native.Mathlib.Omega.{arith}
 use mathlib.Core.Path.{_≡_, refl, sym, ap, _∙_}
 use mathlib.Core.Bool.{Bool, true, false}
 use mathlib.Core.List.{List, [], _∷_}
-use lib.Dec.{eqb}
+use lib.Dec.{leb, eqb}
 use lib.ListN.{length, getD, set, take, drop, length-drop, length-take}
 use lib.Seq.{take-take, getD-set-other}
-use borrow.Author.Tests.{eqb-true, lt-ltb}
-use Rattle.names.specs.Names.{digit}
+use borrow.Author.Tests.{eqb-true, leb-false, lt-ltb}
+use Rattle.names.specs.Names.{letter, digit, nameByte}
 use Rattle.texts.specs.Lengths.{capped}
-use Rattle.grammar.specs.Reader.{valueBetween}
+use Rattle.grammar.specs.Reader.{run, valueBetween}
 use Rattle.marks.specs.Marks.{Mark, markOf, lent, nextMark}
+use Rattle.openings.specs.Opening.{reachMark}
 use Rattle.tokens.specs.Tokens.{lengthEnd, numberAt, leafEnd, leafWord}
 use Rattle.moves.specs.Moves.{failed, movedTo, isNext, passed, expected, lengthPassed, lengthTicks, putWords, putCode}
 use Rattle.moves.specs.Moves.{leafWords, leafCode}
 use Rattle.grammar.proofs.Bytes.{by-cond}
 use Rattle.marks.proofs.Marking.{inside, lent-most}
-use Rattle.tokens.proofs.Runs.{run-some, run-most, none-at-0, number-between}
+use Rattle.openings.proofs.Reaching.{reach-fits}
+use Rattle.tokens.proofs.Runs.{letter-name, run-some, run-most, none-at-0, number-between}
 
 -- a length that is next ends in the text
 pub length-bounds : (text : List ℕ) (m : Mark) → 0 < lengthEnd text m → (m .at ≤ lengthEnd text m) × (lengthEnd text m ≤ length text)
@@ -81,6 +83,27 @@ pub leaf-is : (text m : List ℕ) (end word deep : ℕ) (old : List ℕ) {x r ne
     (r ≡ leafWords text m deep) × (new ≡ leafCode text m old)
 unfolding leafWords leafCode
 leaf-is text m end word deep old e some w x r new = rw (← e, lt-ltb 0 end some) (rw (r, x) refl, rw (new, x, w) refl)
+
+-- where neither constant nor name is next, what is there of a factor ends in the text: a name that is too long has its 8 bytes
+pub stray-fits : (text : List ℕ) (m : Mark) → leafEnd text m ≤ 0 → reachMark text m ≤ length text - m .at
+unfolding leafEnd
+stray-fits text m h =
+    omega (
+      arith,
+      length-drop (m .at) text,
+      reach-fits text m (λ low. name low (eqb (nextMark text m) 48) refl (eqb (nextMark text m) 49) refl
+          (leb (run nameByte (drop (m .at) text)) 8) refl),
+    )
+  where
+    name : letter (nextMark text m) ≡ true → (p : Bool) → eqb (nextMark text m) 48 ≡ p → (q : Bool) → eqb (nextMark text m) 49 ≡ q →
+        (r : Bool) → leb (run nameByte (drop (m .at) text)) 8 ≡ r → 8 ≤ length (drop (m .at) text)
+    name low true e q f r g = let z : m .at + 1 ≤ 0 = rw e at h in absurd (omega arith)
+    name low false e true f r g = let z : m .at + 1 ≤ 0 = rw (e, f) at h in absurd (omega arith)
+    name low false e false f true g =
+        let z : m .at + run nameByte (drop (m .at) text) ≤ 0 = rw (e, f, low, g) at h in
+        absurd (omega (arith, run-some nameByte text m (none-at-0 true) (letter-name (nextMark text m) low)))
+    name low false e false f false g =
+        omega (arith, leb-false (run nameByte (drop (m .at) text)) 8 g, run-most nameByte (drop (m .at) text))
 
 -- the largest depth and length, each read after the words before it were stored
 pub stored : (l : List ℕ) (n deep ticks d t : ℕ) → d ≡ max (getD (set l 2 n) 3 0) deep → t ≡ max (getD (set (set l 2 n) 3 d) 4 0) ticks →

@@ -7,7 +7,7 @@ use lib.ListN.{set}
 use Rattle.texts.specs.Lengths.{capped}
 use Rattle.grammar.specs.Reader.{valueBetween}
 use Rattle.marks.specs.Marks.{Mark, markOf, nextMark}
-use Rattle.openings.specs.Opening.{openKind, openBytes}
+use Rattle.openings.specs.Opening.{openKind, openBytes, reachMark}
 use Rattle.tokens.specs.Tokens.{lengthEnd, leafEnd, leafWord}
 
 -- the words of a mark made bad
@@ -55,10 +55,15 @@ storedAt code place word = cond (ltb place 32) (set code place word) code
 unfoldable pub putCode : Mark → ℕ → List ℕ → List ℕ
 putCode m word code = cond (m .ok) (storedAt code (m .parts) word) code
 
+-- where no factor stands, the mark is made bad after what is there of one
+unfoldable pub strayed : List ℕ → List ℕ → List ℕ
+strayed text m =
+    failed (cond (ltb 0 (reachMark text (markOf m))) (movedTo m (markOf m .at + reachMark text (markOf m))) m)
+
 -- a constant or name is passed, then its part put out
 unfoldable pub leafWords : List ℕ → List ℕ → ℕ → List ℕ
 leafWords text m deep =
-    cond (ltb 0 (leafEnd text (markOf m))) (putWords (movedTo m (leafEnd text (markOf m))) deep 0) (failed m)
+    cond (ltb 0 (leafEnd text (markOf m))) (putWords (movedTo m (leafEnd text (markOf m))) deep 0) (strayed text m)
 
 unfoldable pub leafCode : List ℕ → List ℕ → List ℕ → List ℕ
 leafCode text m code =

@@ -1,9 +1,9 @@
 // The steps of the formula reader that read no sum: each changes the words of a mark, and none makes a bad mark good.
 ghost use mathlib.Core.Path.{_≡_};
-ghost use Prim.Native.Nat.{max};
 ghost use Rattle.marks.specs.Marks.{markOf, lent};
 ghost use Rattle.openings.specs.Opening.{openKind};
-ghost use Rattle.moves.specs.Moves.{failed, movedTo, begun, isNext, passed, expected, lengthPassed, lengthTicks};
+ghost use Rattle.moves.specs.Moves.{failed, movedTo, strayed, begun, isNext, passed, expected};
+ghost use Rattle.moves.specs.Moves.{lengthPassed, lengthTicks};
 ghost use Rattle.moves.specs.Moves.{storedAt, putWords, putCode, leafWords, leafCode};
 use marks::AT;
 use marks::DEEPEST;
@@ -11,9 +11,11 @@ use marks::LONGEST;
 use marks::MOST_PARTS;
 use marks::OK;
 use marks::PARTS;
+use marks::larger;
 use marks::next;
 use openings::opening;
 use openings::opening_bytes;
+use openings::reach;
 use tokens::leaf_end;
 use tokens::leaf_word;
 use tokens::length_end;
@@ -30,6 +32,18 @@ fn move_to(m: &mut [usize; 5], to: usize)
     ensures { λ _. ⌜ now (m .exit) ≡ movedTo (now (m .entry)) to ⌝ }
 {
     m[AT] = to;
+}
+
+// Makes a mark bad where no factor stands, after what is there of one.
+fn stray(text: &[u8; 1024], bytes: usize, m: &mut [usize; 5])
+    ensures { λ _. ⌜ now (m .exit) ≡ strayed (lent (now (text .entry)) bytes) (now (m .entry)) ⌝ }
+{
+    let there = reach(text, bytes, m);
+    if 0 < there {
+        let at = m[AT];
+        move_to(m, at + there);
+    }
+    fail(m);
 }
 
 // Passes what is next and begins a factor, and gives its kind; 0 where none is, the mark then staying.
@@ -85,12 +99,6 @@ pub fn pass_length(text: &[u8; 1024], bytes: usize, m: &mut [usize; 5]) -> usize
     0
 }
 
-fn larger(a: usize, b: usize) -> usize
-    ensures { λ r. ⌜ r ≡ max a b ⌝ }
-{
-    if a < b { b } else { a }
-}
-
 // Stores a code word, where its place is one of the first 32.
 fn store(code: &mut [u64; 32], place: usize, word: u64)
     ensures { λ _. ⌜ now (code .exit) ≡ storedAt (now (code .entry)) place word ⌝ }
@@ -116,7 +124,7 @@ pub fn put(code: &mut [u64; 32], m: &mut [usize; 5], word: u64, deep: usize, tic
     }
 }
 
-// Passes 0, 1 or a name and puts its part out; where none is next, the mark is made bad.
+// Passes 0, 1 or a name and puts its part out; where none is next, the mark is made bad, after what is there of a factor.
 pub fn leaf(text: &[u8; 1024], bytes: usize, code: &mut [u64; 32], m: &mut [usize; 5], deep: usize)
     ensures { λ _. ⌜ (now (m .exit) ≡ leafWords (lent (now (text .entry)) bytes) (now (m .entry)) deep)
         × (now (code .exit) ≡ leafCode (lent (now (text .entry)) bytes) (now (m .entry)) (now (code .entry))) ⌝ }
@@ -128,5 +136,5 @@ pub fn leaf(text: &[u8; 1024], bytes: usize, code: &mut [u64; 32], m: &mut [usiz
         put(code, m, word, deep, 0);
         return;
     }
-    fail(m);
+    stray(text, bytes, m);
 }

@@ -1,3 +1,4 @@
 -- Lemmas on what begins a factor.
 pub mod Words
 pub mod Openings
+pub mod Reaching

@@ -1,36 +1,53 @@
--- A word that stands at the front of bytes, byte by byte; the block that is next, by its first byte.
-use Prim.Native.Nat.{ℕ, _+_, _≤_, _<_}
+-- How much of a word stands at the front of bytes, byte by byte; the block that is next, by its first byte.
+use Prim.Native.Nat.{ℕ, suc, _+_, _≤_, _<_}
 use native.Mathlib.Omega.{arith}
 use native.Mathlib.Numerals.{add-one}
 use native.Mathlib.Nat.{add-zero}
-use mathlib.Core.Path.{_≡_, refl, _∙_}
+use mathlib.Core.Path.{_≡_, refl, sym, _∙_}
 use mathlib.Core.Bool.{Bool, true, false, cond, _&&_}
 use mathlib.Core.List.{List, [], _∷_}
-use lib.Dec.{eqb}
+use lib.Dec.{eqb, eqb·suc-suc, eqb·zero-suc}
 use lib.ListN.{length, getD, drop, drop-of-length-le}
 use lib.Seq.{drop-cons, drop-drop, getD-drop}
 use borrow.Author.Tests.{eq-eqb, ne-eqb}
+use Rattle.names.specs.Names.{letter}
 use Rattle.grammar.specs.Kinds as kinds
-use Rattle.grammar.specs.Reader.{starts, blockKind}
+use Rattle.grammar.specs.Reader.{starts, shared, blockKind, wordReach, reach}
 use Rattle.marks.specs.Marks.{Mark, nextMark}
+use Rattle.openings.specs.Opening.{reachMark}
 use Rattle.marks.proofs.Marking.{inside}
 
--- a word goes on, fails, or ends
-starts-from : (w l : List ℕ) (i : ℕ) → i < length w →
-    starts (drop i w) (drop i l) ≡ eqb (getD l i 0) (getD w i 0) && starts (drop (i + 1) w) (drop (i + 1) l)
-unfolding starts
-starts-from w l i h = rw (drop-cons w i 0 h, getD-drop i l 0 0, add-zero, drop-drop 1 i l, add-one) refl
+-- how many bytes of a word are there, after those that are: it goes on, fails, or ends
+shared-from : (w l : List ℕ) (i : ℕ) → i < length w →
+    shared (drop i w) (drop i l) ≡ cond (eqb (getD l i 0) (getD w i 0)) (suc (shared (drop (i + 1) w) (drop (i + 1) l))) 0
+unfolding shared
+shared-from w l i h = rw (drop-cons w i 0 h, getD-drop i l 0 0, add-zero, drop-drop 1 i l, add-one) refl
 
-pub starts-on : (w l : List ℕ) (i : ℕ) → i < length w → getD l i 0 ≡ getD w i 0 →
-    starts (drop i w) (drop i l) ≡ starts (drop (i + 1) w) (drop (i + 1) l)
-starts-on w l i h e = starts-from w l i h ∙ rw (eq-eqb _ _ e) refl
+pub shared-on : (w l : List ℕ) (i : ℕ) → i < length w → getD l i 0 ≡ getD w i 0 →
+    i + shared (drop i w) (drop i l) ≡ i + 1 + shared (drop (i + 1) w) (drop (i + 1) l)
+shared-on w l i h e =
+    let q : shared (drop i w) (drop i l) ≡ suc (shared (drop (i + 1) w) (drop (i + 1) l)) = shared-from w l i h ∙ rw (eq-eqb _ _ e) refl in
+    omega (arith, q)
 
-pub starts-off : (w l : List ℕ) (i : ℕ) → i < length w → (getD l i 0 ≡ getD w i 0 → ⊥) → starts (drop i w) (drop i l) ≡ false
-starts-off w l i h e = starts-from w l i h ∙ rw (ne-eqb _ _ e) refl
+pub shared-off : (w l : List ℕ) (i : ℕ) → i < length w → (getD l i 0 ≡ getD w i 0 → ⊥) → i + shared (drop i w) (drop i l) ≡ i
+shared-off w l i h e =
+    let q : shared (drop i w) (drop i l) ≡ 0 = shared-from w l i h ∙ rw (ne-eqb _ _ e) refl in
+    omega (arith, q)
 
-pub starts-end : (w l : List ℕ) (i : ℕ) → length w ≤ i → starts (drop i w) l ≡ true
-unfolding starts
-starts-end w l i h = rw (drop-of-length-le w {i = i} h) refl
+pub shared-end : (w l : List ℕ) (i : ℕ) → length w ≤ i → i + shared (drop i w) l ≡ i
+unfolding shared
+shared-end w l i h = rw (drop-of-length-le w {i = i} h, add-zero) refl
+
+-- a word stands where all its bytes do
+pub all-shared : (w l : List ℕ) → starts w l ≡ eqb (shared w l) (length w)
+unfolding starts shared
+all-shared [] l = refl
+all-shared (b ∷ w) l = go (eqb (getD l 0 0) b) (all-shared w (drop 1 l))
+  where
+    go : (z : Bool) → starts w (drop 1 l) ≡ eqb (shared w (drop 1 l)) (length w) →
+        z && starts w (drop 1 l) ≡ eqb (cond z (suc (shared w (drop 1 l))) 0) (suc (length w))
+    go true e = e ∙ sym (eqb·suc-suc (shared w (drop 1 l)) (length w))
+    go false e = sym (eqb·zero-suc (length w))
 
 -- the block that is next, by its first byte
 by-first : (text : List ℕ) (m : Mark) (b x : ℕ) → nextMark text m ≡ b → 0 < b →
@@ -68,3 +85,21 @@ no-block text m b e s r t = go (m .ok) e
     go : (z : Bool) → cond z (getD text (m .at) 0) 0 ≡ b → cond z (blockKind (drop (m .at) text)) 0 ≡ 0
     go false q = refl
     go true q = rw (getD-drop (m .at) text 0 0, add-zero, q, ne-eqb b 83 s, ne-eqb b 82 r, ne-eqb b 84 t) refl
+
+-- what is there of a factor, by the byte that is next
+pub next-first : (text : List ℕ) (m : Mark) → m .ok ≡ true → getD (drop (m .at) text) 0 0 ≡ nextMark text m
+unfolding nextMark
+next-first text m fine = rw (fine, getD-drop (m .at) text 0 0, add-zero) refl
+
+pub reach-name : (text : List ℕ) (m : Mark) → m .ok ≡ true → letter (nextMark text m) ≡ true → 8 ≡ reachMark text m
+unfolding reachMark reach
+reach-name text m fine e = rw (fine, next-first text m fine, e) refl
+
+pub reach-word : (text : List ℕ) (m : Mark) → m .ok ≡ true → letter (nextMark text m) ≡ false →
+    wordReach (drop (m .at) text) ≡ reachMark text m
+unfolding reachMark reach
+reach-word text m fine e = rw (fine, next-first text m fine, e) refl
+
+pub reach-bad : (text : List ℕ) (m : Mark) → m .ok ≡ false → 0 ≡ reachMark text m
+unfolding reachMark
+reach-bad text m e = rw e refl

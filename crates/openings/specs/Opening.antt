@@ -1,11 +1,11 @@
--- Mirrored: What begins a factor at a mark of a text that is lent, and how many bytes it has.
+-- Mirrored: What begins a factor at a mark of a text that is lent, and how many bytes it has; where none stands, how many are there of one.
 use Prim.Native.Nat.{ℕ}
 use mathlib.Core.Bool.{cond}
 use mathlib.Core.List.{List}
 use lib.Dec.{ltb, eqb}
 use lib.ListN.{drop}
 use Rattle.grammar.specs.Kinds as kinds
-use Rattle.grammar.specs.Reader.{prefixKind, blockKind, blockBytes}
+use Rattle.grammar.specs.Reader.{prefixKind, blockKind, blockBytes, reach}
 use Rattle.marks.specs.Marks.{Mark, nextMark}
 
 -- an open bracket: no kind of a part
@@ -21,3 +21,7 @@ openKind text m =
 -- how many bytes it has
 unfoldable pub openBytes : ℕ → ℕ
 openBytes first = cond (eqb first 0) 0 (cond (ltb first kinds.TON) 1 (cond (eqb first BRACKET) 1 (blockBytes first)))
+
+-- where no factor stands, how many bytes are there of one; 0 for a bad mark
+unfoldable pub reachMark : List ℕ → Mark → ℕ
+reachMark text m = cond (m .ok) (reach (drop (m .at) text)) 0

@@ -1,12 +1,15 @@
-// What begins a factor of a formula at a mark of its text: a prefix, an open bracket, or a block's word with its bracket.
+// What begins a factor of a formula at a mark of its text: a prefix, an open bracket, or a block's word with its bracket; and where none
+// stands, how much is there of one.
 ghost use mathlib.Core.Bool.{cond};
 ghost use mathlib.Core.Path.{_≡_};
 ghost use lib.ListN.{getD, drop};
-ghost use Rattle.grammar.specs.Reader.{prefixKind, starts, blockKind};
+ghost use Rattle.grammar.specs.Reader.{prefixKind, starts, shared, wordReach, blockKind};
 ghost use Rattle.marks.specs.Marks.{markOf, lent, nextMark};
-ghost use Rattle.openings.specs.Opening.{openKind, openBytes};
+ghost use Rattle.openings.specs.Opening.{openKind, openBytes, reachMark};
 use marks::AT;
+use marks::OK;
 use marks::kind;
+use marks::larger;
 use marks::next;
 
 // The kind of !, ^ and ~; 0 for any other byte.
@@ -42,19 +45,26 @@ fn byte_after(text: &[u8; 1024], bytes: usize, at: usize, k: usize) -> u8
     0
 }
 
-// Whether the word stands at the place.
-fn stands(text: &[u8; 1024], bytes: usize, at: usize, word: &[u8]) -> bool
-    ensures { λ r. ⌜ r ≡ starts (now (word .entry)) (drop at (lent (now (text .entry)) bytes)) ⌝ }
+// How many bytes of the word stand at the place.
+fn shared_bytes(text: &[u8; 1024], bytes: usize, at: usize, word: &[u8]) -> usize
+    ensures { λ r. ⌜ r ≡ shared (now (word .entry)) (drop at (lent (now (text .entry)) bytes)) ⌝ }
 {
     let mut i = 0;
     while i < word.len() {
         if byte_after(text, bytes, at, i) == word[i] {
             i += 1;
         } else {
-            return false;
+            return i;
         }
     }
-    true
+    i
+}
+
+// Whether the word stands at the place.
+fn stands(text: &[u8; 1024], bytes: usize, at: usize, word: &[u8]) -> bool
+    ensures { λ r. ⌜ r ≡ starts (now (word .entry)) (drop at (lent (now (text .entry)) bytes)) ⌝ }
+{
+    shared_bytes(text, bytes, at, word) == word.len()
 }
 
 // The kind of the block whose word and bracket are next, of which `first` is the first byte; 0 where none are.
@@ -122,4 +132,29 @@ pub fn opening_bytes(first: u64) -> usize
         return 4;
     }
     3
+}
+
+// How many bytes are there of a block's word and bracket.
+fn word_reach(text: &[u8; 1024], bytes: usize, at: usize) -> usize
+    ensures { λ r. ⌜ r ≡ wordReach (drop at (lent (now (text .entry)) bytes)) ⌝ }
+{
+    let p = shared_bytes(text, bytes, at, b"TP(");
+    let f = larger(shared_bytes(text, bytes, at, b"TOF("), p);
+    let n = larger(shared_bytes(text, bytes, at, b"TON("), f);
+    let r = larger(shared_bytes(text, bytes, at, b"RS("), n);
+    larger(shared_bytes(text, bytes, at, b"SR("), r)
+}
+
+// Where no factor stands at the mark, how many bytes are there of one: 8 of a name that is too long, else those of a block's word and
+// bracket.
+pub fn reach(text: &[u8; 1024], bytes: usize, m: &[usize; 5]) -> usize
+    ensures { λ r. ⌜ r ≡ reachMark (lent (now (text .entry)) bytes) (markOf (now (m .entry))) ⌝ }
+{
+    if m[OK] == 1 {
+        if names::is_letter(next(text, bytes, m)) {
+            return names::LONGEST;
+        }
+        return word_reach(text, bytes, m[AT]);
+    }
+    0
 }

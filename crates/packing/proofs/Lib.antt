@@ -6,3 +6,4 @@ pub mod SmallSheets
 pub mod SmallCalls
 pub mod SmallUpTimes
 pub mod SmallSpans
+pub mod SmallStops

@@ -25,7 +25,7 @@ use Rattle.packing.proofs.SmallSheets.{sheet-small}
 use Rattle.signals.proofs.FirstFault.{both-none}
 use Rattle.signals.specs.Words.{mostWords}
 
-formula-small : (text : List ℕ) → formulaFault text < 65536
+pub formula-small : (text : List ℕ) → formulaFault text < 65536
 unfolding formulaFault
 formula-small text =
     choice (eqb (length text) 0 || ltb 1024 (length text)) 10 _ (omega arith)

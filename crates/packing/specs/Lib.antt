@@ -1,3 +1,4 @@
 -- The packing of answers as definitions.
 pub mod Packing
 pub mod SpansPacked
+pub mod StopsPacked

@@ -66,8 +66,12 @@ packPlace answer = 281474976710656 * faultOfPlace answer + 16777216 * firstByte 
 unfoldable pub packUpTime : UpTime → ℕ
 packUpTime answer = 281474976710656 * faultOfUpTime answer + 65536 * totalOfUpTime answer + countOfUpTime answer
 
--- The same in 32 bits, or in 64 for a verdict, a span, a place and an up-time, whatever the answer: of each number the low bits that its
--- place has room for.
+-- 2^48 × fault + the place where reading a formula stops
+unfoldable pub packStop : ℕ → ℕ → ℕ
+packStop fault place = 281474976710656 * fault + place
+
+-- The same in 32 bits, or in 64 for a verdict, a span, a place, an up-time and a stop, whatever the answer: of each number the low bits
+-- that its place has room for.
 unfoldable pub faultBits : ℕ → ℕ
 faultBits f = packFault (f % 65536)
 
@@ -90,6 +94,9 @@ placeBits answer =
 unfoldable pub upTimeBits : UpTime → ℕ
 upTimeBits answer =
     281474976710656 * (faultOfUpTime answer % 65536) + 65536 * totalOfUpTime answer + countOfUpTime answer % 65536
+
+unfoldable pub stopBits : ℕ → ℕ → ℕ
+stopBits fault place = packStop (fault % 65536) (place % 281474976710656)
 
 -- the bit of weight i of a number
 unfoldable pub bit : ℕ → ℕ → Bool

@@ -4,8 +4,9 @@ ghost use mathlib.Core.Path.{_≡_};
 ghost use Prim.Native.Nat.{_%_};
 ghost use Rattle.signals.specs.declared.End.the-variants.{Before};
 ghost use Rattle.packing.specs.Packing.{faultBits, writtenBits, toldBits, verdictBits, packEnd, spanBits, placeBits, upTimeBits};
-ghost use Rattle.packing.specs.Packing.{tableIn};
+ghost use Rattle.packing.specs.Packing.{stopBits, tableIn};
 use format::Place;
+use grammar::Stop;
 use signals::End;
 use signals::Told;
 use signals::Verdict;
@@ -107,6 +108,13 @@ pub fn pack_uptime(answer: UpTime) -> u64
         UpTime::Told { count, total } => 65536 * (total as u64) + (count % 65536) as u64,
         UpTime::Refused(fault) => 281474976710656 * ((fault % 65536) as u64),
     }
+}
+
+// What reading a formula tells.
+pub fn pack_stop(answer: Stop) -> u64
+    ensures { λ r. ⌜ r ≡ stopBits (answer .fault) (answer .place) ⌝ }
+{
+    281474976710656 * ((answer.fault % 65536) as u64) + (answer.place as u64) % 281474976710656
 }
 
 // The table of a number: bit 2·row + column.

@@ -1,5 +1,8 @@
 -- Each statement at its full path with its term, for the prover to check: written by `tests/statements --write`.
 
+pub beginnings-Beginnings-StopsExact : Rattle.beginnings.specs.Beginnings.StopsExact
+beginnings-Beginnings-StopsExact = Rattle.beginnings.proofs.Stopping.stops-exact
+
 pub calls-Demand2-Demand2-defined : Rattle.calls.specs.Demand2.Demand2 Rattle.calls.specs.Engine.defined
 calls-Demand2-Demand2-defined = Rattle.calls.proofs.Demand2.demand2
 
@@ -167,6 +170,9 @@ operations-OperationsGive-OperationsGive = Rattle.operations.proofs.OperationsG
 
 pub packing-SpansPacked-SpansPacked : Rattle.packing.specs.SpansPacked.SpansPacked
 packing-SpansPacked-SpansPacked = Rattle.packing.proofs.SmallSpans.spans-packed
+
+pub packing-StopsPacked-StopsPacked : Rattle.packing.specs.StopsPacked.StopsPacked
+packing-StopsPacked-StopsPacked = Rattle.packing.proofs.SmallStops.stops-packed
 
 pub pulsing-FewWords-PulsesFew : Rattle.pulsing.specs.FewWords.PulsesFew
 pulsing-FewWords-PulsesFew = Rattle.pulsing.proofs.FewWords.pulses-few

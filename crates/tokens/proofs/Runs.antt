@@ -17,6 +17,11 @@ use Rattle.tokens.specs.Tokens.{classOf, numberAt}
 use Rattle.grammar.proofs.Bytes.{never}
 use Rattle.grammar.proofs.Writing.{value-more}
 
+-- a letter begins a name
+pub letter-name : (b : ℕ) → letter b ≡ true → nameByte b ≡ true
+unfolding nameByte
+letter-name b e = rw e refl
+
 -- a run goes on, or ends
 pub run-on : (p : ℕ → Bool) (text : List ℕ) (i : ℕ) → i < length text → p (getD text i 0) ≡ true →
     run p (drop i text) ≡ suc (run p (drop (i + 1) text))

@@ -31,16 +31,16 @@ returns c =
     leaf-is (lent (a .text .now) (a .bytes)) (a .m .now) (end .result) (w .leaf-word .result) (a .deep) (a .code .now) (end .ensures)
     (t .if1 .taken) (w .leaf-word .ensures) (m .move-to .ensures) (c .put .ensures .0) (c .put .ensures .1)
 
-fail-requires : tie.Need-fail-requires
-fail-requires c κs = search needs
+stray-requires : tie.Need-stray-requires
+stray-requires c κs = search needs
 
 returns-2 : tie.Need-returns-2
 unfolding leafWords leafCode
 returns-2 c =
-    let l = c .before .before .before in
-    rw (le-ltb 0 _ (subst (λ (n : ℕ). n ≤ 0) (l .leaf-end .ensures) (c .before .before .if1 .left))) (c .fail .ensures, refl)
+    let e = c .before .before in
+    rw (le-ltb 0 _ (subst (λ (n : ℕ). n ≤ 0) (e .before .leaf-end .ensures) (e .if1 .left))) (c .stray .ensures, refl)
 
 pub leaf-spec : {M : Type 1} → statement M
 leaf-spec =
     tie.close
-    (tie.spec leaf-end-requires leaf-word-requires move-to-requires put-requires returns fail-requires returns-2)
+    (tie.spec leaf-end-requires leaf-word-requires move-to-requires put-requires returns stray-requires returns-2)

@@ -1,62 +1,23 @@
--- `openings::stands` meets its contract: the bytes begin with the word where those after its first bytes begin with the rest of it.
+-- `openings::stands` meets its contract.
 use borrow.Author.Needs.{needs}
-use Prim.Native.Nat.{_-_}
-use native.Mathlib.Omega.{arith}
-use mathlib.Core.Path.{_≡_, refl, sym, _∙_}
+use mathlib.Core.Path.{sym, ap, _∙_}
+use mathlib.Core.List.{List}
+use Prim.Native.Nat.{ℕ}
+use lib.Dec.{eqb}
 use lib.ListN.{length, drop}
-use Rattle.grammar.specs.Reader.{starts}
 use Rattle.marks.specs.Marks.{lent}
-use Rattle.openings.proofs.Words.{starts-on, starts-off, starts-end}
+use Rattle.openings.proofs.Words.{all-shared}
 use Rattle.openings.proofs.stands.Statement.{statement}
 use Rattle.openings.proofs.stands.Tie as tie
 
-abbrev Inv-loop : tie.InvT-loop
-Inv-loop text bytes at word i₀ i =
-    starts word (drop at (lent text bytes)) ≡ starts (drop i word) (drop i (drop at (lent text bytes)))
+shared-bytes-requires : tie.Need-shared-bytes-requires
+shared-bytes-requires c κs = search needs
 
-abbrev μ-loop : tie.MeasureT-loop
-μ-loop text bytes at word i₀ i = length word - i
-
-loop-holds : tie.Need-loop-holds Inv-loop μ-loop
-loop-holds c = refl
-
-byte-after-requires : tie.Need-byte-after-requires Inv-loop μ-loop
-byte-after-requires c κs = search needs
-
-shared-slice-read-if1 : tie.Need-shared-slice-read-if1 Inv-loop μ-loop
-shared-slice-read-if1 c = search needs
-
-add-i : tie.Need-add-i Inv-loop μ-loop
-add-i c = search needs
-
-loop-less : tie.Need-loop-less Inv-loop μ-loop
-loop-less c = search needs
-
-loop-again : tie.Need-loop-again Inv-loop μ-loop
-loop-again c =
-    let b = c .before .before in
-    let t = b .before in
-    let a = t .before .before .before .args in
-    t .before .loop .inv
-    ∙ starts-on (a .word .now) (drop (a .at) (lent (a .text .now) (a .bytes))) (t .before .loop .i) (t .loop-test .taken)
-    (sym (b .byte-after .ensures) ∙ c .if1 .taken)
-
-returns : tie.Need-returns Inv-loop μ-loop
+returns : tie.Need-returns
 returns c =
-    let b = c .before .before in
-    let t = b .before in
-    let a = t .before .before .before .args in
-    sym
-    (t .before .loop .inv
-    ∙ starts-off (a .word .now) (drop (a .at) (lent (a .text .now) (a .bytes))) (t .before .loop .i) (t .loop-test .taken)
-    (λ e. c .if1 .left (b .byte-after .ensures ∙ e)))
-
-returns-2 : tie.Need-returns-2 Inv-loop μ-loop
-returns-2 c =
-    let a = c .before .before .before .args in
-    sym (c .before .loop .inv ∙ starts-end (a .word .now) _ (c .before .loop .i) (c .loop-test .left))
+    let a = c .before .before .args in
+    ap (λ (k : ℕ). eqb k (length (a .word .now))) (c .shared-bytes .ensures)
+    ∙ sym (all-shared (a .word .now) (drop (a .at) (lent (a .text .now) (a .bytes))))
 
 pub stands-spec : {M : Type 1} → statement M
-stands-spec =
-    tie.close
-    (tie.spec Inv-loop μ-loop loop-holds byte-after-requires shared-slice-read-if1 add-i loop-less loop-again returns returns-2)
+stands-spec = tie.close (tie.spec shared-bytes-requires returns)

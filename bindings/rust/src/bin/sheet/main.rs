@@ -1,34 +1,18 @@
-// sheet make TEXT SHEET, sheet show SHEET, sheet tidy IN OUT: a sheet file from a text and back, lists tidied, through the library.
+// sheet make TEXT SHEET, sheet show SHEET, sheet check FILE, sheet tidy IN OUT: a sheet file from a text and back, what is wrong with one,
+// lists tidied, through the library.
+#![warn(clippy::undocumented_unsafe_blocks)]
+
+mod help;
 mod replace;
 mod stdout;
 
-use rascrunel::{raw, text, Sheet, SHEET_BYTES};
+use help::Command;
+use rascrunel::{quoting, raw, text, Sheet};
+use std::fmt::Display;
 use std::fs::{self, File};
 use std::io::{self, Read, Write};
 use std::path::{Path, PathBuf};
 use std::process::ExitCode;
-
-const HELP: &str = "\
-sheet make TEXT SHEET   writes the sheet file SHEET from the text file TEXT
-sheet show SHEET        prints the sheet file SHEET as text
-sheet tidy IN OUT       writes the file OUT from the file IN, a text or raw lists, without the changes that change nothing
-
-A text has one line a signal, with a name of 1 to 8 lowercase letters and digits, a letter first:
-  NAME : down, up from 5, down after 9, up at 12   the value at the start, then the changes, dates in ticks:
-                                                   from: at the date and after it; after: not yet at it; at: at it only
-  NAME = 0 23 38                                   the words themselves
-Empty lines and lines that begin with # say nothing.
-
-To be tidied, a text may have any number of lines, and what stands before : or = may be any name. Each signal's line is written anew in
-its own notation, all other lines stay as they are. A file with a zero byte is no text but raw lists, one after the other, each a count of
-16 bits and so many words of 32 bits, low byte first. A list has at most 256 words, those that go counted too; IN has at most 256 MB.
-Where a list is refused or a line cannot be read, OUT is not written, and the first 20 faults are told.
-
-SHEET and OUT are written whole or left as they were. A file that is there keeps its mode; a symbolic link stays and the file that it
-points to is written. Refused: what is no regular file, the file TEXT or IN itself, and a file that may not be written.
-
-Exit status: 0 done, 1 not done, 2 wrong use.
-";
 
 // Longer than the text of any sheet.
 const TEXT_BYTES: usize = 1 << 20;
@@ -36,13 +20,18 @@ const TEXT_BYTES: usize = 1 << 20;
 // The most bytes of a file of lists to be tidied.
 const LISTS_BYTES: usize = 256 << 20;
 
+// What is said of a file, each line with its name before it.
+fn named(path: &Path, said: impl Display) -> String {
+    said.to_string().lines().map(|line| format!("{}: {line}", quoting::path(path))).collect::<Vec<_>>().join("\n")
+}
+
 // The whole of a file that has at most `most` bytes.
 fn read(path: &Path, most: usize) -> Result<Vec<u8>, String> {
-    let say = |e: io::Error| format!("{}: {e}", path.display());
-    let too_long = || format!("{}: over {most} bytes, too long", path.display());
+    let say = |e: io::Error| named(path, e);
+    let too_long = || named(path, format!("over {most} bytes, too long"));
     let data = fs::metadata(path).map_err(say)?;
     if data.is_dir() {
-        return Err(format!("{}: is a directory", path.display()));
+        return Err(named(path, "is a directory"));
     }
     if data.len() > most as u64 {
         return Err(too_long());
@@ -57,71 +46,130 @@ fn read(path: &Path, most: usize) -> Result<Vec<u8>, String> {
     Ok(bytes)
 }
 
-fn text_of(path: &Path, bytes: Vec<u8>) -> Result<String, String> {
-    String::from_utf8(bytes).map_err(|_| format!("{}: not a text", path.display()))
+// The text of a file that is no sheet.
+fn text_of<'a>(path: &Path, bytes: &'a [u8]) -> Result<&'a str, String> {
+    if text::is_sheet(bytes) {
+        return Err(named(path, "is a sheet and no text; `sheet show` prints it as one"));
+    }
+    text::utf8(bytes).map_err(|wrong| named(path, wrong))
 }
 
 fn write(to: &Path, from: &Path, bytes: &[u8]) -> Result<(), String> {
-    replace::replace(to, from, bytes).map_err(|what| format!("{}: {what}", to.display()))
+    replace::replace(to, from, bytes).map_err(|what| named(to, what))
 }
 
 fn make(from: &Path, to: &Path) -> Result<(), String> {
-    let text = text_of(from, read(from, TEXT_BYTES)?)?;
-    let sheet = text::read(&text).map_err(|wrong| format!("{}: {wrong}", from.display()))?;
+    let bytes = read(from, TEXT_BYTES)?;
+    let sheet = text::read(text_of(from, &bytes)?).map_err(|wrongs| named(from, wrongs))?;
     write(to, from, sheet.bytes())
 }
 
-// What is said of a file, each line with its name before it.
-fn named(path: &Path, said: String) -> String {
-    said.lines().map(|line| format!("{}: {line}", path.display())).collect::<Vec<_>>().join("\n")
-}
-
 fn tidy_raw(from: &Path, bytes: &[u8]) -> Result<Vec<u8>, String> {
-    // as a raw list's count the mark of a sheet is far above 256, so that no lists are turned away
-    if bytes.starts_with(b"SGL") {
-        return Err(format!("{}: is a sheet; a text or raw lists are tidied", from.display()));
-    }
     let zero = bytes.iter().take_while(|&&byte| byte != 0).count();
     raw::tidy(bytes).map_err(|wrongs| named(from, format!("byte {zero} is 0, so these are raw lists and no text\n{wrongs}")))
 }
 
 fn tidy(from: &Path, to: &Path) -> Result<(), String> {
     let bytes = read(from, LISTS_BYTES)?;
-    let tidied = if raw::is_raw(&bytes) {
+    // as a raw list's count the mark of a sheet, and that of UTF-16, is far above 256, so that no lists are turned away
+    let tidied = if raw::is_raw(&bytes) && !text::is_sheet(&bytes) && !text::is_utf16(&bytes) {
         tidy_raw(from, &bytes)?
     } else {
-        let tidied = text::tidy(&text_of(from, bytes)?);
-        tidied.map_err(|wrongs| named(from, wrongs.to_string()))?.into_bytes()
+        text::tidy(text_of(from, &bytes)?).map_err(|wrongs| named(from, wrongs))?.into_bytes()
     };
     write(to, from, &tidied)
 }
 
+// The sheet of a file. A file that is longer than any sheet is read too, up to a text's length, to say what it is.
+fn sheet_of(path: &Path) -> Result<Sheet, String> {
+    Sheet::try_from(read(path, TEXT_BYTES)?).map_err(|refusal| named(path, refusal))
+}
+
 fn show(path: &Path) -> Result<(), String> {
-    let bytes = read(path, SHEET_BYTES)?;
-    let say = |fault| format!("{}: {fault}", path.display());
-    let sheet = Sheet::new(&bytes).map_err(say)?;
-    stdout::print(&text::write(&sheet).map_err(say)?)
+    stdout::print(&text::write(&sheet_of(path)?))
+}
+
+fn counted(count: usize, what: &str) -> String {
+    format!("{count} {what}{}", if count == 1 { "" } else { "s" })
+}
+
+fn check(path: &Path) -> Result<(), String> {
+    let sheet = sheet_of(path)?;
+    let words = sheet.signals().map(|(_, list)| list.words().len()).sum();
+    let said = format!("a sheet of {}, {}", counted(sheet.signals().count(), "signal"), counted(words, "word"));
+    stdout::print(&(named(path, said) + "\n"))
+}
+
+// Says something on standard error. Where that cannot be done, the exit status is left.
+fn say(what: &str) {
+    for line in what.lines() {
+        let _ = writeln!(io::stderr(), "sheet: {line}");
+    }
+}
+
+fn wrong_use(what: String) -> ExitCode {
+    say(&what);
+    ExitCode::from(2)
+}
+
+const COMMANDS: [Command; 4] = [
+    Command {
+        name: "make",
+        files: &["TEXT", "SHEET"],
+        does: "writes the sheet file SHEET from the text file TEXT",
+        more: &[help::TEXT, help::WRONG, help::WRITTEN],
+        run: |files| make(&files[0], &files[1]),
+    },
+    Command {
+        name: "show",
+        files: &["SHEET"],
+        does: "prints the sheet file SHEET as a text, of which `sheet make` makes the same sheet",
+        more: &[help::TEXT],
+        run: |files| show(&files[0]),
+    },
+    Command {
+        name: "check",
+        files: &["FILE"],
+        does: "says whether FILE is a sheet, and if not, what is wrong with it and where",
+        more: &[help::CHECKED],
+        run: |files| check(&files[0]),
+    },
+    Command {
+        name: "tidy",
+        files: &["IN", "OUT"],
+        does: "writes the file OUT from the file IN, a text or raw lists, without the changes that change nothing",
+        more: &[help::TIDIED, help::TEXT, help::WRONG, help::WRITTEN],
+        run: |files| tidy(&files[0], &files[1]),
+    },
+];
+
+fn is_help(arg: &Path) -> bool {
+    ["--help", "-h"].iter().any(|help| arg.as_os_str() == *help)
 }
 
 fn main() -> ExitCode {
     let args: Vec<PathBuf> = std::env::args_os().skip(1).map(PathBuf::from).collect();
-    let command = args.first().map(|a| a.to_string_lossy().into_owned()).unwrap_or_default();
-    let done = match (command.as_str(), args.len()) {
-        ("make", 3) => make(&args[1], &args[2]),
-        ("show", 2) => show(&args[1]),
-        ("tidy", 3) => tidy(&args[1], &args[2]),
-        ("--help" | "-h" | "help", _) => stdout::print(HELP),
-        _ => {
-            let _ = io::stderr().write_all(HELP.as_bytes());
-            return ExitCode::from(2);
+    let Some((name, files)) = args.split_first() else {
+        let _ = io::stderr().write_all(help::help(&COMMANDS).as_bytes());
+        return ExitCode::from(2);
+    };
+    let done = match COMMANDS.iter().find(|command| name.as_os_str() == command.name) {
+        None if is_help(name) || name.as_os_str() == "help" => stdout::print(&help::help(&COMMANDS)),
+        None => {
+            let (name, commands) = (name.to_string_lossy(), COMMANDS.map(|command| command.name).join(", "));
+            return wrong_use(format!("{name:?} is no command; the commands are {commands}; `sheet --help` tells more"));
         }
+        Some(command) if files.iter().any(|file| is_help(file)) => stdout::print(&command.help()),
+        Some(command) if files.len() != command.files.len() => {
+            let given = counted(files.len(), "file");
+            return wrong_use(format!("{given} given to {}: the use is `{}`; `sheet --help` tells more", command.name, command.usage()));
+        }
+        Some(command) => (command.run)(files),
     };
     match done {
         Ok(()) => ExitCode::SUCCESS,
         Err(what) => {
-            for line in what.lines() {
-                let _ = writeln!(io::stderr(), "sheet: {line}");
-            }
+            say(&what);
             ExitCode::FAILURE
         }
     }

@@ -1,4 +1,5 @@
 //! Writes a file whole or leaves it as it was: beside it first, then in its place.
+use rascrunel::quoting;
 use std::fs::{self, File, Metadata, OpenOptions};
 use std::io::{self, ErrorKind, Write};
 use std::os::unix::fs::{fchown, MetadataExt, OpenOptionsExt};
@@ -42,7 +43,7 @@ fn judge(path: &Path, input: &Path, data: &Metadata) -> Result<(), String> {
         return Err("is no regular file".to_string());
     }
     if identity(&there(input)?) == Some((data.dev(), data.ino())) {
-        return Err(format!("is the same file as {}", input.display()));
+        return Err(format!("is the same file as {}", quoting::path(input)));
     }
     if data.permissions().readonly() {
         return Err("may not be written".to_string());
@@ -74,7 +75,7 @@ pub fn replace(path: &Path, input: &Path, bytes: &[u8]) -> Result<(), String> {
     uninterrupted(|| {
         let mut file = match OpenOptions::new().write(true).create_new(true).mode(mode).open(&part) {
             Ok(file) => file,
-            Err(e) => return Err(format!("{}: {e}", part.display())),
+            Err(e) => return Err(format!("{}: {e}", quoting::path(&part))),
         };
         let done = before.map_or(Ok(()), |data| like(&file, &data));
         let done = done.and_then(|()| file.write_all(bytes)).and_then(|()| file.sync_all()).and_then(|()| fs::rename(&part, &path));
@@ -99,11 +100,13 @@ const SIG_SETMASK: i32 = 2;
 // Does it with every signal held back that can be: they arrive when it is done.
 fn uninterrupted<T>(act: impl FnOnce() -> T) -> T {
     let (mut all, mut before) = (Signals([0; 16]), Signals([0; 16]));
+    // SAFETY: both sets are of the type and the size that the C library has on 64-bit Linux, aligned, and borrowed for the calls alone.
     unsafe {
         sigfillset(&mut all);
         pthread_sigmask(SIG_BLOCK, &all, &mut before);
     }
     let done = act();
+    // SAFETY: as above; the set is the one that the first call wrote, and a null pointer asks for no old one.
     unsafe {
         pthread_sigmask(SIG_SETMASK, &before, std::ptr::null_mut());
     }

@@ -11,13 +11,16 @@ const F_GETFD: i32 = 1;
 static CLOSED: AtomicBool = AtomicBool::new(false);
 
 extern "C" fn look() {
-    CLOSED.store(unsafe { fcntl(1, F_GETFD) } == -1, Ordering::Relaxed);
+    // SAFETY: declared as the C library has it; with this command it takes no more arguments, reads no memory and changes nothing.
+    let flags = unsafe { fcntl(1, F_GETFD) };
+    CLOSED.store(flags == -1, Ordering::Relaxed);
 }
 
 #[used]
 #[link_section = ".init_array"]
 static BEFORE_MAIN: extern "C" fn() = look;
 
+/// Prints all of a text, or tells why not.
 pub fn print(text: &str) -> Result<(), String> {
     if CLOSED.load(Ordering::Relaxed) {
         return Err("standard output: closed".to_string());

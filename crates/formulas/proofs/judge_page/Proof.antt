@@ -1,4 +1,4 @@
--- `formulas::read_page` meets its contract: each path is one of `WholeRead`.
+-- `formulas::judge_page` meets its contract: each path is one of `WholeRead`.
 use borrow.Author.Needs.{needs}
 use Prim.Native.Nat.{ℕ, _≤_}
 use native.Mathlib.Omega.{arith}
@@ -8,9 +8,9 @@ use lib.Seq.{sets}
 use Rattle.marks.specs.Marks.{markOf, markFault, lent}
 use Rattle.formulas.specs.Readers.{SumRead}
 use Rattle.formulas.proofs.WholeRead.{first, begun, lent-all, refused-is, written-is}
-use Rattle.formulas.proofs.WholeRead.{few-words, words-are, words-length, fault-is}
-use Rattle.formulas.proofs.read_page.Statement.{statement}
-use Rattle.formulas.proofs.read_page.Tie as tie
+use Rattle.formulas.proofs.WholeRead.{few-words, words-are, words-length, place-is, fault-is}
+use Rattle.formulas.proofs.judge_page.Statement.{statement}
+use Rattle.formulas.proofs.judge_page.Tie as tie
 
 array-write-m : tie.Need-array-write-m
 array-write-m c = search needs
@@ -40,6 +40,9 @@ short s = omega (arith, all s, s .pre .2)
 fault-of-requires : tie.Need-fault-of-requires
 fault-of-requires c κs = search needs
 
+array-read-place : tie.Need-array-read-place
+array-read-place c = search needs
+
 array-read-parts : tie.Need-array-read-parts
 array-read-parts c = search needs
 
@@ -68,20 +71,23 @@ returns c =
     let text = lent (a .page .now) (a .bytes) in
     let d = read-to u in
     let f = fault-is text _ _ _ d (some s) (short s) ∙ ap (markFault _) (all s) in
-    written-is text (a .code .now) (c .copy .last .1 .1 .0) _ (f ∙ sym (t .before .fault-of .ensures) ∙ t .if1 .taken)
-    (sym (words-length text _ _ _ d))
+    written-is text (a .code .now) (c .copy .last .1 .1 .0) _ _ (f ∙ sym (t .before .fault-of .ensures) ∙ t .if1 .taken)
+    (place-is text _ _ _ d (short s)) (sym (words-length text _ _ _ d))
     (c .copy .ensures ∙ ap (sets (a .code .now) 0) (words-are text _ _ _ d (few t)))
 
 returns-2 : tie.Need-returns-2
+unfolding markOf
 returns-2 c =
     let u = c .before .before .before in
     let s = u .before .before .before in
     let a = s .args in
-    let f = fault-is (lent (a .page .now) (a .bytes)) _ _ _ (read-to u) (some s) (short s) ∙ ap (markFault _) (all s) in
-    refused-is (lent (a .page .now) (a .bytes)) (a .code .now) (c .before .fault-of .result) (f ∙ sym (c .before .fault-of .ensures))
-    (c .if1 .left)
+    let text = lent (a .page .now) (a .bytes) in
+    let f = fault-is text _ _ _ (read-to u) (some s) (short s) ∙ ap (markFault _) (all s) in
+    refused-is text (a .code .now) (c .before .fault-of .result) _ (f ∙ sym (c .before .fault-of .ensures)) (c .if1 .left)
+    (place-is text _ _ _ (read-to u) (short s))
 
-pub read-page-spec : {M : Type 1} → statement M
-read-page-spec =
+pub judge-page-spec : {M : Type 1} → statement M
+judge-page-spec =
     tie.close
-    (tie.spec array-write-m sum-requires fault-of-requires array-read-parts slice-aggregate-copy copy-requires returns returns-2)
+    (tie.spec array-write-m sum-requires fault-of-requires array-read-place array-read-parts slice-aggregate-copy copy-requires
+    returns returns-2)

@@ -1,7 +1,7 @@
--- `moves::larger` meets its contract.
+-- `marks::larger` meets its contract.
 use native.Mathlib.Omega.{arith}
-use Rattle.moves.proofs.larger.Statement.{statement}
-use Rattle.moves.proofs.larger.Tie as tie
+use Rattle.marks.proofs.larger.Statement.{statement}
+use Rattle.marks.proofs.larger.Tie as tie
 
 returns : tie.Need-returns
 returns c = omega (arith, c .if1 .taken)

@@ -1,0 +1,2 @@
+-- Where reading a formula stops.
+pub mod Beginnings
