@@ -1,10 +1,11 @@
-/* Rascrunel: timing signals as lists of words, sheets of named signals, formulas and claims, up-times.
+/* Rascrunel: timing signals as lists of words, sheets of named signals, formulas and claims, up-times, columns of values.
  *
  * The functions below are proved: each comes to an end on every input, judges its input, and gives the number that
  * crates/capi/specs defines. This header is not proved; it only declares them and takes their numbers apart. It is C99 and C++.
  *
  * Time. A tick is one millisecond. Dates, instants, gaps, lengths and horizons are counts of ticks. A moment is an instant k (from
- * 1 on) or the gap k between the instants k and k + 1 (from 0 on).
+ * 1 on) or the gap k between the instants k and k + 1 (from 0 on). As a number it is 2 * k for the instant k and 2 * k + 1 for the
+ * gap k: the numbers rise as the moments do, and 0 is no moment.
  *
  * Lists. A list is 1 to 256 words. The first is 0 or 1, the value from the start on. Each later word is
  * 4 * date + 2 * (value at the date) + (value after it). Dates rise strictly from 1 and are at most 1073741823 (M). A word
@@ -21,11 +22,11 @@
  * So the words of the first signal begin at byte 17, and those of every signal at an odd byte, not aligned for uint32_t: take
  * them with sgl_place_word, or with memcpy where numbers stand low byte first, and never through a uint32_t *.
  *
- * Slices. Each list, sheet, name, formula, work area and output is two arguments, a pointer and a count of elements (but for the
- * 32 words of sgl_formula_parts, which are a pointer alone). The pointer is never null, not even when the count is 0, and is
- * aligned for its type. Inputs are only read, and may overlap each other or be one and the same. Outputs and work areas overlap
- * nothing else: neither an input nor each other. So a sheet is appended to from one buffer into another, and a list is not tidied
- * in place.
+ * Slices. Lists, moments, sheets, names, formulas, work areas and outputs are two arguments each, a pointer and a count of elements
+ * (but for the 32 words of sgl_formula_parts, which are a pointer alone). The pointer is never null, not even when the count is 0,
+ * and is aligned for its type. Inputs are only read, and may overlap each other or be one and the same. Outputs and work areas
+ * overlap nothing else: neither an input nor each other. So a sheet is appended to from one buffer into another, a list is not
+ * tidied in place, and values are not written over their moments.
  *
  * Threads. Nothing is kept between calls: the library has no variable, takes no lock, allocates nothing, sets no errno, and calls
  * nothing but memcpy and memset. So any number of threads may call at a time, also the same function on the same inputs, as long
@@ -41,13 +42,15 @@
  *             output and its count is 0. Elements of the output past the count keep what they held.
  *   verdict   (uint64_t) 0 holds, 2 * k fails at k, 2 * k + 1 fails after k (between k and k + 1), 2^40 * n refused with n.
  *   span      (uint64_t) 2^32 * last + first: the earliest moment that fails, and the last of the unbroken run of failing moments
- *             that begins with it, 0 when that never ends (fails for good). A moment is 2 * k for the instant k and 2 * k + 1 for
- *             the gap between k and k + 1. Holds is exactly 0. Refused with n is 2^32 * n: not packed as a verdict is, and a span
- *             is refused exactly when its low 32 bits are 0 and its high 32 bits are not. No moment that fails is 0.
+ *             that begins with it, 0 when that never ends (fails for good), both as numbers. Holds is exactly 0. Refused with n
+ *             is 2^32 * n: not packed as a verdict is, and a span is refused exactly when its low 32 bits are 0 and its high 32
+ *             bits are not. No moment that fails is 0.
  *   place     (uint64_t) 2^24 * first byte + byte count of a signal's words on the sheet; refused, 2^48 * fault, and the first
  *             byte and the count are 0.
  *   up-time   (uint64_t) 2^16 * total in ticks + count of the words written; refused, 2^48 * fault, and total and count are 0.
  *             Refused, nothing is written; words past the count keep what they held.
+ *   column    (uint64_t) 2^16 * number of the list's words passed + count of the words written; refused, 2^48 * fault, and both
+ *             are 0. Refused, nothing is written; words past the count keep what they held.
  *   stop      (uint64_t) 2^48 * fault + how many bytes of a text some formula begins with.
  */
 #ifndef RASCRUNEL_H
@@ -62,30 +65,32 @@ extern "C" {
 
 /* Why a call is refused. A later library may have more of them. */
 enum sgl_fault {
-    SGL_OK = 0,              /* not refused */
-    SGL_LIST_LENGTH = 1,     /* list empty or over 256 words */
-    SGL_FIRST_WORD = 2,      /* first word above 1 */
-    SGL_DATE_ORDER = 3,      /* date not above the last */
-    SGL_NO_CHANGE = 4,       /* word changes nothing */
-    SGL_TOO_LONG = 5,        /* exact answer over 256 words */
-    SGL_CHANGES_AFTER_M = 6, /* exact answer changes after M */
-    SGL_SHORT_OUTPUT = 7,    /* output shorter than the answer */
-    SGL_LENGTH_ABOVE_M = 8,  /* length above M */
-    SGL_DATE = 9,            /* instant 0, or date above M */
-    SGL_FORMULA_LENGTH = 10, /* formula empty or over 1,024 bytes */
-    SGL_GRAMMAR = 11,        /* formula outside the grammar */
-    SGL_TOO_COMPLEX = 12,    /* over 32 parts, or depth over 16 */
-    SGL_UNKNOWN_NAME = 13,   /* name not in the sheet */
-    SGL_MARK = 14,           /* mark or version of a sheet wrong or cut */
-    SGL_SHEET_SIZE = 15,     /* count missing or over 32, sheet cut or too long, or append to 32 */
-    SGL_NAME = 16,           /* name malformed or repeated */
-    SGL_SHEET_LIST = 17,     /* a sheet's list breaks 1 to 4 */
-    SGL_SHORT_WORK = 18,     /* work area under 8,192 words */
-    SGL_HORIZON_ABOVE_M = 19 /* horizon above M (of the program also: not written as a length is) */
+    SGL_OK = 0,               /* not refused */
+    SGL_LIST_LENGTH = 1,      /* list empty or over 256 words */
+    SGL_FIRST_WORD = 2,       /* first word above 1 */
+    SGL_DATE_ORDER = 3,       /* date not above the last */
+    SGL_NO_CHANGE = 4,        /* word changes nothing */
+    SGL_TOO_LONG = 5,         /* exact answer over 256 words */
+    SGL_CHANGES_AFTER_M = 6,  /* exact answer changes after M */
+    SGL_SHORT_OUTPUT = 7,     /* output shorter than the answer */
+    SGL_LENGTH_ABOVE_M = 8,   /* length above M */
+    SGL_DATE = 9,             /* instant 0, or date above M */
+    SGL_FORMULA_LENGTH = 10,  /* formula empty or over 1,024 bytes */
+    SGL_GRAMMAR = 11,         /* formula outside the grammar */
+    SGL_TOO_COMPLEX = 12,     /* over 32 parts, or depth over 16 */
+    SGL_UNKNOWN_NAME = 13,    /* name not in the sheet */
+    SGL_MARK = 14,            /* mark or version of a sheet wrong or cut */
+    SGL_SHEET_SIZE = 15,      /* count missing or over 32, sheet cut or too long, or append to 32 */
+    SGL_NAME = 16,            /* name malformed or repeated */
+    SGL_SHEET_LIST = 17,      /* a sheet's list breaks 1 to 4 */
+    SGL_SHORT_WORK = 18,      /* work area under 8,192 words */
+    SGL_HORIZON_ABOVE_M = 19, /* horizon above M (of the program also: not written as a length is) */
+    SGL_MOMENT_ORDER = 20     /* moment not after the one before it, or over 1,000 moments */
 };
 
 /* The largest date and the largest length; the most words of a list; the work words of sgl_evaluate, sgl_claim and
- * sgl_claim_span; the bytes of the sheet without signals and of the longest; the most bytes and the most parts of a formula. */
+ * sgl_claim_span; the bytes of the sheet without signals and of the longest; the most bytes and the most parts of a formula; the
+ * most moments of a column. */
 #define SGL_M 1073741823u
 #define SGL_LIST_WORDS 256u
 #define SGL_WORK_WORDS 8192u
@@ -93,20 +98,28 @@ enum sgl_fault {
 #define SGL_SHEET_BYTES 33095u
 #define SGL_FORMULA_BYTES 1024u
 #define SGL_FORMULA_PARTS 32u
+#define SGL_COLUMN_MOMENTS 1000u
 
 /* The most stack that a call needs, 128 KB: bindings/c/stack.c makes the deepest calls in threads of it. */
 #define SGL_STACK_BYTES 131072u
 
 /* A uint32_t result: its fault, its count, and whether the call says yes or up. `if (sgl_equal(..))` would take a refusal for a yes.
- * Here and below each macro takes its argument once. */
+ * They are for uint32_t results alone: of a column, say, SGL_FAULT would give the words passed. Here and below each macro takes its
+ * argument once. */
 #define SGL_FAULT(result) ((uint32_t)(result) / 65536u)
 #define SGL_COUNT(result) ((uint32_t)(result) % 65536u)
 #define SGL_YES(result) ((uint32_t)(result) == 1u)
 
-/* A moment, of a verdict or of a span, and 0 where there is none: whether it is an instant or a gap, and its k. */
+/* A moment's number, that of a verdict or of a span, and 0 where there is none: whether it is an instant or a gap, and its k. */
 #define SGL_MOMENT_AT(moment) sgl_moment_at((uint32_t)(moment))
 #define SGL_MOMENT_AFTER(moment) ((uint32_t)(moment) % 2u == 1u)
 #define SGL_MOMENT_K(moment) ((uint32_t)(moment) / 2u)
+
+/* The number of the instant k and of the gap k, for sgl_values; k is an integer. One that is negative or above 2147483647, which has
+ * none in 32 bits, counts as 2147483647: the call is refused, with 20 where the numbers then do not rise, else with 9. They are
+ * calls: a table of constants has 2 * k and 2 * k + 1. */
+#define SGL_INSTANT(k) sgl_moment_number((uint64_t)(k))
+#define SGL_GAP(k) (sgl_moment_number((uint64_t)(k)) + 1u)
 
 /* A verdict, which is no span: whether it holds, whether it fails at an instant or after one, and that instant. A refusal neither
  * holds nor fails. */
@@ -139,6 +152,11 @@ enum sgl_fault {
 #define SGL_UPTIME_TOTAL(uptime) ((uint32_t)((uint64_t)(uptime) >> 16 & 0xffffffffu))
 #define SGL_UPTIME_COUNT(uptime) ((uint32_t)((uint64_t)(uptime) & 0xffffu))
 
+/* A column: how many of the list's words the last moment passes, and the count of the words written, one a moment. */
+#define SGL_COLUMN_FAULT(column) ((uint32_t)((uint64_t)(column) >> 48))
+#define SGL_COLUMN_PASSED(column) ((uint32_t)((uint64_t)(column) >> 16 & 0xffffffffu))
+#define SGL_COLUMN_COUNT(column) ((uint32_t)((uint64_t)(column) & 0xffffu))
+
 /* A stop: the fault of a formula by itself, and the byte at which reading stopped, counted from 0, which is the length where the
  * text is a formula or is cut short. The place is told of refusals too. */
 #define SGL_STOP_FAULT(stop) ((uint32_t)((uint64_t)(stop) >> 48))
@@ -166,9 +184,12 @@ enum sgl_part {
 #define SGL_PART_NAME_COUNT(part) sgl_part_name_count(part)
 #define SGL_PART_LENGTH(part) sgl_part_length(part)
 
-/* What depends on more than one part of a number. */
+/* What depends on more than one part of a number, or takes its argument twice. */
 static inline uint32_t sgl_moment_at(uint32_t moment) {
     return moment == 0 ? 0 : 1 - moment % 2;
+}
+static inline uint32_t sgl_moment_number(uint64_t k) {
+    return k > 0x7fffffffu ? 0xfffffffeu : (uint32_t)k * 2u;
 }
 static inline uint32_t sgl_span_fault(uint64_t span) {
     return SGL_SPAN_FIRST(span) == 0 ? (uint32_t)(span >> 32) : 0;
@@ -203,6 +224,14 @@ uint32_t sgl_tidy(const uint32_t *list, size_t list_words, uint32_t *out, size_t
 /* The value at the instant k, and in the gap between k and k + 1. Faults of the list, 9. */
 uint32_t sgl_value_at(const uint32_t *list, size_t list_words, uint32_t k);
 uint32_t sgl_value_in(const uint32_t *list, size_t list_words, uint32_t k);
+
+/* Values of a list's signal at rising moments, in time linear in both: writes a word for each moment, 1 for up and 0 for down, as
+ * the two calls above tell them one by one. The moments are numbers from 1 to 2 * SGL_M + 1, each above the one before it: those
+ * that SGL_INSTANT and SGL_GAP make, or that verdicts and spans give; there are at most SGL_COLUMN_MOMENTS, or none. The words
+ * passed are the list's words dated at or before the last moment, the first word counted as date 0; no moments pass none. The list
+ * of a signal on a sheet is looked up first (sgl_lookup, sgl_place_word). Faults of the list, 20 of any moment, 9 of any, 7. */
+uint64_t sgl_values(const uint32_t *list, size_t list_words, const uint32_t *moments, size_t moment_count,
+                    uint32_t *out, size_t out_words);
 
 /* Whether two lists give one signal. Faults of a, of b. */
 uint32_t sgl_equal(const uint32_t *a, size_t a_words, const uint32_t *b, size_t b_words);

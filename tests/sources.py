@@ -8,7 +8,7 @@ RATTLE = re.compile(r"""\s+|//[^\n]*|b?"(?:\\.|[^"\\])*"|b'(?:\\.|[^'\\])'|'\w+|
 MARKS = ("pub", "unfoldable", "abbrev", "axiom")
 CLAUSES = ("ghost", "requires", "ensures")
 # the libraries of the test programs, no part of the product
-TEST_SUPPORT = {"fields", "notation", "answers", "list_calls", "sheet_calls"}
+TEST_SUPPORT = {"fields", "notation", "answers", "list_calls", "column_calls", "sheet_calls"}
 TEST_SUPPORT |= {"random_formulas", "random_sheets", "stepping", "random_calls"}
 
 

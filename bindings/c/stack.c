@@ -1,6 +1,6 @@
-/* The formulas that go deepest, and up-times of the longest sheet, each called in a thread of SGL_STACK_BYTES bytes of stack with
- * a guard below it: a call that needs more ends the program. Prints the most that a call used. `stack N` gives the threads N bytes
- * instead. */
+/* The formulas that go deepest, up-times of the longest sheet and columns of the longest list, each called in a thread of
+ * SGL_STACK_BYTES bytes of stack with a guard below it: a call that needs more ends the program. Prints the most that a call used.
+ * `stack N` gives the threads N bytes instead. */
 #define _DEFAULT_SOURCE
 #include <pthread.h>
 #include <stdio.h>
@@ -25,9 +25,9 @@ static const struct { const char *open, *inner, *close; } shapes[] = {
 
 static const uint8_t sheet[] = {83, 71, 76, 1, 0, 1, 0, 97, 0, 0, 0, 0, 0, 0, 0, 3, 0, 0, 0, 0, 0, 23, 0, 0, 0, 36, 0, 0, 0};
 static uint8_t full[2][SGL_SHEET_BYTES];
-static uint32_t out[SGL_LIST_WORDS], work[SGL_WORK_WORDS];
+static uint32_t list[SGL_LIST_WORDS], out[SGL_LIST_WORDS], work[SGL_WORK_WORDS];
 static char text[SGL_FORMULA_BYTES + 2];
-static size_t bytes, stack = SGL_STACK_BYTES, most;
+static size_t bytes, gaps, stack = SGL_STACK_BYTES, most;
 static uint64_t answer;
 static int failed;
 
@@ -76,6 +76,15 @@ static void *uptime(void *none) {
     return none;
 }
 
+static void *values(void *none) {
+    static uint32_t moments[SGL_COLUMN_MOMENTS + 1], column[SGL_COLUMN_MOMENTS];
+    uint32_t i;
+    for (i = 0; i < gaps; i++)
+        moments[i] = SGL_GAP(i);
+    answer = SGL_COLUMN_FAULT(sgl_values(list, SGL_LIST_WORDS, moments, gaps, column, SGL_COLUMN_MOMENTS));
+    return none;
+}
+
 static void stop(const char *what) {
     perror(what);
     exit(2);
@@ -120,9 +129,9 @@ static void add(const char *part) {
     bytes += strlen(part);
 }
 
-/* The longest sheet: 32 signals, a to z and then aa to ff, of 256 words that go up and down in turn. */
+/* The longest sheet: 32 signals, a to z and then aa to ff, of 256 words that go up and down in turn, the longest list. */
 static void fill(void) {
-    uint32_t list[SGL_LIST_WORDS] = {0}, n, i;
+    uint32_t n, i;
     for (i = 1; i < SGL_LIST_WORDS; i++)
         list[i] = 4 * i + (i % 2 ? 3 : 0);
     n = sgl_begin(full[0], SGL_SHEET_BYTES);
@@ -164,6 +173,10 @@ int main(int count, char **words) {
         add(names[i].name);
         call(uptime, names[i].fault);
     }
+    gaps = SGL_COLUMN_MOMENTS;
+    call(values, 0);
+    gaps = SGL_COLUMN_MOMENTS + 1;
+    call(values, 20);
     printf("stack: at most %lu of %lu bytes\n", (unsigned long)most, (unsigned long)stack);
     return failed;
 }

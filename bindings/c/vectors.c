@@ -1,5 +1,5 @@
-/* Document 01's cases, document 02's pulse timer, up-times and spans through the header: every exported function and every macro,
- * each macro on refusals too. C99, C11 and C++. */
+/* Document 01's cases, document 02's pulse timer, up-times, spans and columns through the header: every exported function and every
+ * macro, each macro on refusals too. C99, C11 and C++. */
 #include <stdio.h>
 #include <string.h>
 #include "rascrunel.h"
@@ -204,7 +204,8 @@ static void faults(void) {
         {SGL_OK, 0}, {SGL_LIST_LENGTH, 1}, {SGL_FIRST_WORD, 2}, {SGL_DATE_ORDER, 3}, {SGL_NO_CHANGE, 4}, {SGL_TOO_LONG, 5},
         {SGL_CHANGES_AFTER_M, 6}, {SGL_SHORT_OUTPUT, 7}, {SGL_LENGTH_ABOVE_M, 8}, {SGL_DATE, 9}, {SGL_FORMULA_LENGTH, 10},
         {SGL_GRAMMAR, 11}, {SGL_TOO_COMPLEX, 12}, {SGL_UNKNOWN_NAME, 13}, {SGL_MARK, 14}, {SGL_SHEET_SIZE, 15}, {SGL_NAME, 16},
-        {SGL_SHEET_LIST, 17}, {SGL_SHORT_WORK, 18}, {SGL_HORIZON_ABOVE_M, 19}};
+        {SGL_SHEET_LIST, 17}, {SGL_SHORT_WORK, 18}, {SGL_HORIZON_ABOVE_M, 19}, {SGL_MOMENT_ORDER, 20}};
+    static const uint32_t turned[] = {11, 10};
     uint8_t cut[sizeof printed];
     for (size_t i = 0; i < sizeof named / sizeof *named; i++) {
         IS((uint32_t)named[i].fault, named[i].number);
@@ -233,6 +234,7 @@ static void faults(void) {
     IS(SGL_FAULT(sgl_sheet_fault(N(cut))), SGL_SHEET_LIST);
     IS(SGL_FAULT(sgl_evaluate(N(printed), TEXT("a"), work, 0, OUT)), SGL_SHORT_WORK);
     IS(SGL_UPTIME_FAULT(sgl_uptime(N(printed), TEXT("a"), SGL_M + 1, OUT)), SGL_HORIZON_ABOVE_M);
+    IS(SGL_COLUMN_FAULT(sgl_values(N(f), N(turned), OUT)), SGL_MOMENT_ORDER);
     IS(SGL_FAULT(65535u), 0);
     IS(SGL_YES(sgl_equal(N(f), N(f))), 1);
     IS(SGL_YES(sgl_equal(N(f), N(e))), 0);
@@ -443,6 +445,114 @@ static void uptimes(void) {
     NO_UPTIME(sgl_uptime(other, 4, TEXT("a"), 8, OUT), 14);
 }
 
+/* A column: the answer and its parts, and the whole output. */
+static void column(int line, uint64_t got, uint32_t fault, uint32_t passed, const uint32_t *want, uint32_t count) {
+    same(line, got, fault ? (uint64_t)fault << 48 : (uint64_t)passed << 16 | count);
+    same(line, SGL_COLUMN_FAULT(got), fault);
+    same(line, SGL_COLUMN_PASSED(got), passed);
+    same(line, SGL_COLUMN_COUNT(got), count);
+    whole(line, want, count);
+}
+
+#define COLUMN(got, passed, ...) \
+    do { const uint32_t want_[] = {__VA_ARGS__}; column(__LINE__, (got), 0, (passed), want_, sizeof want_ / 4); } while (0)
+#define EMPTY_COLUMN(got) column(__LINE__, (got), 0, 0, NULL, 0)
+#define NO_COLUMN(got, fault) column(__LINE__, (got), (fault), 0, NULL, 0)
+
+/* The numbers of moments: made of k, and taken apart again. */
+static void moment(int line, uint32_t k) {
+    same(line, SGL_INSTANT(k), 2 * k);
+    same(line, SGL_GAP(k), 2 * k + 1);
+    same(line, SGL_MOMENT_AT(SGL_INSTANT(k)), k != 0);
+    same(line, SGL_MOMENT_AFTER(SGL_INSTANT(k)), 0);
+    same(line, SGL_MOMENT_AT(SGL_GAP(k)), 0);
+    same(line, SGL_MOMENT_AFTER(SGL_GAP(k)), 1);
+    same(line, SGL_MOMENT_K(SGL_INSTANT(k)), k);
+    same(line, SGL_MOMENT_K(SGL_GAP(k)), k);
+}
+
+static void moments(void) {
+    static const uint32_t past[] = {2147483648u, 4294967295u};
+    uint32_t once = 5;
+    moment(__LINE__, 0);
+    moment(__LINE__, 1);
+    moment(__LINE__, SGL_M);
+    moment(__LINE__, SGL_M + 1);
+    moment(__LINE__, 2147483647u);
+    for (size_t i = 0; i < sizeof past / 4; i++) {
+        IS(SGL_INSTANT(past[i]), 4294967294u);
+        IS(SGL_GAP(past[i]), 4294967295u);
+    }
+    IS(SGL_INSTANT(-1), 4294967294u);
+    IS(SGL_GAP(1ull << 32), 4294967295u);
+    IS(SGL_INSTANT(once++), 10);
+    IS(SGL_GAP(once++), 13);
+    IS(once, 7);
+}
+
+static void columns(void) {
+    static const uint32_t spiked[] = {0, 22, 37}; /* down, up only at 5, up after 9 */
+    const uint32_t all[] = {SGL_GAP(0), SGL_GAP(4), SGL_INSTANT(5), SGL_GAP(5), SGL_INSTANT(9), SGL_GAP(9), SGL_INSTANT(10),
+                            SGL_GAP(SGL_M)};
+    const uint32_t turned[] = {GAP(5), AT(5)}, equal[] = {AT(5), AT(5)}, third[] = {GAP(0), GAP(4), GAP(4)}, zero[] = {0, GAP(0)},
+        zero_later[] = {GAP(0), 0}, past_m[] = {GAP(0), AT(SGL_M + 1)}, late_falls[] = {AT(SGL_M + 1), GAP(0)},
+        at_m[] = {GAP(SGL_M - 1), AT(SGL_M), GAP(SGL_M)};
+    uint32_t full[SGL_LIST_WORDS + 1], many[SGL_COLUMN_MOMENTS + 1], values[SGL_COLUMN_MOMENTS + 1];
+    uint64_t got;
+    sevens();
+    COLUMN(sgl_values(N(spiked), N(all), OUT), 3, 0, 0, 1, 0, 0, 1, 1, 1);
+    /* the words passed are those up to the last moment */
+    COLUMN(sgl_values(N(spiked), all, 1, OUT), 1, 0);
+    COLUMN(sgl_values(N(spiked), all, 2, OUT), 1, 0, 0);
+    COLUMN(sgl_values(N(spiked), all, 3, OUT), 2, 0, 0, 1);
+    COLUMN(sgl_values(N(spiked), all, 4, OUT), 2, 0, 0, 1, 0);
+    COLUMN(sgl_values(N(spiked), all, 5, OUT), 3, 0, 0, 1, 0, 0);
+    COLUMN(sgl_values(N(spiked), all + 2, 1, OUT), 2, 1);
+    COLUMN(sgl_values(N(up), N(at_m), OUT), 2, 0, 1, 1);
+    COLUMN(sgl_values(N(up), at_m, 1, OUT), 1, 0);
+    COLUMN(sgl_values(N(one), N(at_m), OUT), 1, 1, 1, 1);
+    /* inputs may be one and the same */
+    COLUMN(sgl_values(N(one), N(one), OUT), 1, 1);
+    /* outputs just long enough, and a word short; no moments need no room */
+    COLUMN(sgl_values(N(spiked), all, 3, out, 3), 2, 0, 0, 1);
+    NO_COLUMN(sgl_values(N(spiked), all, 3, out, 2), 7);
+    COLUMN(sgl_values(N(spiked), all, 1, out, 1), 1, 0);
+    NO_COLUMN(sgl_values(N(spiked), all, 1, out, 0), 7);
+    EMPTY_COLUMN(sgl_values(N(spiked), all, 0, OUT));
+    EMPTY_COLUMN(sgl_values(N(spiked), all, 0, out, 0));
+    /* each fault, also before those that come later */
+    for (uint32_t i = 0; i <= SGL_LIST_WORDS; i++)
+        full[i] = 4 * i;
+    NO_COLUMN(sgl_values(f, 0, N(turned), out, 0), 1);
+    NO_COLUMN(sgl_values(f, 0, all, 0, OUT), 1);
+    NO_COLUMN(sgl_values(N(full), N(turned), out, 0), 1);
+    NO_COLUMN(sgl_values(N(bad2), N(turned), out, 0), 2);
+    NO_COLUMN(sgl_values(N(bad3), N(turned), out, 0), 3);
+    NO_COLUMN(sgl_values(N(bad4), N(turned), out, 0), 4);
+    NO_COLUMN(sgl_values(N(f), N(turned), out, 0), 20);
+    NO_COLUMN(sgl_values(N(f), N(equal), OUT), 20);
+    NO_COLUMN(sgl_values(N(f), N(third), OUT), 20);
+    NO_COLUMN(sgl_values(N(f), N(zero_later), OUT), 20);
+    NO_COLUMN(sgl_values(N(f), N(late_falls), OUT), 20);
+    NO_COLUMN(sgl_values(N(f), N(zero), out, 0), 9);
+    NO_COLUMN(sgl_values(N(f), N(past_m), out, 1), 9);
+    NO_COLUMN(sgl_values(N(f), late_falls, 1, out, 0), 9);
+    COLUMN(sgl_values(N(f), past_m, 1, out, 1), 1, 0);
+    /* 1,000 moments, and one more */
+    for (uint32_t i = 0; i <= SGL_COLUMN_MOMENTS; i++) {
+        many[i] = SGL_GAP(i);
+        values[i] = 7;
+    }
+    got = sgl_values(N(f), many, SGL_COLUMN_MOMENTS, N(values));
+    IS(got, 3ull << 16 | 1000);
+    IS(SGL_COLUMN_COUNT(got), SGL_COLUMN_MOMENTS);
+    for (uint32_t i = 0; i < SGL_COLUMN_MOMENTS; i++)
+        IS(values[i], i >= 5 && i < 9);
+    IS(values[SGL_COLUMN_MOMENTS], 7);
+    IS(sgl_values(N(f), N(many), N(values)), 20ull << 48);
+    IS(sgl_values(N(f), many, SGL_COLUMN_MOMENTS, values, SGL_COLUMN_MOMENTS - 1), 7ull << 48);
+}
+
 int main(void) {
     lists();
     tidyings();
@@ -456,5 +566,7 @@ int main(void) {
     spans();
     claims();
     uptimes();
+    moments();
+    columns();
     return failed;
 }

@@ -5,7 +5,7 @@ use std::fs;
 use std::path::{Path, PathBuf};
 
 // The newest call of the library: an archive without it was made of older sources.
-const NEWEST: &str = "sgl_formula_parts";
+const NEWEST: &str = "sgl_values";
 
 const ARCHIVE: &str = "libcapi.a";
 

@@ -1,5 +1,5 @@
 //! Both give each call the same answer: the same number, and the same words in the whole of the output.
-use crate::generate::{self, Asked, Claim, Given, Set, MOST_WORDS};
+use crate::generate::{self, Asked, Chart, Claim, Given, Set, MOST_MOMENTS, MOST_WORDS};
 use crate::random::Random;
 use crate::{ffi, plain};
 use std::fmt::Write;
@@ -244,4 +244,50 @@ pub fn tidyings(seed: u64, count: usize, other: TidyCall) -> Result<Tidied, Stri
         tidied.dropped += (1..list.len()).contains(&(ours as usize)) as usize;
     }
     Ok(tidied)
+}
+
+/// A column call.
+pub type ColumnCall = fn(&[u32], &[u32], &mut [u32]) -> u64;
+
+/// How many columns were refused with each fault, 0 for none, and how many moments those that were answered have together.
+#[derive(Default)]
+pub struct Charted {
+    pub met: [usize; 21],
+    pub moments: usize,
+}
+
+/// Columns into outputs that are long, of any length, exactly long enough, and a word short, and their single calls: the first difference,
+/// or how they came out.
+pub fn columns(seed: u64, count: usize, other: ColumnCall) -> Result<Charted, String> {
+    let mut random = Random(seed);
+    let mut charted = Charted::default();
+    for _ in 0..count {
+        let Chart { list, moments } = generate::chart(&mut random);
+        let room = match random.below(5) {
+            0 => random.below(50),
+            1 => moments.len(),
+            2 => moments.len().saturating_sub(1),
+            _ => MOST_MOMENTS + 1,
+        };
+        let (mut out, mut other_out) = (vec![7; room], vec![7; room]);
+        let ours = ffi::values(&list, &moments, &mut out);
+        let others = other(&list, &moments, &mut other_out);
+        let given = || format!("column\nlist {list:?}\nmoments {moments:?}\noutput of {room} words");
+        if (ours, &out) != (others, &other_out) {
+            let given = given();
+            return Err(format!("{given}\nours: {ours}, output {out:?}\nplain: {others}, output {other_out:?}"));
+        }
+        charted.met[(ours >> 48) as usize] += 1;
+        if ours >> 48 != 0 {
+            continue;
+        }
+        charted.moments += moments.len();
+        for (&moment, &value) in moments.iter().zip(&out) {
+            let single = ffi::value(&list, moment);
+            if single != value {
+                return Err(format!("{}\nours at {moment}: {value}, the single call: {single}", given()));
+            }
+        }
+    }
+    Ok(charted)
 }

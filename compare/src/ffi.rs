@@ -16,6 +16,16 @@ mod c {
     extern "C" {
         pub fn clock_gettime(clock: i32, time: *mut Time) -> i32;
         pub fn sgl_tidy(list: List, list_words: usize, out: Out, out_words: usize) -> u32;
+        pub fn sgl_value_at(list: List, list_words: usize, k: u32) -> u32;
+        pub fn sgl_value_in(list: List, list_words: usize, k: u32) -> u32;
+        pub fn sgl_values(
+            list: List,
+            list_words: usize,
+            moments: List,
+            moment_count: usize,
+            out: Out,
+            out_words: usize,
+        ) -> u64;
         pub fn sgl_not(a: List, a_words: usize, out: Out, out_words: usize) -> u32;
         pub fn sgl_rising(a: List, a_words: usize, out: Out, out_words: usize) -> u32;
         pub fn sgl_falling(a: List, a_words: usize, out: Out, out_words: usize) -> u32;
@@ -89,6 +99,19 @@ pub fn process_time() -> u64 {
 
 pub fn tidy(list: &[u32], out: &mut [u32]) -> u32 {
     unsafe { c::sgl_tidy(list.as_ptr(), list.len(), out.as_mut_ptr(), out.len()) }
+}
+
+/// The single call of a moment: the value at an instant, or in a gap.
+pub fn value(list: &[u32], moment: u32) -> u32 {
+    if moment.is_multiple_of(2) {
+        unsafe { c::sgl_value_at(list.as_ptr(), list.len(), moment / 2) }
+    } else {
+        unsafe { c::sgl_value_in(list.as_ptr(), list.len(), moment / 2) }
+    }
+}
+
+pub fn values(list: &[u32], moments: &[u32], out: &mut [u32]) -> u64 {
+    unsafe { c::sgl_values(list.as_ptr(), list.len(), moments.as_ptr(), moments.len(), out.as_mut_ptr(), out.len()) }
 }
 
 pub fn not(a: &[u32], out: &mut [u32]) -> u32 {

@@ -8,7 +8,7 @@ mod random;
 mod times;
 
 use batches::Batch;
-use equal::{ListCall, Tally, Tidied, LIST_CALLS};
+use equal::{Charted, ListCall, Tally, Tidied, LIST_CALLS};
 use generate::{Set, MOST_WORDS};
 use std::process::ExitCode;
 use times::Times;
@@ -24,7 +24,10 @@ const UPTIME_FAULTS: [usize; 7] = [7, 13, 14, 15, 16, 17, 19];
 /// The faults that a tidying can meet.
 const TIDY_FAULTS: [usize; 4] = [1, 2, 3, 7];
 
-const USAGE: &str = "compare [--equal | --calls ROW | ROW]";
+/// The faults that a column can meet.
+const COLUMN_FAULTS: [usize; 7] = [1, 2, 3, 4, 7, 9, 20];
+
+const USAGE: &str = "compare [--equal | --singles | --calls ROW | ROW]";
 
 /// A wrong tidying: it puts each word down before it looks whether to keep it, so that one dropped at the end stands past the count.
 fn tidy_leaving_one(list: &[u32], out: &mut [u32]) -> u32 {
@@ -43,6 +46,39 @@ fn tidy_undated(list: &[u32], out: &mut [u32]) -> u32 {
     }
     let kept = list.windows(2).filter(|pair| !plain::is_idle(pair)).map(|pair| pair[1]);
     plain::tidy(&list.iter().take(1).copied().chain(kept).collect::<Vec<_>>(), out)
+}
+
+/// The word of a list at the date of a moment.
+fn word_at(list: &[u32], moment: u32) -> Option<u32> {
+    list[1..].iter().copied().find(|word| word / 4 == moment / 2)
+}
+
+/// A wrong column: at an instant it tells the value after it.
+fn values_after(list: &[u32], moments: &[u32], out: &mut [u32]) -> u64 {
+    let column = plain::values(list, moments, out);
+    if column >> 48 == 0 {
+        for (value, &moment) in out.iter_mut().zip(moments) {
+            *value = word_at(list, moment).map_or(*value, |word| word % 2);
+        }
+    }
+    column
+}
+
+/// A wrong column: it does not count a word dated at the last moment.
+fn values_before(list: &[u32], moments: &[u32], out: &mut [u32]) -> u64 {
+    let column = plain::values(list, moments, out);
+    match moments.last() {
+        Some(&last) if column >> 48 == 0 && word_at(list, last).is_some() => column - (1 << 16),
+        _ => column,
+    }
+}
+
+/// A wrong column: it judges dates before order.
+fn values_dated_first(list: &[u32], moments: &[u32], out: &mut [u32]) -> u64 {
+    match plain::values(list, moments, out) {
+        column if column >> 48 == 20 && moments.iter().any(|&moment| moment == 0 || moment >> 31 != 0) => 9 << 48,
+        column => column,
+    }
 }
 
 /// Wrong engines in the place of plain: the check must tell each of them from ours.
@@ -92,7 +128,10 @@ fn wrong_ones_are_told() -> Result<(), String> {
     });
     told("a horizon of a tick less", tick_less.is_err())?;
     told("a dropped word past the count", equal::tidyings(SEED, 300, tidy_leaving_one).is_err())?;
-    told("dates of dropped words that are not judged", equal::tidyings(SEED, 300, tidy_undated).is_err())
+    told("dates of dropped words that are not judged", equal::tidyings(SEED, 300, tidy_undated).is_err())?;
+    told("the value after an instant", equal::columns(SEED, 300, values_after).is_err())?;
+    told("a word at the last moment that is not counted", equal::columns(SEED, 300, values_before).is_err())?;
+    told("9 before 20", equal::columns(SEED, 300, values_dated_first).is_err())
 }
 
 /// The faults with how often each was met; none may be missing.
@@ -133,6 +172,14 @@ fn check_tidyings(count: usize) -> Result<(), String> {
     Ok(())
 }
 
+/// Both are equal on so many columns.
+fn check_columns(count: usize) -> Result<(), String> {
+    let Charted { met, moments } = equal::columns(SEED, count, plain::values)?;
+    println!("columns  {count} calls: {} answered, of {moments} moments, {} refused", met[0], count - met[0]);
+    println!("refused with {}", faults_met(&COLUMN_FAULTS, &met, "column")?);
+    Ok(())
+}
+
 /// Both are equal on so many claims of each set (of the largest a twentieth) and so many lists.
 fn check(count: usize) -> Result<(), String> {
     wrong_ones_are_told()?;
@@ -162,7 +209,8 @@ fn check(count: usize) -> Result<(), String> {
     println!("lists    {} calls: {answered} answered, {refused} refused", answered + refused);
     check_uptimes(count)?;
     check_tidyings(count)?;
-    println!("equal    every verdict, fault, count, total and output");
+    check_columns(count)?;
+    println!("equal    every verdict, fault, count, total, number of words passed and output");
     Ok(())
 }
 
@@ -174,6 +222,7 @@ fn table(only: Option<String>) -> Result<(), String> {
     }
     for words in [3, 16, 250] {
         times.operations(words, SEED);
+        times.column(words, SEED);
     }
     times.tidies(SEED);
     match times {
@@ -198,6 +247,10 @@ fn run(arguments: &[String]) -> Result<(), String> {
             table(None)
         }
         [flag] if flag == "--equal" => check(2_000),
+        [flag] if flag == "--singles" => {
+            times::singles(SEED);
+            Ok(())
+        }
         [flag, row] if flag == "--calls" => calls(row),
         [row] if !row.starts_with('-') => table(Some(row.clone())),
         _ => Err(USAGE.to_string()),

@@ -1,6 +1,6 @@
 //! Processor time of both, in turns.
 use crate::batches::Batch;
-use crate::generate::{self, sheet_of, turns, Claim, Set, MOST_WORDS, MOST_WORK};
+use crate::generate::{self, over, sheet_of, turns, Claim, Set, MOST_MOMENTS, MOST_WORDS, MOST_WORK};
 use crate::random::Random;
 use crate::{equal, ffi, plain};
 use std::hint::black_box;
@@ -36,9 +36,46 @@ fn shown(time: f64) -> String {
     format!("{time:.digits$}")
 }
 
+/// So many rounds that they last long enough.
+fn enough(work: &mut impl FnMut()) -> u64 {
+    let mut rounds = 1;
+    while time(rounds, work) < LEAST {
+        rounds *= 2;
+    }
+    rounds
+}
+
+/// Times rounds of so many calls, or words, of two in turns, and prints the row of one.
+fn row(name: &str, repetitions: usize, parts: usize, mut one: impl FnMut(), mut other: impl FnMut()) {
+    let (rounds, other_rounds) = (enough(&mut one), enough(&mut other));
+    let each = |time: u64, rounds: u64| time as f64 / (rounds * parts as u64) as f64;
+    let (mut of_one, mut of_other, mut ratios) = (Vec::new(), Vec::new(), Vec::new());
+    for repetition in 0..repetitions {
+        let (first, second);
+        if repetition % 2 == 0 {
+            first = each(time(rounds, &mut one), rounds);
+            second = each(time(other_rounds, &mut other), other_rounds);
+        } else {
+            second = each(time(other_rounds, &mut other), other_rounds);
+            first = each(time(rounds, &mut one), rounds);
+        }
+        of_one.push(first);
+        of_other.push(second);
+        ratios.push(first / second);
+    }
+    println!(
+        "{name:<18} {:>10} {:>10} {:>7.2} {:>7.2} {:>7.2}",
+        shown(quantile(&mut of_one, 0.5)),
+        shown(quantile(&mut of_other, 0.5)),
+        quantile(&mut ratios, 0.5),
+        quantile(&mut ratios, 0.25),
+        quantile(&mut ratios, 0.75),
+    );
+}
+
 impl Times {
-    /// Times rounds of so many calls, or words, ours and plain in turns, and prints the row of one.
-    fn row(&mut self, name: &str, parts: usize, mut ours: impl FnMut(), mut plain: impl FnMut()) {
+    /// The row of ours and plain.
+    fn row(&mut self, name: &str, parts: usize, ours: impl FnMut(), plain: impl FnMut()) {
         if self.only.as_deref().is_some_and(|only| only != name) || parts == 0 {
             return;
         }
@@ -48,33 +85,7 @@ impl Times {
             println!("{:<18} {:>10} {:>10} {:>7} {:>7} {:>7}", "row", "ours ns", "plain ns", "ratio", "from", "to");
         }
         self.rows += 1;
-        let mut rounds = 1;
-        while time(rounds, &mut ours).min(time(rounds, &mut plain)) < LEAST {
-            rounds *= 2;
-        }
-        let (mut of_ours, mut of_plain, mut ratios) = (Vec::new(), Vec::new(), Vec::new());
-        for repetition in 0..self.repetitions {
-            let (first, second);
-            if repetition % 2 == 0 {
-                first = time(rounds, &mut ours);
-                second = time(rounds, &mut plain);
-            } else {
-                second = time(rounds, &mut plain);
-                first = time(rounds, &mut ours);
-            }
-            let each = (rounds * parts as u64) as f64;
-            of_ours.push(first as f64 / each);
-            of_plain.push(second as f64 / each);
-            ratios.push(first as f64 / second as f64);
-        }
-        println!(
-            "{name:<18} {:>10} {:>10} {:>7.2} {:>7.2} {:>7.2}",
-            shown(quantile(&mut of_ours, 0.5)),
-            shown(quantile(&mut of_plain, 0.5)),
-            quantile(&mut ratios, 0.5),
-            quantile(&mut ratios, 0.25),
-            quantile(&mut ratios, 0.75),
-        );
+        row(name, self.repetitions, parts, ours, plain);
     }
 
     fn claims(&mut self, name: &str, claims: &[Claim]) {
@@ -183,5 +194,48 @@ impl Times {
         call!(|out| implies(&a, &a));
         call!(32, |out| implies_span(f, g));
         call!(48, |out| uptime(&sheet, b"a", generate::M as u32, &mut out));
+    }
+
+    /// Columns of the most moments, over all dates of a list of so many words.
+    pub fn column(&mut self, words: usize, seed: u64) {
+        let (list, moments) = chart(words, seed);
+        let call = |values: fn(&[u32], &[u32], &mut [u32]) -> u64| {
+            let (list, moments, mut out) = (&list, &moments, vec![0; MOST_MOMENTS]);
+            move || {
+                black_box(values(black_box(list), black_box(moments), black_box(&mut out)));
+            }
+        };
+        self.row(&format!("column-{words}"), 1, call(ffi::values), call(plain::values));
+    }
+}
+
+/// A list of so many words that goes up and down in turn, and the most moments, over all its dates.
+fn chart(words: usize, seed: u64) -> (Vec<u32>, Vec<u32>) {
+    let mut random = Random(seed);
+    let list = turns(&mut random, words, 0);
+    let moments = over(&mut random, &list, MOST_MOMENTS);
+    (list, moments)
+}
+
+/// Times single calls of ours beside a column of ours for the same moments.
+pub fn singles(seed: u64) {
+    const REPETITIONS: usize = 61;
+    println!("medians of {REPETITIONS} repetitions in turns; from, to: the middle half of the ratios");
+    println!("ns of {MOST_MOMENTS} moments on a list of so many words, by single calls and by one column");
+    println!("{:<18} {:>10} {:>10} {:>7} {:>7} {:>7}", "words", "single ns", "column ns", "ratio", "from", "to");
+    for words in [3, 16, MOST_WORDS] {
+        let (list, moments) = chart(words, seed);
+        let (mut out, mut single_out) = (vec![0; MOST_MOMENTS], vec![0; MOST_MOMENTS]);
+        let mut column = || {
+            black_box(ffi::values(black_box(&list), black_box(&moments), black_box(&mut out)));
+        };
+        let mut single = || {
+            for (value, moment) in single_out.iter_mut().zip(black_box(&moments)) {
+                *value = ffi::value(black_box(&list), *moment);
+            }
+            black_box(&mut single_out);
+        };
+        row(&words.to_string(), REPETITIONS, 1, &mut single, &mut column);
+        assert_eq!(out, single_out);
     }
 }

@@ -11,7 +11,7 @@ from signals import (M, Signal, answer_fault, connective, falling, implication, 
                      sr, stretches, tof, ton, tp)
 
 PIECE = re.compile(rb'"([^"]*)"(?:\*(\d+))?|([bh]?)(\d+)(?:\+(\d+))?(?:\*(\d+))?|@(\d*)|-')
-PUT = {b"b": "<B", b"h": "<H", b"": "<I"}
+SIZE = {b"b": 1, b"h": 2, b"": 4}
 OR, AND = [[0, 1], [1, 1]], [[0, 0], [0, 1]]
 
 
@@ -24,8 +24,10 @@ def arguments(text, kept):
         if quoted is not None:
             read[-1] += quoted * int(times or 1)
         elif first is not None:
+            limit = 256 ** SIZE[kind]
+            assert int(first) < limit, found.group()
             for i in range(int(count or 1)):
-                read[-1] += struct.pack(PUT[kind], int(first) + i * int(rise or 0))
+                read[-1] += ((int(first) + i * int(rise or 0)) % limit).to_bytes(SIZE[kind], "little")
         elif front is not None:
             read[-1] += kept[:int(front)] if front else kept
         at = found.end() + 1
@@ -177,6 +179,33 @@ def located(sheet, name):
     return "%d %d" % (at, 4 * n)
 
 
+# A column of moments
+
+
+def column_fault(words, moments, room):
+    """The list, 20, 9, 7. A moment is its k and 0 for the instant, 1 for the gap after it, in this order."""
+    if list_fault(words):
+        return list_fault(words)
+    if len(moments) > 1000 or any(not before < moment for before, moment in zip(moments, moments[1:])):
+        return 20
+    if any(moment == (0, 0) or moment[0] > M for moment in moments):
+        return 9
+    return 7 if len(moments) > room else 0
+
+
+def column(words, numbers, room):
+    """Count and number of words passed, or the fault; then the whole output."""
+    moments = [divmod(number, 2) for number in numbers]
+    fault = column_fault(words, moments, room)
+    if fault:
+        return written(fault, [], room, shown)
+    signal = Signal(words)
+    values = [int(signal.up(2 * k + gap - 1)) for k, gap in moments]
+    last = moments[-1][0] if moments else -1
+    passed = sum(date <= last for date in [0] + signal.dates)
+    return written(0, values, room, shown).replace(",", " %d," % passed, 1)
+
+
 # Up-times and their program
 
 HORIZON = re.compile(rb"0|[1-9][0-9]*")
@@ -309,6 +338,7 @@ CALLS = {
     "report": report,
     "uptime": lambda sheet, name, horizon, room: uptime(sheet, name, n(horizon), n(room)),
     "page": page,
+    "values": lambda a, moments, room: column(w(a), w(moments), n(room)),
 }
 
 

@@ -63,6 +63,24 @@ pub fn value_in(list: &[u32], k: u32) -> Result<bool, Fault> {
     told(unsafe { ffi::sgl_value_in(list.as_ptr(), list.len(), k) })
 }
 
+/// Writes the value at each of rising moments, 1 for up and 0 for down; the number of a moment is 2k for the instant k, 2k + 1 for the gap
+/// after it. Tells how many words were written, and how many of the list's words are dated at or before the last moment, the first word
+/// counted as date 0. Faults of the list, 20, 9, 7.
+///
+/// ```
+/// # use rascrunel::calls;
+/// let mut out = [7; 4];
+/// // up from 5, down from 9: in the gap 4, at 5, at 9
+/// assert_eq!(calls::values(&[0, 23, 36], &[9, 10, 18], &mut out), Ok((3, 3)));
+/// assert_eq!(out, [0, 1, 0, 7]);
+/// ```
+pub fn values(list: &[u32], moments: &[u32], out: &mut [u32]) -> Result<(usize, usize), Fault> {
+    let (list, list_words, moments, moment_count) = (list.as_ptr(), list.len(), moments.as_ptr(), moments.len());
+    // SAFETY: pointers and counts are those of slices; the inputs are only read, and `out` is borrowed for this call alone.
+    let answer = placed(unsafe { ffi::sgl_values(list, list_words, moments, moment_count, out.as_mut_ptr(), out.len()) })?;
+    Ok(((answer & 0xffff) as usize, (answer >> 16) as usize))
+}
+
 /// Whether two lists give one signal. Faults of a, of b.
 pub fn equal(a: &[u32], b: &[u32]) -> Result<bool, Fault> {
     // SAFETY: pointers and counts are those of slices, which are only read.

@@ -71,6 +71,7 @@ faults! {
     SheetList = 17, "a list in the sheet breaks the rules of lists";
     ShortWork = 18, "work area under 8,192 words";
     HorizonAboveM = 19, "horizon above 1073741823 (of the program also: not written as a length is)";
+    MomentOrder = 20, "moment not after the one before it, or over 1,000 moments";
 }
 
 impl From<NonZeroU32> for Fault {

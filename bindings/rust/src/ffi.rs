@@ -4,6 +4,14 @@ extern "C" {
     pub fn sgl_tidy(list: *const u32, list_words: usize, out: *mut u32, out_words: usize) -> u32;
     pub fn sgl_value_at(list: *const u32, list_words: usize, k: u32) -> u32;
     pub fn sgl_value_in(list: *const u32, list_words: usize, k: u32) -> u32;
+    pub fn sgl_values(
+        list: *const u32,
+        list_words: usize,
+        moments: *const u32,
+        moment_count: usize,
+        out: *mut u32,
+        out_words: usize,
+    ) -> u64;
     pub fn sgl_equal(a: *const u32, a_words: usize, b: *const u32, b_words: usize) -> u32;
     pub fn sgl_implies(a: *const u32, a_words: usize, b: *const u32, b_words: usize) -> u64;
     pub fn sgl_implies_span(a: *const u32, a_words: usize, b: *const u32, b_words: usize) -> u64;

@@ -1,4 +1,4 @@
-//! Timing signals as lists, sheets of named signals, formulas and claims, up-times, over a proved library.
+//! Timing signals as lists, sheets of named signals, formulas and claims, up-times, columns of values, over a proved library.
 //! These types hold no logic of their own: the library judges and computes, and they carry its answers.
 //! A call needs at most [`STACK_BYTES`] of stack, whatever its input; a thread has 2 MiB unless it asks for less.
 //!
@@ -17,10 +17,12 @@
 
 pub mod calls;
 mod checker;
+mod column;
 mod fault;
 mod ffi;
 mod formula;
 mod list;
+mod moment;
 mod parts;
 #[doc(hidden)]
 pub mod quoting;
@@ -34,9 +36,11 @@ pub mod whereabouts;
 mod wrongs;
 
 pub use checker::Checker;
+pub use column::Column;
 pub use fault::{Fault, NoFault};
 pub use formula::Formula;
 pub use list::{Change, Changes, List};
+pub use moment::Moment;
 pub use refusal::{FormulaPlace, FormulaRefusal, Place, Refusal, Which};
 pub use sheet::{Sheet, Signals};
 pub use uptime::{Stretch, UpTime};
@@ -56,5 +60,7 @@ pub const SHEET_BYTES: usize = 33_095;
 pub const FORMULA_BYTES: usize = 1024;
 /// The most parts of a formula.
 pub const FORMULA_PARTS: usize = 32;
+/// The most moments of a column.
+pub const COLUMN_MOMENTS: usize = 1000;
 /// The most stack that a call needs, 128 KB: tests/stack.rs makes the deepest calls in threads of it.
 pub const STACK_BYTES: usize = 131_072;

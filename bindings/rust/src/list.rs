@@ -1,4 +1,4 @@
-use crate::{calls, Fault, Verdict, LIST_WORDS};
+use crate::{calls, column, Column, Fault, Moment, Verdict, LIST_WORDS};
 use std::iter::FusedIterator;
 use std::slice;
 
@@ -67,6 +67,35 @@ impl List {
     /// The value between k and k + 1.
     pub fn value_in(&self, k: u32) -> Result<bool, Fault> {
         calls::value_in(&self.words, k)
+    }
+
+    /// The value at a moment.
+    pub fn value(&self, moment: Moment) -> Result<bool, Fault> {
+        match moment {
+            Moment::Instant(k) => self.value_at(k),
+            Moment::Gap(k) => self.value_in(k),
+        }
+    }
+
+    /// The values at moments that rise, at most [`COLUMN_MOMENTS`](crate::COLUMN_MOMENTS), in one call: each is what
+    /// [`value`](List::value) gives. Faults 20, 9.
+    ///
+    /// ```
+    /// # use rascrunel::{Fault, List, Moment};
+    /// use Moment::{Gap, Instant};
+    /// let list = List::new(&[0, 23, 36])?; // up from 5, down from 9
+    /// let column = list.values(&[Gap(4), Instant(5), Gap(7)])?;
+    /// assert_eq!(column.values, [false, true, true]);
+    /// assert_eq!(column.passed, 2); // `down` and `up from 5`
+    /// assert_eq!(list.values(&[Gap(5), Instant(5)]), Err(Fault::MomentOrder));
+    /// # Ok::<(), rascrunel::Fault>(())
+    /// ```
+    pub fn values(&self, moments: &[Moment]) -> Result<Column, Fault> {
+        let numbers = column::numbers(moments);
+        // a word for each moment: 7 cannot come
+        let mut out = vec![0; numbers.len()];
+        let (count, passed) = calls::values(&self.words, &numbers, &mut out)?;
+        Ok(Column { values: out[..count].iter().map(|&word| word == 1).collect(), passed })
     }
 
     /// Whether the other has the same value at every moment.

@@ -1,3 +1,4 @@
+use crate::Moment;
 use std::fmt;
 use std::str::FromStr;
 
@@ -37,6 +38,15 @@ impl Verdict {
     /// Whether it holds.
     pub fn holds(self) -> bool {
         self == Verdict::Holds
+    }
+
+    /// The earliest moment at which it fails, none where it holds.
+    pub fn first(self) -> Option<Moment> {
+        match self {
+            Verdict::Holds => None,
+            Verdict::FailsAt(k, _) => Some(Moment::Instant(k)),
+            Verdict::FailsAfter(k, _) => Some(Moment::Gap(k)),
+        }
     }
 
     /// Until when it fails, none where it holds.

@@ -43,15 +43,15 @@ fn what_is_missing() {
     refused(Some(&none), here, &[&[none.join("libcapi.a").to_str().unwrap(), "cannot be read"], what_to_type.as_slice()].concat());
     refused(None, here, &[&["bindings/rust/../../target/tools/libcapi.a"], what_to_type.as_slice()].concat());
     refused(Some(&none), ("aarch64", "macos"), &["x86-64 Linux", "aarch64 macos"]);
-    fs::write(dir.join("libcapi.a"), "!<arch>\nsgl_claim sgl_formula_fault").unwrap();
-    refused(Some(&dir), here, &["older than these bindings", "sgl_formula_parts", "bin/make"]);
+    fs::write(dir.join("libcapi.a"), "!<arch>\nsgl_claim sgl_value_at sgl_value_in").unwrap();
+    refused(Some(&dir), here, &["older than these bindings", "sgl_values", "bin/make"]);
     // without a folder named, the newer of the two of the repository
     for (older, newer) in [("tools", "staticlib"), ("staticlib", "tools")] {
         for (name, seconds) in [(older, 1_000), (newer, 2_000)] {
             let folder = dir.join("target").join(name);
             fs::create_dir_all(&folder).unwrap();
             let archive = fs::File::create(folder.join("libcapi.a")).unwrap();
-            (&archive).write_all(b"sgl_formula_parts").unwrap();
+            (&archive).write_all(b"sgl_values").unwrap();
             archive.set_modified(UNIX_EPOCH + Duration::from_secs(seconds)).unwrap();
         }
         fs::create_dir_all(dir.join("bindings/rust")).unwrap();

@@ -1,5 +1,5 @@
-// The formulas that go deepest, and an up-time, through the safe calls, in threads of STACK_BYTES bytes of stack.
-use rascrunel::{Checker, Fault, Sheet, STACK_BYTES};
+// The formulas that go deepest, an up-time and a column, through the safe calls, in threads of STACK_BYTES bytes of stack.
+use rascrunel::{Checker, Fault, List, Moment, Sheet, COLUMN_MOMENTS, STACK_BYTES};
 use std::thread;
 
 // What opens a level, what stands in the innermost, and what closes a level.
@@ -41,10 +41,22 @@ fn deepest_formulas() {
     refused("(".repeat(1025), Fault::FormulaLength);
 }
 
+/// The longest list, up and down in turn.
+fn turns() -> Vec<u32> {
+    (0..256).map(|i| 4 * i + if i % 2 == 1 { 3 } else { 0 }).collect()
+}
+
 #[test]
 fn uptime() {
-    let words: Vec<u32> = (0..256).map(|i| 4 * i + if i % 2 == 1 { 3 } else { 0 }).collect();
-    let sheet = Sheet::begin().unwrap().append("a", &words).unwrap();
+    let sheet = Sheet::begin().unwrap().append("a", &turns()).unwrap();
     let call = move || assert_eq!(sheet.uptime("a", 1000).unwrap().stretches.len(), 128);
+    thread::Builder::new().stack_size(STACK_BYTES).spawn(call).unwrap().join().unwrap();
+}
+
+#[test]
+fn column() {
+    let list = List::new(&turns()).unwrap();
+    let moments: Vec<Moment> = (0..COLUMN_MOMENTS as u32).map(Moment::Gap).collect();
+    let call = move || assert_eq!(list.values(&moments).unwrap().passed, 256);
     thread::Builder::new().stack_size(STACK_BYTES).spawn(call).unwrap().join().unwrap();
 }

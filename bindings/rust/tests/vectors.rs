@@ -1,6 +1,7 @@
 // Document 01's cases, its examples of faults, and document 02's pulse timer, through the bindings.
 use rascrunel::{
-    calls, Change, Checker, End, Fault, Formula, FormulaRefusal, List, NoFault, ParseVerdictError, Refusal, Sheet, SheetRefusal, Verdict, M,
+    calls, Change, Checker, Column, End, Fault, Formula, FormulaRefusal, List, Moment, NoFault, ParseVerdictError, Refusal, Sheet,
+    SheetRefusal, Verdict, M,
 };
 use std::num::NonZeroU32;
 
@@ -217,7 +218,7 @@ fn formulas_and_claims() {
 
 #[test]
 fn numbers_and_texts() {
-    for n in 1..=19 {
+    for n in 1..=20 {
         let fault = Fault::of(n).unwrap();
         assert_eq!(fault.number(), n);
         assert!(!fault.text().is_empty());
@@ -230,7 +231,7 @@ fn numbers_and_texts() {
         assert_eq!(line.parse::<Fault>(), Err(none), "{line}");
     }
     // numbers that these bindings do not know
-    for n in [20, 65535, u32::MAX] {
+    for n in [21, 65535, u32::MAX] {
         let fault = Fault::of(n).unwrap();
         assert_eq!((fault, fault.number(), u32::from(fault)), (Fault::Other(n), n, n));
         assert_eq!(Fault::from(NonZeroU32::new(n).unwrap()), fault);
@@ -288,7 +289,7 @@ fn verdicts_read_back() {
 fn threads_and_errors() {
     fn shared<T: Send + Sync + std::fmt::Debug>() {}
     fn error<T: std::error::Error + Clone + Eq + Send + Sync + 'static>() {}
-    shared::<(Checker, Sheet, List, Verdict, End, Formula, Change)>();
+    shared::<(Checker, Sheet, List, Verdict, End, Formula, Change, Moment, Column)>();
     error::<Fault>();
     error::<Refusal>();
     error::<FormulaRefusal>();

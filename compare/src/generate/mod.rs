@@ -1,9 +1,11 @@
-//! Sheets, claims and lists by seed: the same ones for the same seed. A word is idle that changes nothing.
+//! Sheets, claims, lists and moments by seed: the same ones for the same seed. A word is idle that changes nothing.
+mod columns;
 mod damage;
 mod formulas;
 mod lists;
 
 use crate::random::Random;
+pub use columns::{chart, over, Chart, MOST_MOMENTS};
 use formulas::{Lengths, Writer};
 pub use lists::{turns, M, MOST_WORDS};
 use lists::{Dates, STEP};

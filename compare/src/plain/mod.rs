@@ -3,6 +3,7 @@
 #![forbid(unsafe_code)]
 mod answers;
 mod claims;
+mod columns;
 mod delays;
 mod formulas;
 mod lists;
@@ -47,9 +48,10 @@ fn packed_span(answer: Result<Verdict, u32>) -> u64 {
     (last as u64) << 32 | first as u64
 }
 
-fn packed_uptime(answer: Result<(usize, u32), u32>) -> u64 {
+/// A count of words, and a total or a number of words passed.
+fn packed_pair(answer: Result<(usize, u32), u32>) -> u64 {
     match answer {
-        Ok((count, total)) => (total as u64) << 16 | count as u64,
+        Ok((count, number)) => (number as u64) << 16 | count as u64,
         Err(fault) => (fault as u64) << 48,
     }
 }
@@ -163,5 +165,10 @@ pub fn claim_span(sheet: &[u8], f: &[u8], g: &[u8], work: &mut [u32]) -> u64 {
 
 #[inline(never)]
 pub fn uptime(sheet: &[u8], name: &[u8], h: u32, out: &mut [u32]) -> u64 {
-    packed_uptime(uptimes::uptime(sheet, name, h, out))
+    packed_pair(uptimes::uptime(sheet, name, h, out))
+}
+
+#[inline(never)]
+pub fn values(list: &[u32], moments: &[u32], out: &mut [u32]) -> u64 {
+    packed_pair(columns::values(list, moments, out))
 }

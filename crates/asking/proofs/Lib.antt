@@ -1,3 +1,2 @@
 -- The lemmas that the proofs of functions share.
-pub mod Searching
 pub mod Telling

@@ -3,10 +3,10 @@ ghost use mathlib.Core.Path.{_≡_};
 ghost use Rattle.signals.specs.Words.{listFault};
 ghost use Rattle.signals.specs.Answers.{toldValue};
 ghost use Rattle.questions.specs.Questions.{valueAtOf, valueInOf};
-ghost use Rattle.asking.specs.Seeking.{Sought};
+ghost use Rattle.reading.specs.Along.{Sought};
 use lists::list_fault;
 use reading::Step;
-use reading::next_date;
+use reading::along;
 use reading::past;
 use signals::Date;
 use signals::M;
@@ -17,13 +17,7 @@ fn search(words: &[u32], date: Date) -> Step
     requires { ⌜ listFault (now words) ≡ 0 ⌝ }
     ensures { λ r. ⌜ Sought (now (words .entry)) (date .0) r ⌝ }
 {
-    let mut passed: usize = 1;
-    let mut next = next_date(words, passed);
-    while next.0 < date.0 {
-        let step = past(words, passed, next);
-        passed = step.passed;
-        next = next_date(words, passed);
-    }
+    let passed = along(words, 1, date);
     past(words, passed, date)
 }
 

@@ -16,7 +16,8 @@ use Rattle.stretches.specs.Stretches.{sumOfTicks}
 use Rattle.stretches.specs.Calls.{upTimeFor, stretchesOn, upTimeWords, upTimeFault}
 use Rattle.calls.specs.Calls.{callAnswer, callOutput, claimAnswer}
 use Rattle.calls.specs.Work.{firstFault, firstClaimFault, KeptWhen}
-use Rattle.packing.specs.Packing.{packWritten, packVerdict, packSpan, packUpTime}
+use Rattle.columns.specs.Columns.{columnWords, columnFault, columnAnswer}
+use Rattle.packing.specs.Packing.{packWritten, packVerdict, packSpan, packUpTime, packColumn}
 
 -- a call with this fault (0 for none) and these words: the number, and the output at exit from the output at entry
 abbrev pub Exported : ℕ → List ℕ → List ℕ → ℕ → List ℕ → Type 0
@@ -36,6 +37,11 @@ ExportedTidying a out = Exported (tidyingFault a (length out)) (tidied a) out
 
 abbrev pub ExportedAppend : List ℕ → List ℕ → List ℕ → List ℕ → ℕ → List ℕ → Type 0
 ExportedAppend sheet name list out = Exported (appendFault sheet name list (length out)) (appended sheet name list) out
+
+-- list, moments and output at entry; the number; the output at exit
+abbrev pub ExportedColumn : List ℕ → List ℕ → List ℕ → ℕ → List ℕ → Type 0
+ExportedColumn l ms out r after =
+    (r ≡ packColumn (columnAnswer l ms (length out))) × (after ≡ outputOf (columnFault l ms (length out)) (columnWords l ms) out)
 
 -- sheet, name, horizon and output at entry; the number; the output at exit
 abbrev pub ExportedUpTime : List ℕ → List ℕ → ℕ → List ℕ → ℕ → List ℕ → Type 0

@@ -11,7 +11,7 @@ ghost use Rattle.format.specs.Calls.{beginFault, placeOf};
 ghost use Rattle.packing.specs.Packing.{packFault, packTold, packVerdict, packSpan, packPlace, packStop, tableIn};
 ghost use Rattle.grammar.specs.Formula.{formulaFault, stopPlace};
 ghost use Rattle.capi.specs.Exports.{Exported, ExportedOne, ExportedTwo, ExportedDelay, ExportedTidying, ExportedAppend};
-ghost use Rattle.capi.specs.Exports.{ExportedUpTime, ExportedParts, ExportedFormula, ExportedClaim, ExportedSpan};
+ghost use Rattle.capi.specs.Exports.{ExportedColumn, ExportedUpTime, ExportedParts, ExportedFormula, ExportedClaim, ExportedSpan};
 use signals::Length;
 
 // The fault of a list.
@@ -44,6 +44,14 @@ pub extern "C" fn sgl_value_in(list: &[u32], k: u32) -> u32
     ensures { λ r. ⌜ r ≡ packTold (valueInOf (now (list .entry)) k) ⌝ }
 {
     packing::pack_told(asking::value_in(list, k))
+}
+
+// The values at rising moments, a word each, and how many words of the list the last one passes.
+#[no_mangle]
+pub extern "C" fn sgl_values(list: &[u32], moments: &[u32], out: &mut [u32]) -> u64
+    ensures { λ r. ⌜ ExportedColumn (now (list .entry)) (now (moments .entry)) (now (out .entry)) r (now (out .exit)) ⌝ }
+{
+    packing::pack_column(charting::values(list, moments, out))
 }
 
 // Equality.

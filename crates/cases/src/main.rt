@@ -45,7 +45,16 @@ fn on_sheets(call: usize, space: &Space, all: &Words, ends: &Ends, kept: &mut Sp
     sheet_calls::kept(call, sheet, name, list(all, ends, 2), room, kept)
 }
 
-// The first calls are on lists, the next on formulas and inputs of the programs, the last on sheets.
+// A list's values at moments.
+fn on_moments(space: &Space, all: &Words, ends: &Ends) {
+    column_calls::values(
+        list(all, ends, 0),
+        list(all, ends, 1),
+        number(space, ends, 2) as usize,
+    );
+}
+
+// The first calls are on lists, the next on formulas and inputs of the programs, then on sheets; the last is on moments.
 fn called(
     call: usize,
     space: &Space,
@@ -62,6 +71,10 @@ fn called(
         formula_calls::shown(call, space, ends);
         return n;
     }
+    if call == 40 {
+        on_moments(space, all, ends);
+        return n;
+    }
     let grown = on_sheets(call, space, all, ends, kept);
     if call < 38 { n } else { grown }
 }
@@ -70,7 +83,7 @@ fn call_of(name: &[u8]) -> usize {
     place(
         b"list_fault,value_at,value_in,equal,implies,date_plus_length,tidy,not,rising,falling,sr,rs,ton,tof,tp,connective,\
         not_in,rising_in,falling_in,sr_in,rs_in,ton_in,tof_in,tp_in,connective_in,read,evaluate,claim,report,page,\
-        sheet_fault,lookup_fault,lookup,locate,well_named,uptime,begin,append,grow,keep,",
+        sheet_fault,lookup_fault,lookup,locate,well_named,uptime,begin,append,grow,keep,values,",
         name,
     )
 }

@@ -7,3 +7,4 @@ pub mod SmallCalls
 pub mod SmallUpTimes
 pub mod SmallSpans
 pub mod SmallStops
+pub mod ColumnsPacked

@@ -16,14 +16,16 @@ use Rattle.format.specs.Calls.{faultOfPlace, firstByte, byteCount}
 use Rattle.format.specs.declared.Place.{Place}
 use Rattle.stretches.specs.Calls.{faultOfUpTime, countOfUpTime, totalOfUpTime}
 use Rattle.stretches.specs.declared.UpTime.{UpTime}
+use Rattle.columns.specs.Columns.{faultOfColumn, countOfColumn, passedOfColumn}
+use Rattle.columns.specs.declared.Column.{Column}
 use Rattle.signals.specs.declared.Written.the-variants as written
 use Rattle.signals.specs.declared.Verdict.{Verdict}
 use Rattle.signals.proofs.AnswersSay.{answers-say}
 use Rattle.signals.proofs.ListFaults.{list-fault-range}
-use Rattle.packing.specs.Packing.{packFault, packWritten, packTold, packVerdict, packPlace, packUpTime}
-use Rattle.packing.specs.Packing.{faultBits, writtenBits, toldBits, verdictBits, placeBits, upTimeBits}
+use Rattle.packing.specs.Packing.{packFault, packWritten, packTold, packVerdict, packPlace, packUpTime, packColumn}
+use Rattle.packing.specs.Packing.{faultBits, writtenBits, toldBits, verdictBits, placeBits, upTimeBits, columnBits}
 
--- Answers whose numbers have room: faults and counts below 65,536, a first byte and a byte count below 2^24.
+-- Answers whose numbers have room: faults and counts below 65,536, a first byte and a byte count below 2^24, words passed below 2^32.
 abbrev pub SmallWritten : Written → Type 0
 SmallWritten answer = (faultIn answer < 65536) × (countIn answer < 65536)
 
@@ -38,6 +40,9 @@ SmallPlace answer = (faultOfPlace answer < 65536) × (firstByte answer < 1677721
 
 abbrev pub SmallUpTime : UpTime → Type 0
 SmallUpTime answer = (faultOfUpTime answer < 65536) × (countOfUpTime answer < 65536)
+
+abbrev pub SmallColumn : Column → Type 0
+SmallColumn answer = (faultOfColumn answer < 65536) × (passedOfColumn answer < 4294967296) × (countOfColumn answer < 65536)
 
 -- Packed in 32 or 64 bits they are what they are packed as.
 pub packed-fault : (f g : ℕ) → f ≡ g → g < 65536 → faultBits f ≡ packFault g
@@ -63,6 +68,10 @@ packed-place w v e h = ap placeBits e ∙ omega (arith, h .0, h .1, h .2)
 pub packed-uptime : (w v : UpTime) → w ≡ v → SmallUpTime v → upTimeBits w ≡ packUpTime v
 unfolding upTimeBits packUpTime
 packed-uptime w v e h = ap upTimeBits e ∙ omega (arith, h .0, h .1)
+
+pub packed-column : (w v : Column) → w ≡ v → SmallColumn v → columnBits w ≡ packColumn v
+unfolding columnBits packColumn
+packed-column w v e h = ap columnBits e ∙ omega (arith, h .0, h .1, h .2)
 
 pub choice : (t : Bool) (m n : ℕ) → m < 65536 → n < 65536 → cond t m n < 65536
 choice true m n a b = a

@@ -2,3 +2,4 @@
 pub mod Packing
 pub mod SpansPacked
 pub mod StopsPacked
+pub mod ColumnsPacked

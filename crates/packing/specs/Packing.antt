@@ -9,6 +9,9 @@ use Rattle.signals.specs.Answers.{faultIn, countIn, faultOfTold, valueIn, fault
 use Rattle.format.specs.Calls.{faultOfPlace, firstByte, byteCount}
 use Rattle.stretches.specs.Calls.{faultOfUpTime, countOfUpTime, totalOfUpTime}
 use Rattle.stretches.specs.declared.UpTime.{UpTime}
+use Rattle.columns.specs.Numbers.{instantNumber, gapNumber}
+use Rattle.columns.specs.Columns.{faultOfColumn, countOfColumn, passedOfColumn}
+use Rattle.columns.specs.declared.Column.{Column}
 use Rattle.signals.specs.declared.Written.{Written}
 use Rattle.signals.specs.declared.Told.{Told}
 use Rattle.signals.specs.declared.End.{End}
@@ -33,8 +36,8 @@ packTold answer = packFault (faultOfTold answer) + num (valueIn answer)
 -- what fails first: 0 for nothing, 2k for the instant k, 2k+1 for the gap k
 unfoldable pub packMoment : Verdict → ℕ
 packMoment verdict.Holds = 0
-packMoment (verdict.FailsAt k end) = 2 * k
-packMoment (verdict.FailsAfter k end) = 2 * k + 1
+packMoment (verdict.FailsAt k end) = instantNumber k
+packMoment (verdict.FailsAfter k end) = gapNumber k
 packMoment (verdict.Refused f) = 0
 
 -- 2^40 × fault + what fails first
@@ -43,7 +46,7 @@ packVerdict answer = 1099511627776 * faultOfVerdict answer + packMoment answer
 
 -- the last moment of a run that ends so, in the same way: 0 for none, since it never ends
 unfoldable pub packEnd : End → ℕ
-packEnd (ends.At k) = 2 * k
+packEnd (ends.At k) = instantNumber k
 packEnd (ends.Before k) = 2 * k - 1
 packEnd ends.Never = 0
 
@@ -66,12 +69,16 @@ packPlace answer = 281474976710656 * faultOfPlace answer + 16777216 * firstByte 
 unfoldable pub packUpTime : UpTime → ℕ
 packUpTime answer = 281474976710656 * faultOfUpTime answer + 65536 * totalOfUpTime answer + countOfUpTime answer
 
+-- 2^48 × fault + 2^16 × number of words passed + count; the last two are 0 when refused
+unfoldable pub packColumn : Column → ℕ
+packColumn answer = 281474976710656 * faultOfColumn answer + 65536 * passedOfColumn answer + countOfColumn answer
+
 -- 2^48 × fault + the place where reading a formula stops
 unfoldable pub packStop : ℕ → ℕ → ℕ
 packStop fault place = 281474976710656 * fault + place
 
--- The same in 32 bits, or in 64 for a verdict, a span, a place, an up-time and a stop, whatever the answer: of each number the low bits
--- that its place has room for.
+-- The same in 32 bits, or in 64 for a verdict, a span, a place, an up-time, a column and a stop, whatever the answer: of each number the
+-- low bits that its place has room for.
 unfoldable pub faultBits : ℕ → ℕ
 faultBits f = packFault (f % 65536)
 
@@ -94,6 +101,10 @@ placeBits answer =
 unfoldable pub upTimeBits : UpTime → ℕ
 upTimeBits answer =
     281474976710656 * (faultOfUpTime answer % 65536) + 65536 * totalOfUpTime answer + countOfUpTime answer % 65536
+
+unfoldable pub columnBits : Column → ℕ
+columnBits answer =
+    281474976710656 * (faultOfColumn answer % 65536) + 65536 * (passedOfColumn answer % 4294967296) + countOfColumn answer % 65536
 
 unfoldable pub stopBits : ℕ → ℕ → ℕ
 stopBits fault place = packStop (fault % 65536) (place % 281474976710656)

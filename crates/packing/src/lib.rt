@@ -4,7 +4,8 @@ ghost use mathlib.Core.Path.{_≡_};
 ghost use Prim.Native.Nat.{_%_};
 ghost use Rattle.signals.specs.declared.End.the-variants.{Before};
 ghost use Rattle.packing.specs.Packing.{faultBits, writtenBits, toldBits, verdictBits, packEnd, spanBits, placeBits, upTimeBits};
-ghost use Rattle.packing.specs.Packing.{stopBits, tableIn};
+ghost use Rattle.packing.specs.Packing.{columnBits, stopBits, tableIn};
+use columns::Column;
 use format::Place;
 use grammar::Stop;
 use signals::End;
@@ -107,6 +108,18 @@ pub fn pack_uptime(answer: UpTime) -> u64
     match answer {
         UpTime::Told { count, total } => 65536 * (total as u64) + (count % 65536) as u64,
         UpTime::Refused(fault) => 281474976710656 * ((fault % 65536) as u64),
+    }
+}
+
+// What a column answers.
+pub fn pack_column(answer: Column) -> u64
+    ensures { λ r. ⌜ r ≡ columnBits answer ⌝ }
+{
+    match answer {
+        Column::Filled { count, passed } => {
+            65536 * ((passed as u64) % 4294967296) + (count % 65536) as u64
+        }
+        Column::Refused(fault) => 281474976710656 * ((fault % 65536) as u64),
     }
 }
 

@@ -12,7 +12,8 @@ use Rattle.signals.specs.Passing.{isNext, passedDate}
 use Rattle.signals.specs.Normal.{Rising}
 use Rattle.signals.proofs.Operand.{At, words-left}
 use Rattle.signals.proofs.Truth.{and-left, and-right}
-use Rattle.reading.specs.Reading.{NEVER, nextDate, countBy, datedBy}
+use Rattle.reading.specs.Dated.{countBy, datedBy}
+use Rattle.reading.specs.Reading.{NEVER, nextDate}
 use Rattle.reading.proofs.ReadingFacts.{is-next}
 
 -- the next date is a word's where a word is left, else NEVER

@@ -15,9 +15,11 @@ use Rattle.signals.proofs.WordFacts.{date-bounds}
 use Rattle.signals.proofs.Operand.{At, at-take, at-end, at-pass, next-later}
 use Rattle.signals.proofs.Normal.{accepted-normal, accepted-start}
 use Rattle.signals.specs.Giving.{WithinM}
-use Rattle.reading.specs.Reading.{NEVER, nextDate, countBy, datedBy}
+use Rattle.reading.specs.Dated.{countBy, datedBy}
+use Rattle.reading.specs.Reading.{NEVER, nextDate}
 use Rattle.reading.specs.ReaderSays.{PastDate, Says, ReaderSays}
 use Rattle.reading.proofs.Counting.{next-in, next-none, count-start, count-passed, none-left, pass-count}
+use Rattle.reading.proofs.AlongWords.{along-dated, sought}
 
 module _ (l : List ℕ) (z : Accepted l) where
   -- going along: p words passed, the list's signal is ahead of the last date passed
@@ -112,4 +114,10 @@ module _ (l : List ℕ) (z : Accepted l) where
         }
 
 pub reader-says : ReaderSays
-reader-says = record { says = λ l p z w o h. says l z w p o h; never = λ d n a b. omega arith }
+reader-says =
+    record {
+      says = λ l p z w o h. says l z w p o h;
+      along = λ l e k z le. along-dated l z e k le;
+      sought = λ l k z. sought l z k;
+      never = λ d n a b. omega arith;
+    }

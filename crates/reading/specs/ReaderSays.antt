@@ -11,7 +11,9 @@ use Rattle.signals.specs.Normal.{Accepted}
 use Rattle.signals.specs.ListFaults.{dateBefore}
 use Rattle.signals.specs.Passing.{heldValue}
 use Rattle.signals.specs.Giving.{WithinM}
-use Rattle.reading.specs.Reading.{NEVER, nextDate, stepPast, datedBy}
+use Rattle.reading.specs.Dated.{datedBy}
+use Rattle.reading.specs.Reading.{NEVER, nextDate, stepPast}
+use Rattle.reading.specs.Along.{alongTo, Sought}
 
 -- what going past date e tells
 pub record PastDate (l : List ℕ) (p e : ℕ) : Type 0 where
@@ -36,5 +38,9 @@ pub record Says (l : List ℕ) (p : ℕ) : Type 0 where
 
 pub record ReaderSays : Type 0 where
   pub says : (l : List ℕ) (p : ℕ) → Accepted l → WithinM l → 1 ≤ p → p ≤ length l → Says l p
+  -- along to date k, from where the words dated before an earlier date, or the same, were passed: those dated before k are; past k then,
+  -- those dated at or before it, and the signal's values at instant k and in gap k
+  pub along : (l : List ℕ) (e k : ℕ) → Accepted l → e ≤ k → alongTo l (datedBy (e - 1) l) k ≡ datedBy (k - 1) l
+  pub sought : (l : List ℕ) (k : ℕ) → Accepted l → Sought l k (stepPast l (datedBy (k - 1) l) k)
   -- NEVER lies above every sum of a date and a length
   pub never : (date length : ℕ) → date ≤ M → length ≤ M → date + length < NEVER

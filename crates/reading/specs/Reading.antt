@@ -1,9 +1,8 @@
--- Mirrored: Reading along a list's words: the next word's date, what passing a date gives, and how many words are dated up to one. Tied to
--- what is believed by `ReaderSays`.
-use Prim.Native.Nat.{ℕ, suc}
+-- Mirrored: Reading along a list's words: the next word's date, and what passing a date gives. Tied to what is believed by `ReaderSays`.
+use Prim.Native.Nat.{ℕ}
 use mathlib.Core.Bool.{Bool, cond}
-use mathlib.Core.List.{List, [], _∷_}
-use lib.Dec.{leb, ltb}
+use mathlib.Core.List.{List}
+use lib.Dec.{ltb}
 use lib.ListN.{length, getD}
 use Rattle.signals.specs.Words.{dateOf}
 use Rattle.signals.specs.Passing.{heldValue, atDate, afterDate, passedDate}
@@ -30,12 +29,3 @@ stepPast l passed date =
       after = afterDate l passed date;
       passed = passedDate l passed date;
     }
-
--- how many of these words are dated at or before k, and how many of a list's, the first word counted as date 0
-unfoldable pub countBy : ℕ → List ℕ → ℕ
-countBy k [] = 0
-countBy k (w ∷ ws) = cond (leb (dateOf w) k) (suc (countBy k ws)) (countBy k ws)
-
-unfoldable pub datedBy : ℕ → List ℕ → ℕ
-datedBy k [] = 0
-datedBy k (h ∷ ws) = suc (countBy k ws)

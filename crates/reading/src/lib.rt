@@ -3,6 +3,7 @@ ghost use mathlib.Core.Path.{_≡_};
 ghost use Prim.Native.Nat.{_-_};
 ghost use Rattle.signals.specs.Passing.{heldValue};
 ghost use Rattle.reading.specs.Reading.{nextDate, heldOn, stepPast};
+ghost use Rattle.reading.specs.Along.{alongTo};
 use signals::Date;
 
 // The date where no word is left: above every sum of a date and a length.
@@ -132,4 +133,18 @@ pub fn past(words: &[u32], passed: usize, date: Date) -> Step
     ensures { λ r. ⌜ r ≡ stepPast (now (words .entry)) passed (date .0) ⌝ }
 {
     reader_at(words, passed).past(date)
+}
+
+// Along the words: those dated before a date are passed, so that the next is not dated before it.
+pub fn along(words: &[u32], passed: usize, date: Date) -> usize
+    ensures { λ r. ⌜ r ≡ alongTo (now (words .entry)) passed (date .0) ⌝ }
+{
+    let mut count = passed;
+    let mut next = next_date(words, count);
+    while next.0 < date.0 {
+        let step = past(words, count, next);
+        count = step.passed;
+        next = next_date(words, count);
+    }
+    count
 }

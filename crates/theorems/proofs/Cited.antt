@@ -39,6 +39,21 @@ calls-WrongEngines-ZeroObeysEveryLaw = Rattle.calls.proofs.ZeroObeys.zero-obeys
 pub claim_line-OneLine-OneLine : Rattle.claim_line.specs.OneLine.OneLine
 claim_line-OneLine-OneLine = Rattle.claim_line.proofs.OneLine.one-line
 
+pub columns-ColumnCases-ColumnCases : Rattle.columns.specs.ColumnCases.ColumnCases
+columns-ColumnCases-ColumnCases = Rattle.columns.proofs.ColumnCases.column-cases
+
+pub columns-MomentNumbers-MomentNumbers : Rattle.columns.specs.MomentNumbers.MomentNumbers
+columns-MomentNumbers-MomentNumbers = Rattle.columns.proofs.MomentNumbers.moment-numbers
+
+pub columns-Sentences-ColumnFaultsExact : Rattle.columns.specs.Sentences.ColumnFaultsExact
+columns-Sentences-ColumnFaultsExact = Rattle.columns.proofs.CallFaults.column-faults-exact
+
+pub columns-Sentences-ColumnGives : Rattle.columns.specs.Sentences.ColumnGives
+columns-Sentences-ColumnGives = Rattle.columns.proofs.CallGives.column-gives
+
+pub columns-Sentences-ColumnSays : Rattle.columns.specs.Sentences.ColumnSays
+columns-Sentences-ColumnSays = Rattle.columns.proofs.CallGives.column-says
+
 pub format-LookupPlace-LookupPlace : Rattle.format.specs.LookupPlace.LookupPlace
 format-LookupPlace-LookupPlace = Rattle.format.proofs.LookupPlace.lookup-place
 
@@ -167,6 +182,9 @@ operations-CallFaults-NeverMet = Rattle.operations.proofs.NeverMet.never-met
 
 pub operations-OperationsGive-OperationsGive : Rattle.operations.specs.OperationsGive.OperationsGive
 operations-OperationsGive-OperationsGive = Rattle.operations.proofs.OperationsGive.operations-give
+
+pub packing-ColumnsPacked-ColumnsPacked : Rattle.packing.specs.ColumnsPacked.ColumnsPacked
+packing-ColumnsPacked-ColumnsPacked = Rattle.packing.proofs.ColumnsPacked.columns-packed
 
 pub packing-SpansPacked-SpansPacked : Rattle.packing.specs.SpansPacked.SpansPacked
 packing-SpansPacked-SpansPacked = Rattle.packing.proofs.SmallSpans.spans-packed

@@ -1,2 +1,0 @@
--- What the search finds.
-pub mod Seeking
