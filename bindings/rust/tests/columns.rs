@@ -269,6 +269,7 @@ fn order_and_words() {
         }
     }
     assert_eq!((Instant(5).to_string(), Gap(5).to_string()), ("at 5".to_string(), "after 5".to_string()));
+    assert_eq!(format!("{:>8}", Gap(5)), " after 5");
     for moment in EDGES {
         let verdict: Verdict = format!("fails {moment} for good").parse().unwrap();
         assert_eq!(verdict.first(), Some(moment));

@@ -7,7 +7,6 @@ use mathlib.Core.List.{List, [], _∷_}
 use lib.Dec.{leb, ltb}
 use lib.ListN.{length, getD, drop, drop-of-length-le}
 use borrow.Author.Tests.{lt-ltb, le-ltb, ltb-true, ltb-false, le-leb, lt-leb, leb-true, leb-false}
-use Rattle.signals.specs.Moment.{gap, instant}
 use Rattle.signals.specs.Words.{dateOf, signalOf}
 use Rattle.signals.specs.Normal.{Accepted, Rising}
 use Rattle.signals.specs.Passing.{heldValue, isNext, atDate, afterDate, passedDate}

@@ -1,8 +1,8 @@
 -- `reading::along` meets its contract: what is gone along from the words passed is what is gone along from those passed first.
 use borrow.Author.Needs.{needs}
-use Prim.Native.Nat.{_-_, _<_}
+use Prim.Native.Nat.{_-_}
 use native.Mathlib.Omega.{arith}
-use mathlib.Core.Path.{_≡_, refl, sym, _∙_}
+use mathlib.Core.Path.{_≡_, refl, _∙_}
 use lib.ListN.{length}
 use Rattle.reading.specs.Reading.{nextDate}
 use Rattle.reading.specs.Along.{alongTo}
