@@ -1,11 +1,13 @@
 // Test support: what a call answers, as it is shown: one of the texts, the number that some of them have, how a failing run ends, and
 // whether the output follows.
+#![tactic(auto)]
+
 pub mod shown;
 
 use building::SlotAnswer;
 use signals::{End, Sum, Told, Verdict, Written};
 
-#[derive(Drop)]
+#[derive(Clone, Copy)]
 pub struct Answer {
     pub text: usize,
     pub number: u64,

@@ -2,44 +2,43 @@
 use crate::{Answer, FOR_GOOD, YES};
 use fields::{byte_at, part};
 use notation::name;
+use std::io;
 
-pub fn number(n: u64) {
-    io::write_all(1, b" ");
-    io::print_decimal(1, n);
+pub fn number(rt: &impl Print, n: u64) -> io::Result<()> {
+    print!(rt; " {n}")
 }
 
-fn text(k: usize) {
-    io::write_all(
-        1,
-        name(
-            b", past M, refused, fails at, fails after, yes, no, holds, too long, too late, not begun,",
-            k,
-        ),
-    );
+fn text(rt: &impl Print, k: usize) -> io::Result<()> {
+    rt.write_all(name(
+        b", past M, refused, fails at, fails after, yes, no, holds, too long, too late, not begun,",
+        k,
+    ))
 }
 
-fn end(k: usize, last: u64) {
-    io::write_all(1, name(b", until, until before, for good,", k));
+fn end(rt: &impl Print, k: usize, last: u64) -> io::Result<()> {
+    rt.write_all(name(b", until, until before, for good,", k))?;
     if k % FOR_GOOD != 0 {
-        number(last);
+        number(rt, last)?;
     }
+    Ok(())
 }
 
-pub fn answer(answer: Answer) {
-    text(answer.text);
+pub fn answer(rt: &impl Print, answer: Answer) -> io::Result<()> {
+    text(rt, answer.text)?;
     if answer.text < YES {
-        number(answer.number);
+        number(rt, answer.number)?;
     }
-    end(answer.end, answer.last);
+    end(rt, answer.end, answer.last)
 }
 
 // An answer, and the output where it has one.
-pub fn with_words(shown: Answer, out: &[u32]) {
-    answer(shown);
+pub fn with_words(rt: &impl Print, shown: Answer, out: &[u32]) -> io::Result<()> {
+    answer(rt, shown)?;
     if shown.output {
-        io::write_all(1, b",");
-        words(out);
+        rt.write_all(b",")?;
+        words(rt, out)?;
     }
+    Ok(())
 }
 
 fn word_at(list: &[u32], i: usize) -> u32 {
@@ -64,30 +63,29 @@ fn run(list: &[u32], i: usize) -> usize {
     j
 }
 
-fn shown_rise(by: u32) {
+fn shown_rise(rt: &impl Print, by: u32) -> io::Result<()> {
     if by == 0 {
-        return;
+        return Ok(());
     }
-    io::write_all(1, b"+");
-    io::print_decimal(1, by as u64);
+    print!(rt; "+{by}")
 }
 
-fn shown_run(by: u32, n: u64) {
+fn shown_run(rt: &impl Print, by: u32, n: u64) -> io::Result<()> {
     if n < 2 {
-        return;
+        return Ok(());
     }
-    shown_rise(by);
-    io::write_all(1, b"*");
-    io::print_decimal(1, n);
+    shown_rise(rt, by)?;
+    print!(rt; "*{n}")
 }
 
 // The words from i on to j.
-fn piece(list: &[u32], i: usize, j: usize) {
-    io::print_decimal(1, word_at(list, i) as u64);
+fn piece(rt: &impl Print, list: &[u32], i: usize, j: usize) -> io::Result<()> {
+    rt.print(word_at(list, i))?;
     shown_run(
+        rt,
         rise(list, i),
         (j % 131072 + 65536 - i % 65536) as u64 % 65536,
-    );
+    )
 }
 
 // Where the piece from i on ends: a run has four words or more.
@@ -98,72 +96,73 @@ fn piece_end(list: &[u32], i: usize) -> usize {
 }
 
 // Shows what begins at i, unless it is shown already; the place after what is shown.
-fn shown_at(list: &[u32], i: usize, done: usize) -> usize {
+fn shown_at(rt: &impl Print, list: &[u32], i: usize, done: usize) -> io::Result<usize> {
     if i < done {
-        return done;
+        return Ok(done);
     }
     if 0 < i {
-        io::write_all(1, b",");
+        rt.write_all(b",")?;
     }
     let end = piece_end(list, i);
-    piece(list, i, end);
-    end
+    piece(rt, list, i, end)?;
+    Ok(end)
 }
 
 // What stands before so many words or bytes.
-fn opened(n: usize) {
-    io::write_all(1, part(b" -", 0, if n == 0 { 2 } else { 1 }));
+fn opened(rt: &impl Print, n: usize) -> io::Result<()> {
+    rt.write_all(part(b" -", 0, if n == 0 { 2 } else { 1 }))
 }
 
 // All words, - for none.
-fn words(list: &[u32]) {
-    opened(list.len());
+fn words(rt: &impl Print, list: &[u32]) -> io::Result<()> {
+    opened(rt, list.len())?;
     let mut done: usize = 0;
     let mut i: usize = 0;
     while i < list.len() {
-        done = shown_at(list, i, done);
+        done = shown_at(rt, list, i, done)?;
         i += 1;
     }
+    Ok(())
 }
 
 // A number made of all the bytes, which are written in hexadecimal too where they are few.
-fn fold(bytes: &[u8], few: bool) -> u64 {
+fn fold(rt: &impl Print, bytes: &[u8], few: bool) -> io::Result<u64> {
     let mut sum: u64 = 0;
     let mut i: usize = 0;
     while i < bytes.len() {
-        sum = folded(sum, byte_at(bytes, i), few);
+        sum = folded(rt, sum, byte_at(bytes, i), few)?;
         i += 1;
     }
-    sum
+    Ok(sum)
 }
 
-fn folded(sum: u64, b: u8, few: bool) -> u64 {
+fn folded(rt: &impl Print, sum: u64, b: u8, few: bool) -> io::Result<u64> {
     if few {
-        io::print_hex(1, b as u64, 2);
+        print!(rt; "{b:02x}")?;
     }
-    sum % 4294967291 * 65599 + b as u64
+    Ok(sum % 4294967291 * 65599 + b as u64)
 }
 
-fn shown_fold(n: usize, sum: u64) {
+fn shown_fold(rt: &impl Print, n: usize, sum: u64) -> io::Result<()> {
     if n <= 128 {
-        return;
+        return Ok(());
     }
-    io::print_decimal(1, n as u64);
-    io::write_all(1, b" bytes:");
-    number(sum);
+    print!(rt; "{n} bytes:")?;
+    number(rt, sum)
 }
 
 // All bytes, - for none; those of more than 128 as how many they are and their fold.
-fn bytes(out: &[u8]) {
-    opened(out.len());
-    let sum = fold(out, out.len() <= 128);
-    shown_fold(out.len(), sum);
+fn bytes(rt: &impl Print, out: &[u8]) -> io::Result<()> {
+    opened(rt, out.len())?;
+    let sum = fold(rt, out, out.len() <= 128)?;
+    shown_fold(rt, out.len(), sum)
 }
 
-pub fn with_bytes(shown: Answer, out: &[u8]) {
-    answer(shown);
+pub fn with_bytes(rt: &impl Print, shown: Answer, out: &[u8]) -> io::Result<()> {
+    answer(rt, shown)?;
     if shown.output {
-        io::write_all(1, b",");
-        bytes(out);
+        rt.write_all(b",")?;
+        bytes(rt, out)?;
     }
+    Ok(())
 }

@@ -1,72 +1,99 @@
 // Runs the cases of standard input, a line each: a call and its arguments (the crate notation). Empty lines and those that begin with # are
 // skipped. Prints each case, an equals sign and what came out. `keep BYTES` keeps a sheet for the lines after it, `grow` appends and keeps
 // what came out; @ stands for what is kept. tests/models/cases.py makes the lines a second time, by documents 01 and 02.
+#![tactic(auto)]
+
 use fields::{byte_at, part};
-use libc::STDIN_FILENO;
 use notation::{Ends, Space, Words, argument, arguments, list, number, place, words};
 use slices::{part_after, part_before};
+use std::io;
 
 mod formula_calls;
 
 // A call on lists, with as many words of output.
-fn on_words(call: usize, digits: &[u8], a: &[u32], b: &[u32], c: &[u32], room: usize) {
+fn on_words(
+    rt: &impl Print,
+    call: usize,
+    digits: &[u8],
+    a: &[u32],
+    b: &[u32],
+    c: &[u32],
+    room: usize,
+) -> io::Result<()> {
     let mut out = [7u32; 401];
     if room <= 401 {
-        list_calls::shown(call, digits, a, b, c, &mut out[0..room]);
+        list_calls::shown(rt, call, digits, a, b, c, &mut out[0..room])?;
     }
+    Ok(())
 }
 
-fn on_lists(call: usize, space: &Space, all: &Words, ends: &Ends) {
+fn on_lists(
+    rt: &impl Print,
+    call: usize,
+    space: &Space,
+    all: &Words,
+    ends: &Ends,
+) -> io::Result<()> {
     on_words(
+        rt,
         call,
         argument(space, ends, 0),
         list(all, ends, 0),
         list(all, ends, 1),
         list(all, ends, 2),
         number(space, ends, list_calls::room_at(call)) as usize,
-    );
+    )
 }
 
 // A call on a sheet, with as many bytes of output; how many bytes are kept after `keep` and `grow`.
-fn on_sheets(call: usize, space: &Space, all: &Words, ends: &Ends, kept: &mut Space) -> usize {
+fn on_sheets(
+    rt: &impl Print,
+    call: usize,
+    space: &Space,
+    all: &Words,
+    ends: &Ends,
+    kept: &mut Space,
+) -> io::Result<usize> {
     let sheet = argument(space, ends, 0);
     let name = argument(space, ends, 1);
     let room = number(space, ends, sheet_calls::room_at(call)) as usize;
-    sheet_calls::kept(call, sheet, name, list(all, ends, 2), room, kept)
+    sheet_calls::kept(rt, call, sheet, name, list(all, ends, 2), room, kept)
 }
 
 // A list's values at moments.
-fn on_moments(space: &Space, all: &Words, ends: &Ends) {
+fn on_moments(rt: &impl Print, space: &Space, all: &Words, ends: &Ends) -> io::Result<()> {
     column_calls::values(
+        rt,
         list(all, ends, 0),
         list(all, ends, 1),
         number(space, ends, 2) as usize,
-    );
+    )
 }
 
 // The first calls are on lists, the next on formulas and inputs of the programs, then on sheets; the last is on moments.
 fn called(
+    rt: &impl Print,
     call: usize,
     space: &Space,
     all: &Words,
     ends: &Ends,
     kept: &mut Space,
     n: usize,
-) -> usize {
+) -> io::Result<usize> {
     if call < 25 {
-        on_lists(call, space, all, ends);
-        return n;
+        on_lists(rt, call, space, all, ends)?;
+        return Ok(n);
     }
     if call < 30 {
-        formula_calls::shown(call, space, ends);
-        return n;
+        formula_calls::shown(rt, call, space, ends)?;
+        return Ok(n);
     }
     if call == 40 {
-        on_moments(space, all, ends);
-        return n;
+        on_moments(rt, space, all, ends)?;
+        return Ok(n);
     }
-    let grown = on_sheets(call, space, all, ends, kept);
-    if call < 38 { n } else { grown }
+    let grown = on_sheets(rt, call, space, all, ends, kept)?;
+    Ok(if call < 38 { n } else { grown })
 }
 
 fn call_of(name: &[u8]) -> usize {
@@ -79,20 +106,26 @@ fn call_of(name: &[u8]) -> usize {
 }
 
 // The case with its arguments; how many bytes are kept after it.
-fn read(name: &[u8], text: &[u8], kept: &mut Space, n: usize) -> usize {
+fn read(
+    rt: &impl Print,
+    name: &[u8],
+    text: &[u8],
+    kept: &mut Space,
+    n: usize,
+) -> io::Result<usize> {
     let mut space = [0u8; 65536];
     let mut ends = [0usize; 16];
     arguments(text, part(kept, 0, n), &mut space, &mut ends);
     let all = words(&space);
-    called(call_of(name), &space, &all, &ends, kept, n)
+    called(rt, call_of(name), &space, &all, &ends, kept, n)
 }
 
-fn case(line: &[u8], kept: &mut Space, n: usize) -> usize {
-    io::write_all(1, line);
-    io::write_all(1, b" =");
-    let then = read(part_before(line, b' '), part_after(line, b' '), kept, n);
-    io::write_all(1, b"\n");
-    then
+fn case(rt: &impl Print, line: &[u8], kept: &mut Space, n: usize) -> io::Result<usize> {
+    rt.write_all(line)?;
+    rt.write_all(b" =")?;
+    let then = read(rt, part_before(line, b' '), part_after(line, b' '), kept, n)?;
+    rt.write_all(b"\n")?;
+    Ok(then)
 }
 
 // Whether a case begins at i: after a line feed, and neither with one nor with #.
@@ -111,25 +144,26 @@ fn byte_before(text: &[u8], i: usize) -> u8 {
 }
 
 // The line that begins at i, where one does.
-fn line(text: &[u8], i: usize, kept: &mut Space, n: usize) -> usize {
+fn line(rt: &impl Print, text: &[u8], i: usize, kept: &mut Space, n: usize) -> io::Result<usize> {
     if begins(byte_before(text, i), byte_at(text, i)) {
-        return case(part_before(part(text, i, text.len()), b'\n'), kept, n);
+        return case(rt, part_before(part(text, i, text.len()), b'\n'), kept, n);
     }
-    n
+    Ok(n)
 }
 
-fn lines(text: &[u8], kept: &mut Space) {
+fn lines(rt: &impl Print, text: &[u8], kept: &mut Space) -> io::Result<()> {
     let mut n: usize = 0;
     let mut i: usize = 0;
     while i < text.len() {
-        n = line(text, i, kept, n);
+        n = line(rt, text, i, kept, n)?;
         i += 1;
     }
+    Ok(())
 }
 
-fn main() {
-    let mut input = io::large_buffer();
+fn main(rt: HostRuntime) -> io::Result<()> {
+    let mut input = [0u8; 65536];
     let mut kept = [0u8; 65536];
-    let n = io::read_full(STDIN_FILENO, &mut input);
-    lines(&input[..n], &mut kept);
+    let n = standard_input::fill(rt.stdin(), &mut input)?;
+    lines(&rt, &input[..n], &mut kept)
 }

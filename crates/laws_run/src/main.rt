@@ -1,17 +1,19 @@
 // Each law of document 01 in both directions: random formulas and lengths for its letters, one side put in the place of a random
 // leaf of a random tree, the other side in the same place, and the words and verdicts of the two formulas compared.
 // Standard input has the texts of the law table in order, a line each.
+#![tactic(auto)]
+
 mod judged;
 mod sides;
 
 use crate::judged::judge;
 use crate::sides::sides;
 use fields::{byte_at, part};
-use libc::STDIN_FILENO;
 use random_calls::kept;
 use random_formulas::cells::{Cells, NAMES, SEED, TALLY, whole};
 use random_sheets::drawn::{ordinary_times, sheet, signals};
 use slices::{part_after, part_before};
+use std::io;
 
 fn sheet_drawn(cells: &mut Cells) {
     signals(cells);
@@ -44,57 +46,68 @@ fn begun(cells: &mut Cells, number: u64) {
     cells[TALLY + 2] = 0;
 }
 
-fn line(label: &[u8], n: u64) {
-    io::write_all(1, label);
-    io::print_decimal(1, n);
-    io::write_all(1, b"\n");
+fn line(rt: &impl Print, label: &str, n: u64) -> io::Result<()> {
+    println!(rt; "{label}{n}")
 }
 
 // How often the law was applied from left to right, from right to left, and how often something differed.
-fn told(cells: &Cells, number: u64) {
-    io::write_all(1, b"law ");
-    io::print_decimal(1, number);
-    line(b": from the left ", cells[TALLY + 1]);
-    line(b"  from the right ", cells[TALLY + 2]);
-    line(b"  mismatches ", cells[TALLY]);
+fn told(rt: &impl Print, cells: &Cells, number: u64) -> io::Result<()> {
+    print!(rt; "law {number}")?;
+    line(rt, ": from the left ", cells[TALLY + 1])?;
+    line(rt, "  from the right ", cells[TALLY + 2])?;
+    line(rt, "  mismatches ", cells[TALLY])
 }
 
-fn law(cells: &mut Cells, number: u64, left: &[u8], right: &[u8]) {
+fn law(
+    rt: &impl Print,
+    cells: &mut Cells,
+    number: u64,
+    left: &[u8],
+    right: &[u8],
+) -> io::Result<()> {
     begun(cells, number);
     both_ways(cells, left, right);
-    told(cells, number);
+    told(rt, cells, number)
 }
 
 // The law whose line begins at i, where one does; how many laws then.
-fn law_at(cells: &mut Cells, text: &[u8], i: usize, before: u64) -> u64 {
+fn law_at(
+    rt: &impl Print,
+    cells: &mut Cells,
+    text: &[u8],
+    i: usize,
+    before: u64,
+) -> io::Result<u64> {
     if 0 < i {
         if byte_at(text, i - 1) != b'\n' {
-            return before;
+            return Ok(before);
         }
     }
     let line = part_before(part(text, i, text.len()), b'\n');
     let number = before % 64 + 1;
     law(
+        rt,
         cells,
         number,
         part_before(line, b'='),
         part_after(line, b'='),
-    );
-    number
+    )?;
+    Ok(number)
 }
 
-fn run(cells: &mut Cells, text: &[u8]) {
+fn run(rt: &impl Print, cells: &mut Cells, text: &[u8]) -> io::Result<()> {
     let mut number: u64 = 0;
     let mut i: usize = 0;
     while i < text.len() {
-        number = law_at(cells, text, i, number);
+        number = law_at(rt, cells, text, i, number)?;
         i += 1;
     }
+    Ok(())
 }
 
-fn main() {
+fn main(rt: HostRuntime) -> io::Result<()> {
     let mut cells = whole();
-    let mut input = io::buffer();
-    let n = io::read_full(STDIN_FILENO, &mut input);
-    run(&mut cells, &input[..n]);
+    let mut input = [0u8; 4096];
+    let n = standard_input::fill(rt.stdin(), &mut input)?;
+    run(&rt, &mut cells, &input[..n])
 }

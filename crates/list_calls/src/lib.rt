@@ -1,4 +1,6 @@
 // Test support: the calls on lists: questions, tidying, the operations into an output and in a slot that is lent.
+#![tactic(auto)]
+
 use answers::shown::with_words;
 use answers::{Answer, slot, told, written};
 use building::SlotAnswer;
@@ -7,6 +9,7 @@ use notation::head;
 use showing::Operation;
 use signals::{Date, Length, Told, Written};
 use sources::{Memory, Source};
+use std::io;
 
 fn question(call: usize, a: &[u32], b: &[u32], k: u32) -> Told {
     match call {
@@ -126,8 +129,16 @@ fn of_call(call: usize, digits: &[u8], a: &[u32], b: &[u32], c: &[u32], out: &mu
     slot(operation_in(call, t, d, a, b, c, out))
 }
 
-pub fn shown(call: usize, digits: &[u8], a: &[u32], b: &[u32], c: &[u32], out: &mut [u32]) {
-    with_words(of_call(call, digits, a, b, c, out), out);
+pub fn shown(
+    rt: &impl Print,
+    call: usize,
+    digits: &[u8],
+    a: &[u32],
+    b: &[u32],
+    c: &[u32],
+    out: &mut [u32],
+) -> io::Result<()> {
+    with_words(rt, of_call(call, digits, a, b, c, out), out)
 }
 
 // Which argument is the length of the output; none of the calls that have no output.

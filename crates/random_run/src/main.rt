@@ -1,10 +1,13 @@
 // Random formulas on random sheets, called and claimed, against the second evaluator, which steps moment by moment.
 // It prints how often each kind came, and how often the two differed.
+#![tactic(auto)]
+
 mod compared;
 mod made;
 
 use crate::compared::round;
 use random_formulas::cells::{Cells, SEED, TALLY, at, whole};
+use std::io;
 
 fn rounds(cells: &mut Cells, many: usize) {
     cells[SEED] = 20261115;
@@ -15,45 +18,44 @@ fn rounds(cells: &mut Cells, many: usize) {
     }
 }
 
-fn line(label: &[u8], cells: &Cells, kind: usize) {
-    io::write_all(1, label);
-    io::print_decimal(1, at(cells, TALLY + kind % 32));
-    io::write_all(1, b"\n");
+fn line(rt: &impl Print, label: &str, cells: &Cells, kind: usize) -> io::Result<()> {
+    let n = at(cells, TALLY + kind % 32);
+    println!(rt; "{label}{n}")
 }
 
 // The fault in the label is the number of its kind; formula calls have no fault 9.
-fn told_fault(cells: &Cells, fault: usize) {
+fn told_fault(rt: &impl Print, cells: &Cells, fault: usize) -> io::Result<()> {
     if fault == 9 {
-        return;
+        return Ok(());
     }
-    io::write_all(1, b"formulas refused ");
-    io::print_decimal(1, fault as u64);
-    line(b" ", cells, fault);
+    print!(rt; "formulas refused {fault}")?;
+    line(rt, " ", cells, fault)
 }
 
-fn told_faults(cells: &Cells) {
+fn told_faults(rt: &impl Print, cells: &Cells) -> io::Result<()> {
     let mut fault: usize = 5;
     while fault < 19 {
-        told_fault(cells, fault);
+        told_fault(rt, cells, fault)?;
         fault += 1;
     }
+    Ok(())
 }
 
-fn told_claims(cells: &Cells) {
-    line(b"claims that hold ", cells, 21);
-    line(b"claims that fail at ", cells, 22);
-    line(b"claims that fail after ", cells, 23);
-    line(b"claims refused ", cells, 24);
-    line(b"failing runs that end at an instant ", cells, 26);
-    line(b"failing runs that end before one ", cells, 27);
-    line(b"failing runs that never end ", cells, 28);
+fn told_claims(rt: &impl Print, cells: &Cells) -> io::Result<()> {
+    line(rt, "claims that hold ", cells, 21)?;
+    line(rt, "claims that fail at ", cells, 22)?;
+    line(rt, "claims that fail after ", cells, 23)?;
+    line(rt, "claims refused ", cells, 24)?;
+    line(rt, "failing runs that end at an instant ", cells, 26)?;
+    line(rt, "failing runs that end before one ", cells, 27)?;
+    line(rt, "failing runs that never end ", cells, 28)
 }
 
-fn main() {
+fn main(rt: HostRuntime) -> io::Result<()> {
     let mut cells = whole();
     rounds(&mut cells, 20000);
-    line(b"formulas answered ", &cells, 20);
-    told_faults(&cells);
-    told_claims(&cells);
-    line(b"mismatches ", &cells, 0);
+    line(&rt, "formulas answered ", &cells, 20)?;
+    told_faults(&rt, &cells)?;
+    told_claims(&rt, &cells)?;
+    line(&rt, "mismatches ", &cells, 0)
 }

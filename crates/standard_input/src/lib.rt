@@ -1,32 +1,41 @@
 // Standard input, read into the buffer of a program's input.
+#![tactic(auto)]
+
+ghost use Rattle.std.specs.Io.{ReadsAtMost};
 ghost use Rattle.standard_input.specs.Reading.{ReadInto};
 
 use inputs::BYTES;
-use libc::STDIN_FILENO;
+use std::io;
+use std::io::{Read, Stdin};
 
 // What reading gave: so many bytes up to the end of the input or of the buffer, or a read that failed.
-#[derive(Drop)]
+#[derive(Clone, Copy)]
 pub enum Input {
     Bytes(usize),
     Failed,
 }
 
-// Reads until the input ends, the buffer is full or a read fails.
-pub fn read(buffer: &mut [u8; BYTES]) -> Input
-    ensures { ReadInto result buffer.new }
+// Reads until the input ends, the space is full or a read fails; how many bytes.
+pub fn fill(mut stdin: Stdin, space: &mut [u8]) -> io::Result<usize>
+    ensures { ReadsAtMost result space.new }
 {
-    let space: &mut [u8] = buffer;
     let mut done: usize = 0;
     while done < space.len() {
-        let got = libc::read(STDIN_FILENO, &mut space[done..]);
-        if got < 0 {
-            return Input::Failed;
-        }
-        let more = io::count(got, &space[done..]);
+        let more = stdin.read(&mut space[done..])?;
         if more == 0 {
-            return Input::Bytes(done);
+            return Ok(done);
         }
         done += more;
     }
-    Input::Bytes(done)
+    Ok(done)
+}
+
+// Reads until the input ends, the buffer is full or a read fails.
+pub fn read(stdin: Stdin, buffer: &mut [u8; BYTES]) -> Input
+    ensures { ReadInto result buffer.new }
+{
+    match fill(stdin, buffer) {
+        Ok(done) => Input::Bytes(done),
+        Err(_) => Input::Failed,
+    }
 }
