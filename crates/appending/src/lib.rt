@@ -1,4 +1,6 @@
 // Writing sheets: begin and append.
+#![tactic(auto)]
+
 ghost use Rattle.std.specs.Prelude.{◌≡◌, ◌+◌, ◌*◌, ◌≤◌, length};
 ghost use Rattle.slices.specs.Slices.{placed};
 ghost use Rattle.slices.specs.Bytes.{bytes16, bytes32, word_bytes};

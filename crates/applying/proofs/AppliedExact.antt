@@ -94,7 +94,7 @@ module _ (answer : Written) (l before slot : List ℕ) (wide : length before ≡
       let j = both_none (list_fault a) (list_fault b) z in
       built_told _ before slot m.made
       (merged_exact (operation_of k) (table_for k) a b j.0 j.1 u v before slot m.made m.merges)
-      wide answer m.answer-is l i
+      wide answer m.answer_is l i
 
   timer_told : (k d : ℕ) (a : List ℕ) → edged k ≡ false → TimedInto (engine_of k d) d a before slot answer
       → first_of (list_fault a) (length_fault d) ≡ 0 → Words a → Told answer l (unary_exact (unary_of k d) a)
@@ -123,16 +123,16 @@ applied_exact w a b answer l x z u v = go (leb kinds.AND (w % 16)) (edged (w % 1
         let h = leb-true kinds.AND (w % 16) e in
         let i = le-ltb (w % 16) kinds.AND h in
         under _ (of_two (w % 16) h a b ∙ exact_two w a b i)
-        (merge_told answer l x.before x.slot x.wide x.list-is (w % 16) a b y (judged_two w a b i ∙ z) u v)
+        (merge_told answer l x.before x.slot x.wide x.list_is (w % 16) a b y (judged_two w a b i ∙ z) u v)
     go false true e f y =
         let i = lt-ltb (w % 16) kinds.AND (leb-false kinds.AND (w % 16) e) in
         let o = of_one (w % 16) f (w / 16 % 4294967296) a in
         under _ (o.1 ∙ exact_one w a b i)
-        (merge_told answer l x.before x.slot x.wide x.list-is (w % 16) a none y (o.0 ∙ judged_one w a b i ∙ z) u none_words)
+        (merge_told answer l x.before x.slot x.wide x.list_is (w % 16) a none y (o.0 ∙ judged_one w a b i ∙ z) u none_words)
     go false false e f y =
         let n = w / 16 % 4294967296 in
         let i = lt-ltb (w % 16) kinds.AND (leb-false kinds.AND (w % 16) e) in
         under _ (exact_one w a b i)
-        (timer_told answer l x.before x.slot x.wide x.list-is (w % 16) n a f y
+        (timer_told answer l x.before x.slot x.wide x.list_is (w % 16) n a f y
         (timer_judged (eqb (w % 16) kinds.TON) (eqb (w % 16) kinds.TOF) n a ∙ ap (λ o. unary_fault o a) (sym (of_timer (w % 16) n f))
         ∙ judged_one w a b i ∙ z) u)

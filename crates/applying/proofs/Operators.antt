@@ -91,7 +91,8 @@ of_one k t = go (eqb k kinds.NOT) (eqb k kinds.RISING) (eqb k kinds.FALLING) ref
     go false true z e f g h = rw (eqb-true k kinds.RISING f) of_rising
     go false false z e f g h = rw (eqb-true k kinds.FALLING (g ∙ h)) of_falling
 
-pub of_two : (k : ℕ) → kinds.AND ≤ k → (a b : List ℕ) → exact_of_two (merged (operation_of k) (table_for k)) a b ≡ binary_exact (binary_of k) a b
+pub of_two : (k : ℕ) → kinds.AND ≤ k → (a b : List ℕ) → exact_of_two (merged (operation_of k) (table_for k)) a b ≡ binary_exact
+    (binary_of k) a b
 unfolding binary_of operation_of table_for
 of_two k l a b = go (eqb k kinds.AND) (eqb k kinds.OR) (eqb k kinds.SR) refl refl refl
   where

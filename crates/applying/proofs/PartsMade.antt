@@ -76,7 +76,7 @@ module _ (sheet work : List ℕ) (at : ℕ) (given : SlotAnswer) (answer : Writt
         slot = z.1.0;
         after_is = z.1.2;
         short = rw told (made_small z.0);
-        applied = record { made = z.0; merges = rw (← i, ← j) z.1.1; answer-is = told };
+        applied = record { made = z.0; merges = rw (← i, ← j) z.1.1; answer_is = told };
       }
 
   pub timer_part : (w d : ℕ) (engine : Engine) (a : Source) → engine ≡ engine_of (w % 16) (w / 16 % 4294967296) → d ≡ w / 16 % 4294967296
@@ -102,7 +102,7 @@ module _ (sheet work : List ℕ) (at : ℕ) (given : SlotAnswer) (answer : Writt
             after_is = z.1.1;
             short = rw told (made_small last.made);
             applied = rw (← i, ← j) (record {
-              past-M = λ l. absurd (let k = leb-true d M s in omega arith);
+              past_M = λ l. absurd (let k = leb-true d M s in omega arith);
               ran = λ k. (told, refl);
             });
           }
@@ -113,7 +113,7 @@ module _ (sheet work : List ℕ) (at : ℕ) (given : SlotAnswer) (answer : Writt
             slot = slot_in work at most_words;
             after_is = z.1 ∙ sym (slot_kept work at most_words room.2);
             short = rw told (omega arith);
-            applied = rw (← i, ← j) (record { past-M = λ l. (told, refl); ran = λ k. absurd (let l = leb-false d M s in omega arith) });
+            applied = rw (← i, ← j) (record { past_M = λ l. (told, refl); ran = λ k. absurd (let l = leb-false d M s in omega arith) });
           }
 
 -- which operation it is
@@ -148,7 +148,8 @@ module _ (w : ℕ) (sheet work : List ℕ) (a b : Source) (at : ℕ) (answer : W
         applied = rw (lt-leb kinds.AND (w % 16) l, e) p.applied;
       }
 
-  pub part_made : may_merge a b at (length work) ≡ true → PartMade w sheet work a b at answer after → PartAt w sheet work a b at answer after
+  pub part_made : may_merge a b at (length work) ≡ true → PartMade w sheet work a b at answer after → PartAt w sheet work a b at answer
+      after
   part_made h p = record { refused = λ x. true_false (sym h ∙ x); begun = λ x. p }
 
 pub part_refused : (w : ℕ) (sheet work : List ℕ) (a b : Source) (at : ℕ) → may_merge a b at (length work) ≡ false
@@ -159,7 +160,8 @@ pub not_first : (a b : Source) (at n : ℕ) → false ≡ apart_from a at most_w
 unfolding may_merge
 not_first a b at n x = rw (sym x)
 
-pub not_second : (a b : Source) (at n : ℕ) → true ≡ apart_from a at most_words → false ≡ apart_from b at most_words → may_merge a b at n ≡ false
+pub not_second : (a b : Source) (at n : ℕ) → true ≡ apart_from a at most_words → false ≡ apart_from b at most_words → may_merge a b at n
+    ≡ false
 unfolding may_merge
 not_second a b at n x y = rw (sym x, sym y)
 

@@ -80,7 +80,8 @@ pub record PartMade (w : ℕ) (sheet work : List ℕ) (a b : Source) (at : ℕ) 
   pub after_is : after ≡ with_slot work at most_words slot
   pub short : count_in answer ≤ most_words
   pub applied :
-      AppliedIn w (list_at sheet constants constants work a) (list_at sheet constants constants work b) (slot_in work at most_words) slot answer
+      AppliedIn w (list_at sheet constants constants work a) (list_at sheet constants constants work b) (slot_in work at most_words)
+      slot answer
 
 -- The operation on lists where they stand, in the slot of the work area from `at` on: 5 and nothing written where that may not be.
 pub record PartAt (w : ℕ) (sheet work : List ℕ) (a b : Source) (at : ℕ) (answer : Written) (after : List ℕ) : Type 0 where

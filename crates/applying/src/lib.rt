@@ -1,5 +1,7 @@
 // The operation that a part's code word asks for, on its operands' lists where they stand, in a slot of the work area. Other code words are
 // taken for these, so that every call has an answer.
+#![tactic(auto)]
+
 ghost use Rattle.std.specs.Prelude.{◌≡◌, true, length};
 ghost use Rattle.merging.specs.Merging.{may_merge};
 ghost use Rattle.applying.specs.PartCalls.{part_answer};

@@ -1,4 +1,6 @@
 // The value of a list's signal, asked at an instant and in a gap.
+#![tactic(auto)]
+
 ghost use Rattle.std.specs.Prelude.{◌≡◌};
 ghost use Rattle.signals.specs.Words.{list_fault};
 ghost use Rattle.signals.specs.Answers.{told_value};

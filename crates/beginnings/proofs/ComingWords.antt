@@ -40,7 +40,7 @@ module _ (text : List ℕ) where
   stem_comes b stem kind c deep k zero s l a h = absurd (omega arith)
   stem_comes b stem kind c deep k (suc n) s l a h =
       let x = c.word.begins [] in
-      let f = c.no-leaf in
+      let f = c.no_leaf in
       let far = c.far ((b ∷ take k stem) ++ l) f.2 in
       let here = shared_front (b ∷ stem) (40 ∷ []) l (suc k) in
       let size = length-take k stem in

@@ -63,7 +63,8 @@ module _ (text : List ℕ) where
   )
 
   -- ! ^ ~
-  prefix_reaches : (b kind : ℕ) → prefix_kind b ≡ kind → ltb 0 kind ≡ true → (w : List ℕ) → ReachesFactor text w → ReachesFactor text (b ∷ w)
+  prefix_reaches : (b kind : ℕ) → prefix_kind b ≡ kind → ltb 0 kind ≡ true → (w : List ℕ) → ReachesFactor text w → ReachesFactor text
+      (b ∷ w)
   unfolding factor_at stepped
   prefix_reaches b kind pk pos w r deep zero n s l a h = no_factor text deep n s l a h
   prefix_reaches b kind pk pos w r deep (suc k) zero s l a h = absurd (omega arith)

@@ -10,7 +10,6 @@ use Rattle.names.specs.Names.{digit, all_of}
 use Rattle.texts.specs.Lengths.{is_length}
 use Rattle.grammar.specs.Tree.{Tree}
 use Rattle.grammar.specs.Grammar.{Sum, Product, Factor}
-use Rattle.grammar.specs.Kinds as kinds
 use Rattle.grammar.specs.Reader.{prefix_kind}
 use Rattle.grammar.proofs.Bytes.{never, by_cond}
 use Rattle.grammar.proofs.Found.{Block}

@@ -2,7 +2,7 @@
 use Prim.Native.Nat.{ℕ, suc, ◌+◌, ◌≤◌, ◌<◌}
 use native.Mathlib.Omega.{arith}
 use native.Mathlib.Numerals.{add-one}
-use mathlib.Core.Path.{◌≡◌, refl, sym, ◌∙◌, ap}
+use mathlib.Core.Path.{◌≡◌, refl, sym, ◌∙◌}
 use mathlib.Core.Bool.{Bool, true, false, cond, ◌||◌}
 use mathlib.Core.List.{List, [], ◌∷◌, ◌++◌, append_assoc}
 use lib.Dec.{ltb, eqb}
@@ -95,7 +95,7 @@ module _ (exact old slot : List ℕ) (made : Made) (b : Built exact old slot mad
   where
     same_fault : made_fault made (length slot) (length out) ≡ answer_fault exact (length out)
     unfolding made_fault answer_fault part_fault room_fault first_of
-    same_fault = rw (b.count-is, b.late_is)
+    same_fault = rw (b.count_is, b.late_is)
         (go (ltb most_words (length exact)) (changes_after_m exact) (ltb (length out) (length exact)) refl)
       where
         go : (t u v : Bool) → ltb most_words (length exact) ≡ t
@@ -113,7 +113,7 @@ module _ (exact old slot : List ℕ) (made : Made) (b : Built exact old slot mad
     unfolding answer_fault
     same_words z =
         let p = part_none exact (both_none (part_fault exact) (room_fault exact (length out)) z).0 in
-        rw (b.count-is, b.slot_is, slot_short exact old p.1 (room p.0))
+        rw (b.count_is, b.slot_is, slot_short exact old p.1 (room p.0))
         (take_at exact (drop (length exact) old) (length exact) refl)
 
     pub delivered : (r : Written) (after : List ℕ) → Delivers made slot out r after

@@ -8,4 +8,4 @@ use Rattle.building.proofs.Built.{Built}
 
 pub built_answer_lem : (exact old slot : List ℕ) (made : Made) → Built exact old slot made → made_answer made ≡ built_answer exact
 unfolding made_answer built_answer
-built_answer_lem exact old slot made b = rw (b.count-is, b.late_is)
+built_answer_lem exact old slot made b = rw (b.count_is, b.late_is)

@@ -2,16 +2,15 @@
 use Prim.Native.Nat.{ℕ, zero, suc, ◌+◌, ◌-◌, ◌≤◌, ◌<◌}
 use native.Mathlib.Omega.{arith}
 use mathlib.Core.Path.{◌≡◌, refl, sym, ◌∙◌, ap}
-use mathlib.Core.Bool.{Bool, true, false, cond, beq, ◌&&◌, ◌||◌}
-use lib.Dec.{ltb}
-use mathlib.Core.List.{List, [], ◌∷◌, ◌++◌}
+use mathlib.Core.Bool.{Bool, true, false, cond, beq, ◌&&◌}
+use mathlib.Core.List.{List, [], ◌∷◌}
 use lib.ListN.{length, take, drop, set, length-drop}
-use lib.Seq.{take_all, drop-set-lt}
-use Rattle.signals.specs.Moment.{M, gap, instant}
+use lib.Seq.{take_all}
+use Rattle.signals.specs.Moment.{gap}
 use Rattle.signals.specs.Signal.{Signal, num}
-use Rattle.signals.specs.Words.{words_of, list_of, word, date_of}
+use Rattle.signals.specs.Words.{words_of, list_of, word}
 use Rattle.signals.proofs.Scan.{Held, scan_to, scan_settled}
-use Rattle.building.specs.Building.{idle, one_more, late_with, emitted, emitted_in, begun, slot_with, fitting, up_to_m}
+use Rattle.building.specs.Building.{idle, one_more, late_with, emitted, emitted_in, begun}
 use Rattle.building.proofs.Built.{Built}
 use Rattle.building.specs.declared.Made.{Made}
 use Rattle.building.proofs.BuildingLaws.{Building, building_begin, Advanced, advance}
@@ -68,7 +67,7 @@ module _ (F : Signal) (n : ℕ) (old : List ℕ) where
       record { building = next.building; left = next.left; value_is = h.after ∙ emitted_value made d a b }
     where
       same : v ≡ made.value
-      same = sym (h.still (gap k) (omega arith) (omega (arith, h.later))) ∙ s.value-is
+      same = sym (h.still (gap k) (omega arith) (omega (arith, h.later))) ∙ s.value_is
 
       next : Advanced (list_of F n) old (words_of F d (n - d)) (emitted_in slot made d a b) (emitted made d a b)
       next = advance (list_of F n) old slot (words_of F d (n - d)) made d a b s.building (omega (arith, list_length F n))
@@ -79,7 +78,7 @@ module _ (F : Signal) (n : ℕ) (old : List ℕ) where
       → Built (list_of F n) old slot made
   scanning_done k slot made s still =
       record {
-        count-is = whole;
+        count_is = whole;
         late_is = rw all at s.building.late;
         slot_is = rw all at s.building.slot_is;
       }

@@ -6,7 +6,7 @@ use Rattle.signals.specs.Signal.{num}
 use Rattle.signals.specs.Words.{date_of, most_words, word}
 use Rattle.signals.specs.Answers.{written_of, output_of}
 use Rattle.signals.specs.declared.Written.{Written}
-use Rattle.operations.specs.Calls.{changes_after_m, room_fault}
+use Rattle.operations.specs.Calls.{room_fault}
 use Rattle.building.specs.declared.Made.{Made}
 
 -- a word of these values after the value before changes nothing

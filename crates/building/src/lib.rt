@@ -1,4 +1,6 @@
 // How an answer is built word by word in a slot, judged, and handed over.
+#![tactic(auto)]
+
 ghost use Rattle.std.specs.Prelude.{◌≡◌, ◌++◌, ◌≤◌, length, drop};
 ghost use Rattle.building.specs.Building.{idle, one_more, Begins, Emits, HandsOver, Delivers};
 ghost use Rattle.building.specs.Slots.{made_answer};
@@ -9,7 +11,7 @@ use signals::{Date, M, Written};
 pub const WORDS: usize = signals::WORDS;
 
 // The answer being built in a slot: the value after its last word, its words counted, and whether one is dated after M.
-#[derive(Drop)]
+#[derive(Clone, Copy)]
 pub struct Made {
     pub value: bool,
     pub count: u32,
@@ -133,7 +135,7 @@ pub fn deliver(slot: &[u32], made: Made, out: &mut [u32]) -> Written
 
 // What a call in a lent slot gives: the answer's words, counted, stand in the slot; or it is over 256 words, or changes after M;
 // or the call did not begin, for a fault of an operand or of the length, or for a slot under 256 words.
-#[derive(Drop)]
+#[derive(Clone, Copy)]
 pub enum SlotAnswer {
     Stands(usize),
     TooLong,

@@ -3,7 +3,7 @@ use Prim.Native.Nat.{ℕ, ◌<◌}
 use native.Mathlib.Omega.{arith}
 use mathlib.Core.Path.{◌≡◌, refl, sym, ◌∙◌, ap, subst}
 use mathlib.Core.Bool.{Bool, true, false, cond}
-use mathlib.Core.Logic.{◌⊎◌, inl, inr}
+use mathlib.Core.Logic.{inl, inr}
 use mathlib.Core.List.{List}
 use lib.Dec.{ltb}
 use lib.ListN.{length}
@@ -20,8 +20,7 @@ use Rattle.operations.specs.Calls.{room_fault}
 use Rattle.calls.specs.NormalLists.{ListFor}
 use Rattle.calls.specs.Tabled.{Breaks18, Meets5, Meets6, FineBefore, Breaks5, Breaks6, Breaks7, ReadingChecks, WorkingChecks}
 use Rattle.calls.specs.Tabled.{CallFaultIs, ClaimFaultIs}
-use Rattle.signals.specs.Checks.{FaultCheck, Check, NoFault}
-use Rattle.calls.proofs.FirstFault.{zero_or_not}
+use Rattle.signals.specs.Checks.{Check, NoFault}
 use Rattle.signals.proofs.Checks.{check_by, fault_check}
 use Rattle.calls.proofs.Settles.{exact_for_lem, one_for}
 use Rattle.calls.proofs.PartFaults.{parts_fault_lem}
@@ -147,7 +146,8 @@ after_texts sheet F G work = first_of (work_fault sheet work) (first_of (working
 last_parts : (sheet G : List ℕ) → sheet_fault sheet ≡ 0 → (t : Tree) (d : ℕ) → Writes G t d
     → WorkingChecks sheet G NoFault (working_fault sheet G)
 last_parts sheet G ok t d w =
-    subst (WorkingChecks sheet G NoFault) (first_with_none (working_fault sheet G)) (working_fault_lem sheet G NoFault 0 ok t d w (λ y. refl))
+    subst (WorkingChecks sheet G NoFault) (first_with_none (working_fault sheet G))
+    (working_fault_lem sheet G NoFault 0 ok t d w (λ y. refl))
 
 pub claim_fault_lem : (sheet F G : List ℕ) (work : ℕ) → ClaimFaultIs sheet F G work (claim_fault sheet F G work)
 unfolding claim_fault

@@ -78,8 +78,8 @@ pub clear_list : (sheet formula : List ℕ) → Clear sheet formula → (t : Tre
 unfolding words_on working_fault
 clear_list sheet formula c t d w =
     rw (tree_of_lem formula t d w)
-    (part_accepted (signal_on sheet t) (exact_on sheet t) (exact_for_lem sheet c.sheet-ok t)
-    (whole_none sheet t (rw (tree_of_lem formula t d w) at c.parts-ok)))
+    (part_accepted (signal_on sheet t) (exact_on sheet t) (exact_for_lem sheet c.sheet_ok t)
+    (whole_none sheet t (rw (tree_of_lem formula t d w) at c.parts_ok)))
 
 -- a refused call keeps the output, one without a fault gives the words
 fault_keeps : (f : ℕ) (words old : List ℕ) → (¬ (f ≡ 0)) → output_of f words old ≡ old
@@ -129,7 +129,7 @@ pub gives : (sheet formula : List ℕ) (work : ℕ) (old : List ℕ) → fault_i
 gives sheet formula work old e =
     let z = no_fault sheet formula work old e in
     let c = (call_clear sheet formula work (length old) z).0 in
-    let w = derived formula (text_fine sheet formula c.text-ok) in
+    let w = derived formula (text_fine sheet formula c.text_ok) in
     record {
       words = words_on sheet formula;
       delivered = delivered sheet formula work old z;
@@ -153,14 +153,15 @@ judged_as sheet ok f g =
 pub claim_judged : (sheet F G : List ℕ) (work : ℕ) → claim_fault sheet F G work ≡ 0 → (f g : Tree) (d e : ℕ) → Writes F f d → Writes G g e
     → JudgedAs (signal_on sheet f) (signal_on sheet g) (claim_answer sheet F G work)
 claim_judged sheet F G work z f g d e w v =
-    rw (claim_given sheet F G work z, tree_of_lem F f d w, tree_of_lem G g e v) (judged_as sheet (claim_clear sheet F G work z).0.sheet-ok f g)
+    rw (claim_given sheet F G work z, tree_of_lem F f d w, tree_of_lem G g e v)
+    (judged_as sheet (claim_clear sheet F G work z).0.sheet_ok f g)
 
 pub says : (sheet F G : List ℕ) (work : ℕ) → fault_of_verdict (claim_answer sheet F G work) ≡ 0 → GivesTheVerdict defined sheet F G work
 says sheet F G work e =
     let z = sym (claim_fault_shown sheet F G work) ∙ e in
     let c = claim_clear sheet F G work z in
-    let w = derived F (text_fine sheet F c.0.text-ok) in
-    let v = derived G (text_fine sheet G c.1.text-ok) in
+    let w = derived F (text_fine sheet F c.0.text_ok) in
+    let v = derived G (text_fine sheet G c.1.text_ok) in
     record {
       tree_f = w.0;
       tree_g = v.0;
@@ -189,7 +190,7 @@ name_back : (sheet name list : List ℕ) → list_named name (signals_on sheet) 
     → Delivered defined sheet name work old list
 name_back sheet name list q k ok e work old l m =
     let s = name_served sheet name (rw q k) ok e in
-    let r = s.same-words ∙ q in
+    let r = s.same_words ∙ q in
     rw (← r) (delivered sheet name work old (clear_call sheet name s.clear work (length old) l (rw r m)))
 
 append_back : (sheet name list : List ℕ) (room : ℕ) → Bytes sheet → Words list → append_fault sheet name list room ≡ 0
@@ -208,7 +209,8 @@ append_back sheet name list room b k z work old l m =
 sheet_faults_lem : (sheet formula : List ℕ) (work : ℕ) (old : List ℕ) → Bytes sheet → (n : ℕ) → 14 ≤ n → n ≤ 17
     → (fault_in (defined.answer sheet formula work old) ≡ n) ↔ SheetFaultIs sheet n
 sheet_faults_lem sheet formula work old b n l m =
-    call_sheet sheet formula work (length old) (fault_in (call_answer sheet formula work old)) n (call_faults_lem sheet formula work old) b l m
+    call_sheet sheet formula work (length old) (fault_in (call_answer sheet formula work old)) n
+    (call_faults_lem sheet formula work old) b l m
 
 claim_sheet_faults_lem : (sheet F G : List ℕ) (work : ℕ) → Bytes sheet → (n : ℕ) → 14 ≤ n → n ≤ 17
     → (fault_of_verdict (defined.claim sheet F G work) ≡ n) ↔ SheetFaultIs sheet n

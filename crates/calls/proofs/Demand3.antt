@@ -72,14 +72,16 @@ one_signal F G f g d e w v r sheet = rw (tree_of_lem F f d w, tree_of_lem G g e 
 
 -- two claims whose sides have the same signals give one answer
 one_answer : (sheet F G H K : List ℕ) → Answered sheet F → Answered sheet G → Answered sheet H → Answered sheet K
-    → signal_on sheet (formula_tree F) ≡ signal_on sheet (formula_tree H) → signal_on sheet (formula_tree G) ≡ signal_on sheet (formula_tree K)
+    → signal_on sheet (formula_tree F) ≡ signal_on sheet (formula_tree H) → signal_on sheet (formula_tree G) ≡ signal_on sheet
+    (formula_tree K)
     → (work : ℕ) → claim_answer sheet F G work ≡ claim_answer sheet H K work
 one_answer sheet F G H K a b c d p q work = go (ltb work (needed_work sheet)) refl
   where
     one : claim_verdict sheet (formula_tree F) (formula_tree G) ≡ claim_verdict sheet (formula_tree H) (formula_tree K)
     one =
-        let ok = (answered_clear sheet F a).sheet-ok in
-        one_verdict (judged_as sheet ok (formula_tree F) (formula_tree G)) (rw (p, q) (judged_as sheet ok (formula_tree H) (formula_tree K)))
+        let ok = (answered_clear sheet F a).sheet_ok in
+        one_verdict (judged_as sheet ok (formula_tree F) (formula_tree G))
+        (rw (p, q) (judged_as sheet ok (formula_tree H) (formula_tree K)))
 
     go : (t : Bool) → ltb work (needed_work sheet) ≡ t → claim_answer sheet F G work ≡ claim_answer sheet H K work
     go true z =
@@ -152,7 +154,7 @@ module _ (E : Engine) (A : AgreesWhereAnswered E) where
         claim_answered = A.no_other_claim;
         lists = λ sheet F a work old e.
             let c = answered_clear sheet F a in
-            let w = derived F (text_fine sheet F c.text-ok) in
+            let w = derived F (text_fine sheet F c.text_ok) in
             record {
               words = words_on sheet F;
               delivered = given sheet F a work old e;

@@ -50,9 +50,9 @@ NoLeaf (unary o t) = Unit
 NoLeaf (binary o t u) = Unit
 
 no_leaf : {n : ℕ} {t : Tree} → LengthIn n t → NoLeaf t
-no_leaf LengthIn.of-ton = tt
-no_leaf LengthIn.of-tof = tt
-no_leaf LengthIn.of-tp = tt
+no_leaf LengthIn.of_ton = tt
+no_leaf LengthIn.of_tof = tt
+no_leaf LengthIn.of_tp = tt
 no_leaf (LengthIn.under h) = tt
 no_leaf (LengthIn.first h) = tt
 no_leaf (LengthIn.second h) = tt
@@ -128,9 +128,9 @@ name_served sheet n small ok e =
     let z = name_fine sheet n small ok e in
     record {
       clear = record {
-        sheet-ok = ok;
-        text-ok = text_clear sheet n (name_fault n s.0) t e;
-        parts-ok = rw t (name_parts sheet n z);
+        sheet_ok = ok;
+        text_ok = text_clear sheet n (name_fault n s.0) t e;
+        parts_ok = rw t (name_parts sheet n z);
       };
       same_words = rw t x;
     }

@@ -1,17 +1,15 @@
 -- Which calls are not refused: those of answered formulas with enough work words and room, and claims of them.
-use Prim.Native.Nat.{ℕ, ◌+◌, ◌≤◌, ◌<◌}
+use Prim.Native.Nat.{ℕ, ◌≤◌, ◌<◌}
 use native.Mathlib.Omega.{arith}
 use mathlib.Core.Path.{◌≡◌, refl, sym, ◌∙◌, ap}
 use mathlib.Core.Bool.{Bool, true, false, cond}
 use mathlib.Core.List.{List}
-use lib.Dec.{leb, ltb, eqb}
+use lib.Dec.{ltb, eqb}
 use lib.ListN.{length}
 use borrow.Author.Tests.{ltb-false, le-ltb, lt-ltb, eqb-true, eq-eqb, ne_eqb}
-use Rattle.signals.specs.Signal.{Signal, refuted}
 use Rattle.signals.specs.Answers.{fault_in, written_of, verdict_for}
 use Rattle.signals.specs.Implication.{fault_of_verdict}
 use Rattle.signals.proofs.AnswersSay.{answers_say}
-use Rattle.signals.specs.Moment.{gap, is_gap, tick}
 use Rattle.signals.specs.declared.Written.TheVariants as written
 use Rattle.signals.specs.declared.Verdict.TheVariants as verdict
 use Rattle.grammar.specs.Tree.{Tree}
@@ -77,9 +75,9 @@ clear_fault : (sheet formula : List ℕ) → Clear sheet formula → (work room 
     → call_fault sheet formula work room ≡ first_of (work_fault sheet work) (room_fault (words_on sheet formula) room)
 unfolding call_fault
 clear_fault sheet formula c work room =
-    next_is (sheet_fault sheet) _ c.sheet-ok
-    ∙ next_is (reading_fault sheet formula) _ c.text-ok
-    ∙ ap (first_of (work_fault sheet work)) (next_is (working_fault sheet formula) _ c.parts-ok)
+    next_is (sheet_fault sheet) _ c.sheet_ok
+    ∙ next_is (reading_fault sheet formula) _ c.text_ok
+    ∙ ap (first_of (work_fault sheet work)) (next_is (working_fault sheet formula) _ c.parts_ok)
 
 pub clear_call : (sheet formula : List ℕ) → Clear sheet formula → (work room : ℕ) → needed_work sheet ≤ work
     → length (words_on sheet formula) ≤ room
@@ -155,10 +153,10 @@ claim_clear sheet F G work e =
 pub clear_claim : (sheet F G : List ℕ) → Clear sheet F → Clear sheet G → (work : ℕ) → claim_fault sheet F G work ≡ work_fault sheet work
 unfolding claim_fault
 clear_claim sheet F G c d work =
-    next_is (sheet_fault sheet) _ c.sheet-ok
-    ∙ next_is (reading_fault sheet F) _ c.text-ok
-    ∙ next_is (reading_fault sheet G) _ d.text-ok
-    ∙ ap (first_of (work_fault sheet work)) (next_is (working_fault sheet F) (working_fault sheet G) c.parts-ok ∙ d.parts-ok)
+    next_is (sheet_fault sheet) _ c.sheet_ok
+    ∙ next_is (reading_fault sheet F) _ c.text_ok
+    ∙ next_is (reading_fault sheet G) _ d.text_ok
+    ∙ ap (first_of (work_fault sheet work)) (next_is (working_fault sheet F) (working_fault sheet G) c.parts_ok ∙ d.parts_ok)
     ∙ first_with_none (work_fault sheet work)
 
 pub claim_given : (sheet F G : List ℕ) (work : ℕ) → claim_fault sheet F G work ≡ 0
@@ -217,7 +215,7 @@ not_refused =
           ap fault_of_verdict (given_claim sheet F G a b work l) ∙ claim_no_fault sheet (formula_tree F) (formula_tree G);
       only18 = short_claim_lem;
       exactly = λ sheet formula. (
-        λ a. let c = answered_clear sheet formula a in (c.sheet-ok, c.text-ok, c.parts-ok),
+        λ a. let c = answered_clear sheet formula a in (c.sheet_ok, c.text_ok, c.parts_ok),
         λ h. clear_answered sheet formula (record { sheet_ok = h.0; text_ok = h.1; parts_ok = h.2 }),
       );
     }

@@ -59,7 +59,8 @@ one_fault =
       claim = claim_fault_lem;
       one_of_call = λ sheet formula work room fault h.
           call_single sheet formula work room fault (call_fault sheet formula work room) h (call_fault_lem sheet formula work room);
-      one_of_claim = λ sheet F G work fault h. claim_single sheet F G work fault (claim_fault sheet F G work) h (claim_fault_lem sheet F G work);
+      one_of_claim = λ sheet F G work fault h. claim_single sheet F G work fault (claim_fault sheet F G work) h
+          (claim_fault_lem sheet F G work);
       sheets = sheet_of;
     }
 
@@ -185,8 +186,8 @@ module _ (E : Engine) (D : Demand3 E) where
           D.claim_short_work sheet F G a b work l ∙ sym (short_claim_lem sheet F G a b work l)
       go false q =
           let l = ltb-false work (needed_work sheet) q in
-          let w = derived F (text_fine sheet F (answered_clear sheet F a).text-ok) in
-          let v = derived G (text_fine sheet G (answered_clear sheet G b).text-ok) in
+          let w = derived F (text_fine sheet F (answered_clear sheet F a).text_ok) in
+          let v = derived G (text_fine sheet G (answered_clear sheet G b).text_ok) in
           one_verdict
           (D.claims sheet F G w.0 v.0 w.1 v.1 w.2 v.2 a b work (D.claim_served sheet F G a b work l))
           (demand3.claims sheet F G w.0 v.0 w.1 v.1 w.2 v.2 a b work (demand3.claim_served sheet F G a b work l))

@@ -90,7 +90,8 @@ module _ (sheet : List ℕ) (ok : sheet_fault sheet ≡ 0) (other : Tree) where
 
   abbrev pub First6 : List Tree → Type 0
   First6 ps =
-      (i : ℕ) × (i < length ps) × Before ps i × (¬ Meets5 (signal_on sheet (get_or ps i other))) × Meets6 (signal_on sheet (get_or ps i other))
+      (i : ℕ) × (i < length ps) × Before ps i × (¬ Meets5 (signal_on sheet (get_or ps i other))) × Meets6
+      (signal_on sheet (get_or ps i other))
 
   abbrev pub PartsFaultIs : List Tree → ℕ → Type 0
   PartsFaultIs ps = Check 5 (First5 ps) (Check 6 (First6 ps) NoFault)

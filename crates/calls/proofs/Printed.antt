@@ -7,7 +7,8 @@ use mathlib.Core.List.{List, [], ◌∷◌}
 use lib.ListN.{length}
 use Rattle.signals.specs.Moment.{is_gap, tick, started, from_to}
 use Rattle.signals.specs.Signal.{every, NOT, TON, refuted}
-use Rattle.signals.specs.Words.{word, date_of, value_at, value_after, head_value, changes_nothing, value_from, signal_of, last_from, last_date}
+use Rattle.signals.specs.Words.{word, date_of, value_at, value_after, head_value, changes_nothing, value_from, signal_of, last_from}
+use Rattle.signals.specs.Words.{last_date}
 use Rattle.signals.specs.Words.{words_of, list_of}
 use Rattle.signals.specs.Implication.{earliest, earliest_up_to, fails_in, first_span}
 use Rattle.signals.specs.declared.End.TheVariants.{Before}
@@ -19,17 +20,20 @@ use Rattle.names.specs.Names.{digit, all_of, letter, name_byte, well_named}
 use Rattle.texts.specs.Lengths.{is_length, value}
 use Rattle.grammar.specs.Grammar.{Writes, Sum, Product, Factor}
 use Rattle.texts.specs.Lengths as lengths
-use Rattle.grammar.specs.Reader.{run, next, bad, stepped, expect, put, pass_length, value_between, prefix_kind, starts, block_kind, block_bytes}
-use Rattle.grammar.specs.Reader.{block_at, leaf_at, timed, sum_at, sums_at, product_at, products_at, factor_at, latch_at, timer_at, read_text}
+use Rattle.grammar.specs.Reader.{run, next, bad, stepped, expect, put, pass_length, value_between, prefix_kind, starts, block_kind}
+use Rattle.grammar.specs.Reader.{block_bytes}
+use Rattle.grammar.specs.Reader.{block_at, leaf_at, timed, sum_at, sums_at, product_at, products_at, factor_at, latch_at, timer_at}
+use Rattle.grammar.specs.Reader.{read_text}
 use Rattle.grammar.specs.Formula.{accepted, parts_of, depth_of, longest_of, formula_fault}
-use Rattle.grammar.specs.PartWords.{timed_part, name_at}
+use Rattle.grammar.specs.PartWords.{timed_part}
 use Rattle.grammar.proofs.Reading.{tree_of_lem}
 use Rattle.grammar.specs.Parts.{parts}
 use Rattle.slices.specs.Bytes.{low16, low32, words_in}
 use Rattle.slices.specs.Slices.{before}
 use Rattle.format.specs.Names.{zeros, field_fits, same, among}
 use Rattle.format.specs.Reading as reading
-use Rattle.format.specs.Reading.{word_count, signal_size, later_words_fault, sheet_words_fault, signal_fault, signals_fault, front_fault, count_on}
+use Rattle.format.specs.Reading.{word_count, signal_size, later_words_fault, sheet_words_fault, signal_fault, signals_fault, front_fault}
+use Rattle.format.specs.Reading.{count_on}
 use Rattle.format.specs.Reading.{sheet_fault, signals_from, signals_on, names, list_named, environment_on}
 use Rattle.calls.specs.OnSheet.{settling_date, exact_on, names_found}
 use Rattle.calls.specs.Calls.{needed_work, parts_fault, words_on, claim_fails, claim_verdict, work_words}
@@ -49,8 +53,10 @@ g = tree.Tree.unary (tree.Unary.ton 2) f
 
 -- the sheet is accepted and gives a the list [0,23,36]
 sheet_fine : sheet_fault printed_sheet ≡ 0
-unfolding sheet_fault front_fault signals_fault signal_fault sheet_words_fault later_words_fault count_on word_count signal_size reading.name_at low16
-    low32 same among field_fits well_named letter digit all_of name_byte before zeros date_of value_at value_after head_value changes_nothing first_of
+unfolding sheet_fault front_fault signals_fault signal_fault sheet_words_fault later_words_fault count_on word_count signal_size
+    reading.name_at low16
+    low32 same among field_fits well_named letter digit all_of name_byte before zeros date_of value_at value_after head_value
+    changes_nothing first_of
 sheet_fine = refl
 
 list_f : list_named printed_f (signals_on printed_sheet) ≡ 0 ∷ 23 ∷ 36 ∷ []
@@ -78,23 +84,27 @@ unfolding value lengths.value_from
 g_writes = Sum.product (Product.factor (Factor.ton (50 ∷ []) length_two f_writes))
 
 f_fine : formula_fault printed_f ≡ 0
-unfolding formula_fault accepted longest_of parts_of depth_of read_text sum_at sums_at product_at products_at factor_at leaf_at next stepped put bad
+unfolding formula_fault accepted longest_of parts_of depth_of read_text sum_at sums_at product_at products_at factor_at leaf_at next
+    stepped put bad
     expect prefix_kind starts block_kind block_bytes block_at letter digit name_byte run
 f_fine = refl
 
 g_fine : formula_fault printed_g ≡ 0
-unfolding formula_fault accepted longest_of parts_of depth_of read_text sum_at sums_at product_at products_at factor_at latch_at timer_at timed
+unfolding formula_fault accepted longest_of parts_of depth_of read_text sum_at sums_at product_at products_at factor_at latch_at
+    timer_at timed
     timed_part pass_length value_between value lengths.value_from leaf_at next stepped put bad expect prefix_kind starts block_kind
     block_bytes block_at letter digit name_byte run
 g_fine = refl
 
 -- their lists
 exact_f : exact_on printed_sheet f ≡ 0 ∷ 23 ∷ 36 ∷ []
-unfolding exact_on settling_date environment_on list_of words_of word signal_of value_from head_value date_of value_at value_after last_date last_from
+unfolding exact_on settling_date environment_on list_of words_of word signal_of value_from head_value date_of value_at value_after
+    last_date last_from
 exact_f = rw list_f refl
 
 exact_g : exact_on printed_sheet g ≡ 0 ∷ 31 ∷ 36 ∷ []
-unfolding exact_on settling_date environment_on TON started every from_to list_of words_of word signal_of value_from head_value date_of value_at
+unfolding exact_on settling_date environment_on TON started every from_to list_of words_of word signal_of value_from head_value date_of
+    value_at
     value_after last_date last_from
 exact_g = rw list_f refl
 
@@ -134,7 +144,8 @@ given formula words c e l =
     rw (← e) (delivered printed_sheet formula work_words old (clear_call printed_sheet formula c work_words 4 enough_work (rw e l)))
 
 claimed : claim_verdict printed_sheet f g ≡ FailsAt 5 (Before 7)
-unfolding claim_fails settling_date environment_on first_span earliest_up_to earliest NOT refuted fails_in end_of is_gap tick TON started every
+unfolding claim_fails settling_date environment_on first_span earliest_up_to earliest NOT refuted fails_in end_of is_gap tick TON
+    started every
     from_to signal_of value_from head_value date_of value_at value_after last_date last_from
 claimed = rw list_f refl
 

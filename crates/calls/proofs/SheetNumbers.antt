@@ -40,7 +40,8 @@ from_sheet sheet later fault n o (inl a) l m = (λ e. sym a.1 ∙ e, λ e. a.1 �
 from_sheet sheet later fault n o (inr a) l m =
     (λ e. absurd (o fault a.1 (omega arith) (omega arith)), λ e. absurd (a.0 (λ z. omega arith)))
 
-sentence : (sheet : List ℕ) (fault n : ℕ) → Bytes sheet → 14 ≤ n → (fault ≡ n) ↔ (sheet_fault sheet ≡ n) → (fault ≡ n) ↔ SheetFaultIs sheet n
+sentence : (sheet : List ℕ) (fault n : ℕ) → Bytes sheet → 14 ≤ n → (fault ≡ n) ↔ (sheet_fault sheet ≡ n) → (fault ≡ n) ↔ SheetFaultIs
+    sheet n
 sentence sheet fault n b l h =
     let x = sheet_faults_exact sheet b n in
     (λ e. x.0 (h.0 e), λ s. h.1 (x.1 s))

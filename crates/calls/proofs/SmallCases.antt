@@ -15,7 +15,8 @@ use Rattle.grammar.specs.Tree as tree
 use Rattle.grammar.specs.Tree.{Tree}
 use Rattle.names.specs.Names.{letter, digit, name_byte}
 use Rattle.grammar.specs.Grammar.{Writes, Sum, Product, Factor}
-use Rattle.grammar.specs.Reader.{run, next, bad, stepped, expect, put, prefix_kind, starts, block_kind, block_bytes, block_at, leaf_at, sum_at}
+use Rattle.grammar.specs.Reader.{run, next, bad, stepped, expect, put, prefix_kind, starts, block_kind, block_bytes, block_at, leaf_at}
+use Rattle.grammar.specs.Reader.{sum_at}
 use Rattle.grammar.specs.Reader.{sums_at, product_at, products_at, factor_at, read_text}
 use Rattle.grammar.specs.Formula.{accepted, parts_of, formula_tree, depth_of, longest_of, formula_fault}
 use Rattle.grammar.proofs.Reading.{tree_of_lem}
@@ -64,17 +65,20 @@ unfolding sheet_fault front_fault signals_fault count_on low16 same first_of
 empty_fine = refl
 
 one_fine : formula_fault one ≡ 0
-unfolding formula_fault accepted longest_of parts_of depth_of read_text sum_at sums_at product_at products_at factor_at leaf_at next stepped put bad
+unfolding formula_fault accepted longest_of parts_of depth_of read_text sum_at sums_at product_at products_at factor_at leaf_at next
+    stepped put bad
     expect prefix_kind starts block_kind block_bytes block_at letter digit name_byte run
 one_fine = refl
 
 none_fine : formula_fault none ≡ 0
-unfolding formula_fault accepted longest_of parts_of depth_of read_text sum_at sums_at product_at products_at factor_at leaf_at next stepped put bad
+unfolding formula_fault accepted longest_of parts_of depth_of read_text sum_at sums_at product_at products_at factor_at leaf_at next
+    stepped put bad
     expect prefix_kind starts block_kind block_bytes block_at letter digit name_byte run
 none_fine = refl
 
 not_one_fine : formula_fault not_one ≡ 0
-unfolding formula_fault accepted longest_of parts_of depth_of read_text sum_at sums_at product_at products_at factor_at leaf_at next stepped put bad
+unfolding formula_fault accepted longest_of parts_of depth_of read_text sum_at sums_at product_at products_at factor_at leaf_at next
+    stepped put bad
     expect prefix_kind starts block_kind block_bytes block_at letter digit name_byte run
 not_one_fine = refl
 
@@ -84,9 +88,10 @@ pub tree_clear : (sheet formula : List ℕ) (t : Tree) (d : ℕ) → sheet_fault
 unfolding reading_fault working_fault
 tree_clear sheet formula t d ok w f n p =
     record {
-      sheet-ok = ok;
-      text-ok = next_is (formula_fault formula) (cond (names_found sheet (formula_tree formula)) 0 13) f ∙ rw (tree_of_lem formula t d w, n) refl;
-      parts-ok = rw (tree_of_lem formula t d w) p;
+      sheet_ok = ok;
+      text_ok = next_is (formula_fault formula) (cond (names_found sheet (formula_tree formula)) 0 13) f ∙ rw
+          (tree_of_lem formula t d w, n) refl;
+      parts_ok = rw (tree_of_lem formula t d w) p;
     }
 
 pub tree_words : (sheet formula : List ℕ) (t : Tree) (d : ℕ) → Writes formula t d → words_on sheet formula ≡ exact_on sheet t

@@ -57,7 +57,8 @@ claim_at_18 = answered_claim empty_sheet one none one_answered none_answered 819
 one_counted : call_answer empty_sheet one work_words (0 ∷ []) ≡ written.Count 1
 one_counted = (delivered empty_sheet one work_words (0 ∷ []) one_fault).count ∙ ap (λ (l : List ℕ). written.Count (length l)) one_words
 
-written_so : (formula old words : List ℕ) → call_fault empty_sheet formula work_words (length old) ≡ 0 → words_on empty_sheet formula ≡ words
+written_so : (formula old words : List ℕ) → call_fault empty_sheet formula work_words (length old) ≡ 0 → words_on empty_sheet formula ≡
+    words
     → call_output empty_sheet formula work_words old ≡ words ++ drop (length words) old
 written_so formula old words z e =
     (delivered empty_sheet formula work_words old z).output ∙ ap (λ (l : List ℕ). l ++ drop (length l) old) e
@@ -103,7 +104,8 @@ operand_words_lem = rw (tree_of_lem not_one (tree.Tree.unary tree.Unary.invert u
 copy_fine : copy_fault empty_sheet not_one work_words 1 ≡ 0
 unfolding copy_fault room_fault
 copy_fine =
-    next_is (call_fault empty_sheet not_one work_words 1) (room_fault (operand_words empty_sheet not_one) 1) not_one_fault ∙ rw operand_words_lem refl
+    next_is (call_fault empty_sheet not_one work_words 1) (room_fault (operand_words empty_sheet not_one) 1) not_one_fault ∙ rw
+    operand_words_lem refl
 
 copy_writes : copy_output empty_sheet not_one work_words (1 ∷ []) ≡ 1 ∷ []
 unfolding copy_output output_of

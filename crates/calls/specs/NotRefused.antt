@@ -16,7 +16,8 @@ pub record NotRefused : Type 0 where
   pub enough : (sheet formula : List ℕ) → Answered sheet formula → (work : ℕ) (old : List ℕ) → Enough sheet formula work old
       → call_answer sheet formula work old ≡ Count (length (words_on sheet formula))
   -- a call without a fault means answered, and that there was enough
-  pub means : (sheet formula : List ℕ) (work : ℕ) (old : List ℕ) → fault_in (call_answer sheet formula work old) ≡ 0 → Answered sheet formula
+  pub means : (sheet formula : List ℕ) (work : ℕ) (old : List ℕ) → fault_in (call_answer sheet formula work old) ≡ 0 → Answered sheet
+      formula
   pub means_enough : (sheet formula : List ℕ) (work : ℕ) (old : List ℕ) → fault_in (call_answer sheet formula work old) ≡ 0
       → Enough sheet formula work old
   -- a claim of two formulas answered on the sheet gives a verdict whenever the work words suffice, else 18 and nothing else

@@ -1,4 +1,6 @@
 // The exported static library: the calls of the library for C and Rust, each answer packed into one number.
+#![tactic(auto)]
+
 ghost use Rattle.std.specs.Prelude.{◌≡◌, [], length};
 ghost use Rattle.signals.specs.Signal.{NOT, connective, rising, falling, SR, RS, TON, TOF, TP};
 ghost use Rattle.signals.specs.Words.{list_fault};

@@ -69,11 +69,13 @@ module _ (l ms old : List ℕ) (z : list_fault l ≡ 0) (rising : not_rising ms 
         let last : i + 1 - 1 ≡ i = omega arith in
         let more : i + 1 ≡ suc i = omega arith in
         let long : length (column_words l ms) ≡ length ms = length-map ms (column_word l) in
-        let at : word ≡ get_or (column_words l ms) i 0 = is ∙ word_is (get_or ms i 0) step found.1 ∙ sym (each_word (column_word l) ms i h) in
+        let at : word ≡ get_or (column_words l ms) i 0 = is ∙ word_is (get_or ms i 0) step found.1 ∙ sym
+        (each_word (column_word l) ms i h) in
         record {
           date = get_or ms i 0 / 2;
           there = found.0;
-          next = λ g. subst (λ (j : ℕ). get_or ms i 0 / 2 ≤ get_or ms j 0 / 2) (sym more) (omega (arith, risen ms rising i (omega (arith, g))));
+          next = λ g. subst (λ (j : ℕ). get_or ms i 0 / 2 ≤ get_or ms j 0 / 2) (sym more)
+              (omega (arith, risen ms rising i (omega (arith, g))));
           within = omega arith;
           counted = rw (ne_eqb (i + 1) 0 (λ e. omega (arith, e)), last) found.1.0;
           long = length-set out i word ∙ f.long;

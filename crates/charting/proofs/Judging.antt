@@ -49,7 +49,8 @@ rises_next ms i o r lt j h l = go (dec_le (suc (suc j)) i)
         let before : i - 1 ≡ j = omega (arith, here) in
         subst (λ (k : ℕ). get_or ms j 0 < get_or ms k 0) here (subst (λ (k : ℕ). get_or ms k 0 < get_or ms i 0) before lt)
 
-pub not_after_lem : (ms : List ℕ) (i : ℕ) → 1 ≤ i → i < length ms → get_or ms i 0 ≤ get_or ms (i - 1) 0 → ◌≡◌ {A = ℕ} 20 (cond (not_rising ms) 20 0)
+pub not_after_lem : (ms : List ℕ) (i : ℕ) → 1 ≤ i → i < length ms → get_or ms i 0 ≤ get_or ms (i - 1) 0 → ◌≡◌ {A = ℕ} 20
+    (cond (not_rising ms) 20 0)
 not_after_lem ms i o h le =
     let here : suc (i - 1) ≡ i = omega (arith, o) in
     rw (falls_is ms (i - 1, rw here h, rw here le)) refl

@@ -1,4 +1,6 @@
 // One signal's values at a rising list of moments: one reader goes along the list while the moments rise.
+#![tactic(auto)]
+
 ghost use Rattle.std.specs.Prelude.{◌≡◌, false, cond, ◌++◌, ◌≤◌, length, drop};
 ghost use Rattle.signals.specs.Signal.{num};
 ghost use Rattle.signals.specs.Words.{list_fault};

@@ -1,4 +1,6 @@
 // The line that the program `claim` prints for what it reads: the claim of the input's parts, the line of its answer.
+#![tactic(auto)]
+
 ghost use Rattle.claim_line.specs.Printing.{LineOfInput};
 
 use inputs::BYTES;

@@ -1,5 +1,7 @@
 // What a part's code word holds: its name in the text, where its list stands, how many operands it has. Other code words are taken for
 // these, so that every call has an answer.
+#![tactic(auto)]
+
 ghost use Rattle.std.specs.Prelude.{◌≡◌, ◌/◌, ◌%◌};
 ghost use Rattle.grammar.specs.PartWords.{name_at};
 ghost use Rattle.code_words.specs.CodeWords.{constant_of, leaf_source, operands_of};

@@ -14,7 +14,8 @@ use Rattle.signals.specs.declared.Told.TheVariants as told
 use Rattle.signals.proofs.FirstFault.{first_is, both_none}
 use Rattle.signals.proofs.AnswersSay.{by_fault, is_fault}
 use Rattle.columns.specs.Numbers.{moment_of}
-use Rattle.columns.specs.Columns.{order_fault, moment_fault, moments_fault, column_word, column_words, words_passed, column_fault, column_for}
+use Rattle.columns.specs.Columns.{order_fault, moment_fault, moments_fault, column_word, column_words, words_passed, column_fault}
+use Rattle.columns.specs.Columns.{column_for}
 use Rattle.columns.specs.Columns.{column_answer, fault_of_column, count_of_column, passed_of_column, CallOfColumn}
 use Rattle.columns.specs.Sentences.{Breaks20, Breaks9, ColumnFaultIs, single_call, Gives, ColumnGives, GivenColumn, ColumnSays}
 use Rattle.columns.specs.declared.Column.{Column}

@@ -23,7 +23,8 @@ gaps_from k (suc n) = gap_number k ∷ gaps_from (suc k) n
 pub record ColumnCases : Type 0 where
   -- before, at, between and after the words
   pub values : column_words spiked
-      (gap_number 0 ∷ gap_number 4 ∷ instant_number 5 ∷ gap_number 5 ∷ instant_number 9 ∷ gap_number 9 ∷ instant_number 10 ∷ gap_number M ∷ [])
+      (gap_number 0 ∷ gap_number 4 ∷ instant_number 5 ∷ gap_number 5 ∷ instant_number 9 ∷ gap_number 9 ∷ instant_number 10 ∷ gap_number
+      M ∷ [])
       ≡ 0 ∷ 0 ∷ 1 ∷ 0 ∷ 0 ∷ 1 ∷ 1 ∷ 1 ∷ []
   -- words passed: none for no moments, the first by gap 0, and a word by the instant and by the gap of its date
   pub none : words_passed spiked [] ≡ 0
@@ -66,7 +67,8 @@ pub record ColumnCases : Type 0 where
   pub too_short : column_fault spiked (gap_number 0 ∷ gap_number 4 ∷ []) 1 ≡ 7
   -- a whole call, the third word of its output kept, and a refused one
   pub filled : column_answer spiked (gap_number 4 ∷ instant_number 5 ∷ []) 3 ≡ Filled 2 2
-  pub kept : output_of (column_fault spiked (gap_number 4 ∷ instant_number 5 ∷ []) 3) (column_words spiked (gap_number 4 ∷ instant_number 5 ∷ []))
+  pub kept : output_of (column_fault spiked (gap_number 4 ∷ instant_number 5 ∷ []) 3)
+      (column_words spiked (gap_number 4 ∷ instant_number 5 ∷ []))
       (7 ∷ 8 ∷ 9 ∷ [])
       ≡ 0 ∷ 1 ∷ 9 ∷ []
   pub refusal : column_answer spiked (gap_number 4 ∷ instant_number 5 ∷ []) 1 ≡ Refused 7

@@ -31,7 +31,7 @@ module _ (o : Operation) (table : Table) (a b : List ℕ) (wa : Words a) (wb : W
   -- the loop begins with no date passed
   pub words_start : (slot : List ℕ) (made : Made) (bit : Bool) (date : ℕ) → date ≡ min x.date y.date
       → Along o table a b (reached slot made bit x.passed y.passed) slot x y made bit date
-  words_start slot made bit date ed = record { first = gx; second = gy; date-is = ed; on = λ end last w. w }
+  words_start slot made bit date ed = record { first = gx; second = gy; date_is = ed; on = λ end last w. w }
 
   -- what it builds from there is built from gap 0 on
   pub words_built : (first : Shown) → first ≡ first_shown o table (value_after x.last) (value_after y.last)

@@ -1,4 +1,6 @@
 // Connectives and latches: operations of two lists.
+#![tactic(auto)]
+
 ghost use Rattle.std.specs.Prelude.{◌≡◌, ◌≤◌, length};
 ghost use Rattle.signals.specs.Signal.{connective, SR, RS};
 ghost use Rattle.signals.specs.Words.{most_words};

@@ -14,6 +14,7 @@ no_fault : (f g : List ℕ) → list_fault f ≡ 0 → list_fault g ≡ 0 → pa
 unfolding pair_fault first_of
 no_fault f g zf zg = rw (zf, zg)
 
-pub implies_exact : (f g : List ℕ) (v : Verdict) → list_fault f ≡ 0 → list_fault g ≡ 0 → Words f → Words g → Found f g v → v ≡ implies_of f g
+pub implies_exact : (f g : List ℕ) (v : Verdict) → list_fault f ≡ 0 → list_fault g ≡ 0 → Words f → Words g → Found f g v → v ≡
+    implies_of f g
 unfolding implies_of verdict_for
 implies_exact f g v zf zg wf wg h = rw (no_fault f g zf zg) (found_verdict f g wf wg zf zg v h)

@@ -64,7 +64,7 @@ module _ {both failing : Bool} {a b : List ℕ} {from : Scan} {last : ℕ} {x y 
   held_sought : sought_by both failing (held_value a x.passed) (held_value b y.passed) ≡ v
   held_sought =
       rw
-      (← on_held a w.words-a w.short-a x x.passed w.left, ← on_held b w.words-b w.short-b y y.passed w.right)
+      (← on_held a w.words_a w.short_a x x.passed w.left, ← on_held b w.words_b w.short_b y y.passed w.right)
       (sym e)
 
   pub gap_met : v ≡ true → MeetsFrom both failing a b from (Gap (record { after = last; left = x; right = y }))
@@ -75,7 +75,7 @@ module _ {both failing : Bool} {a b : List ℕ} {from : Scan} {last : ℕ} {x y 
     unfolding next_of
     next_is =
         rw
-        (← on_date a w.words-a w.short-a x x.passed w.left, ← on_date b w.words-b w.short-b y y.passed w.right)
+        (← on_date a w.words_a w.short_a x x.passed w.left, ← on_date b w.words_b w.short_b y y.passed w.right)
         m
 
     pub none_met : NEVER ≤ d → MeetsFrom both failing a b from Nothing
@@ -86,16 +86,16 @@ module _ {both failing : Bool} {a b : List ℕ} {from : Scan} {last : ℕ} {x y 
       quiet_is = record { held = held_sought ∙ quiet; next = next_is; left = small }
 
       step_a : s.step ≡ step_past a x.passed d
-      step_a = on_step a w.words-a w.short-a x x.passed w.left d small s es
+      step_a = on_step a w.words_a w.short_a x x.passed w.left d small s es
 
       step_b : t.step ≡ step_past b y.passed d
-      step_b = on_step b w.words-b w.short-b y y.passed w.right d small t et
+      step_b = on_step b w.words_b w.short_b y y.passed w.right d small t et
 
       next_a : On a s.next s.step.passed
-      next_a = on_next a w.words-a w.short-a x x.passed w.left d small s es
+      next_a = on_next a w.words_a w.short_a x x.passed w.left d small s es
 
       next_b : On b t.next t.step.passed
-      next_b = on_next b w.words-b w.short-b y y.passed w.right d small t et
+      next_b = on_next b w.words_b w.short_b y y.passed w.right d small t et
 
       on_a : On a s.next (passed_date a x.passed d)
       on_a = subst (On a s.next) (ap (λ z. z.passed) step_a) next_a
@@ -121,10 +121,10 @@ module _ {both failing : Bool} {a b : List ℕ} {from : Scan} {last : ℕ} {x y 
           → Scanning both failing a b from d s.next t.next
       scan_on u h i =
           record {
-            short_a = w.short-a;
-            short_b = w.short-b;
-            words_a = w.words-a;
-            words_b = w.words-b;
+            short_a = w.short_a;
+            short_b = w.short_b;
+            words_a = w.words_a;
+            words_b = w.words_b;
             left = subst (On a s.next) (sym passed_a) on_a;
             right = subst (On b t.next) (sym passed_b) on_b;
             on = λ r m. w.on r (turn quiet_is (at_sought ∙ sym h ∙ i) (rw (passed_a, passed_b) at m));

@@ -24,7 +24,8 @@ use Rattle.signals.specs.declared.Told.TheVariants as told
 use Rattle.signals.specs.Answers.{Span, end_of, verdict_for, told_of, told_value}
 use Rattle.signals.proofs.Truth.{not_both_lem, every_of}
 use Rattle.signals.proofs.Wording.{split}
-use Rattle.signals.proofs.Implication.{refuted_up, refuted_of, verdict_judged, fails_in_gap, fails_in_instant, until_instant_lem, until_before_lem}
+use Rattle.signals.proofs.Implication.{refuted_up, refuted_of, verdict_judged, fails_in_gap, fails_in_instant, until_instant_lem}
+use Rattle.signals.proofs.Implication.{until_before_lem}
 use Rattle.signals.proofs.Implication.{for_good_lem}
 use Rattle.signals.proofs.FirstFault.{both_none}
 use Rattle.signals.proofs.Normal.{accepted_normal}

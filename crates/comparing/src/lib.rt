@@ -1,4 +1,6 @@
 // Two lists compared: equality and implication, by one scan along both.
+#![tactic(auto)]
+
 ghost use Rattle.std.specs.Prelude.{◌≡◌, true, false};
 ghost use Rattle.signals.specs.Words.{pair_fault};
 ghost use Rattle.questions.specs.Questions.{equal_of, implies_of};
@@ -11,7 +13,7 @@ use signals::{Date, End, Told, Verdict};
 use sources::{Cursor, Source, past, past_in, start, start_in};
 
 // Where a scan stands: in the gap after a date, its readers past the words up to that date.
-#[derive(Drop)]
+#[derive(Clone, Copy)]
 pub struct Scan {
     pub after: u32,
     pub left: Cursor,
@@ -19,7 +21,7 @@ pub struct Scan {
 }
 
 // What a scan meets: the gap that it stands in, the instant of the date after which it then stands, or nothing.
-#[derive(Drop)]
+#[derive(Clone, Copy)]
 pub enum Met {
     Gap(Scan),
     Instant(Scan),

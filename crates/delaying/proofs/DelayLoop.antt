@@ -120,7 +120,7 @@ module _ (level : Bool) (d : ℕ) (l old : List ℕ) where
       next =
           subst
           (λ (e : ℕ). Upcoming l passed s i.k (last_date l + d) e)
-          (sym i.date-is)
+          (sym i.date_is)
           (upcoming_is
           (signal_of l)
           (level_of level (signal_of l))
@@ -213,7 +213,7 @@ module _ (level : Bool) (d : ℕ) (l old : List ℕ) where
               rw
               (e4, e2)
               (timed_after level d (level_of level (signal_of l)) (last_date l) (last_date l + d) i.short i.early (omega arith)
-              (level_settled level l i.accepted) s i.k date (on_level level (held_value l passed)) a b inward next.by-due i.timed)
+              (level_settled level l i.accepted) s i.k date (on_level level (held_value l passed)) a b inward next.by_due i.timed)
 
           out : Held (delay_of level d (signal_of l)) i.k date (on_level level s.level) (on_level level s1.level)
               (on_level level s2.level)
@@ -230,5 +230,5 @@ module _ (level : Bool) (d : ℕ) (l old : List ℕ) where
               (rw
               (e4, e2)
               (delay_held level d (level_of level (signal_of l)) (last_date l) (last_date l + d) i.short i.early (omega arith)
-              (level_settled level l i.accepted) s i.k date (on_level level (held_value l passed)) a b inward next.by-due
+              (level_settled level l i.accepted) s i.k date (on_level level (held_value l passed)) a b inward next.by_due
               i.timed))

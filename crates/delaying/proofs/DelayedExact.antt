@@ -3,13 +3,13 @@
 use Prim.Native.Nat.{ℕ, zero, suc, ◌+◌, ◌-◌, ◌≤◌, ◌<◌}
 use native.Mathlib.Omega.{arith}
 use native.Mathlib.Numerals.{add-one}
-use mathlib.Core.Path.{◌≡◌, refl, sym, ◌∙◌, ap, subst}
+use mathlib.Core.Path.{◌≡◌, refl, sym, ◌∙◌, ap}
 use mathlib.Core.Bool.{Bool, true, false, cond, ◌&&◌}
-use mathlib.Core.List.{List, [], ◌∷◌, ◌++◌, append-nil}
+use mathlib.Core.List.{List}
 use lib.Dec.{ltb, eqb}
-use lib.ListN.{length, take, drop, get_or, drop_of_length-le}
-use lib.Seq.{take_all, drop-cons}
-use borrow.Author.Tests.{ltb-true, ltb-false, eq-eqb, ne_eqb, lt-ltb}
+use lib.ListN.{length, drop, get_or, drop_of_length-le}
+use lib.Seq.{drop-cons}
+use borrow.Author.Tests.{ltb-true, eq-eqb, ne_eqb, lt-ltb}
 use Rattle.slices.specs.Bytes.{Words}
 use Rattle.signals.specs.Moment.{M, gap}
 use Rattle.signals.specs.Signal.{Signal}
@@ -24,7 +24,6 @@ use Rattle.signals.specs.declared.Written.{Written}
 use Rattle.operations.specs.Calls.{exact_of_delay, answer_fault}
 use Rattle.operations.proofs.NeverMet.{last_32}
 use Rattle.reading.specs.Reading.{NEVER, next_date, held_on, step_past}
-use Rattle.reading.specs.declared.Step.{Step}
 use Rattle.building.specs.Building.{emitted, emitted_in, Delivers}
 use Rattle.building.proofs.Delivering.{delivered}
 use Rattle.building.proofs.Built.{Built}
@@ -148,8 +147,10 @@ module _ (level : Bool) (d : ℕ) (l old : List ℕ) where
   passes s p h small i =
       let e = next_in l p h in
       let date : date_of (get_or l p 0) < NEVER = below in
-      let j : DelayingTo (settled level (date_of (get_or l p 0)) s) p (date_of (get_or l p 0)) = rw e at (settles s p i (rw e (omega arith))) in
-      (delaying_turn level d l old _ p _ _ (date_of (get_or l p 0)) j date _ (sym (at_word l p h)) _ refl _ refl _ refl _ refl _ refl _ refl _
+      let j : DelayingTo (settled level (date_of (get_or l p 0)) s) p (date_of (get_or l p 0)) = rw e at
+      (settles s p i (rw e (omega arith))) in
+      (delaying_turn level d l old _ p _ _ (date_of (get_or l p 0)) j date _ (sym (at_word l p h)) _ refl _ refl _ refl _ refl _ refl _
+      refl _
       refl _ refl _ refl).0
     where
       below : date_of (get_or l p 0) < NEVER
@@ -182,6 +183,7 @@ pub delay_answers : (level : Bool) (d : ℕ) (l : List ℕ) → list_fault l ≡
     → let exact = exact_of_delay (delay_of level d) d l in
     (answer ≡ written_of (answer_fault exact (length out)) exact) × (after ≡ output_of (answer_fault exact (length out)) exact out)
 delay_answers level d l accepted short small old made slot (m, t) holds full out answer after =
-    let built : Built (exact_of_delay (delay_of level d) d l) old slot made = rw (m, t) (delayed_exact level d l old accepted short small) in
+    let built : Built (exact_of_delay (delay_of level d) d l) old slot made = rw (m, t)
+    (delayed_exact level d l old accepted short small) in
     delivered (exact_of_delay (delay_of level d) d l) old slot made built
-    (λ h. omega (arith, built.count-is, holds (omega (arith, built.count-is)))) full out answer after
+    (λ h. omega (arith, built.count_is, holds (omega (arith, built.count_is)))) full out answer after

@@ -1,11 +1,10 @@
 -- A delay's answer has at most two words for each word of its list.
-use Prim.Native.Nat.{ℕ, zero, suc, ◌+◌, ◌*◌, ◌≤◌, ◌<◌}
+use Prim.Native.Nat.{ℕ, ◌+◌, ◌*◌, ◌≤◌}
 use native.Mathlib.Omega.{arith}
-use mathlib.Core.Path.{◌≡◌, refl}
 use mathlib.Core.Bool.{Bool, true, false, cond, ◌&&◌}
 use mathlib.Core.List.{List, [], ◌∷◌}
 use lib.Dec.{ltb}
-use lib.ListN.{length, drop}
+use lib.ListN.{length}
 use Rattle.signals.specs.Words.{date_of, value_at, value_after}
 use Rattle.reading.specs.Reading.{NEVER}
 use Rattle.building.specs.Building.{idle, one_more, late_with, emitted, begun}

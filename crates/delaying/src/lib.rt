@@ -1,4 +1,6 @@
 // How a delay is built word by word: the change that is pending before a word comes first.
+#![tactic(auto)]
+
 ghost use Rattle.std.specs.Prelude.{◌≡◌};
 ghost use Rattle.delaying.specs.Turns.{state_of, settled};
 
@@ -7,7 +9,7 @@ use signals::Date;
 use timing::Timer;
 
 // A delay on its way: its state, and the answer being built.
-#[derive(Drop)]
+#[derive(Clone, Copy)]
 pub struct Going {
     pub timer: Timer,
     pub made: Made,

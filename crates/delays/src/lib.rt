@@ -1,4 +1,6 @@
 // On-delay and off-delay: one engine that follows one level of its input.
+#![tactic(auto)]
+
 ghost use Rattle.std.specs.Prelude.{◌≡◌, ◌≤◌, length};
 ghost use Rattle.signals.specs.Signal.{TON, TOF};
 ghost use Rattle.operations.specs.Calls.{CallOfDelay};

@@ -104,7 +104,7 @@ pub edges_there : (level : Bool) (a : List ℕ) → list_fault a ≡ 0 → Words
 edges_there level a ok wa out made after e fits =
     let b = edges_exact level a ok wa out made after e in
     let few = never_longer level a ok in
-    rw b.count-is
+    rw b.count_is
     (call_handed (edge_of level) a wa ok few out _ after
     (handed _ out (omega arith) after (b.slot_is ∙ slot_short _ out (not_late_lem (edge_of level) a wa) (omega arith))))
 

@@ -1,4 +1,6 @@
 // NOT and the edges: operations of one list.
+#![tactic(auto)]
+
 ghost use Rattle.std.specs.Prelude.{◌≡◌, false, ◌++◌, ◌≤◌, length, drop, get_or};
 ghost use Rattle.signals.specs.Signal.{NOT, rising, falling};
 ghost use Rattle.operations.specs.Calls.{CallOfOne};

@@ -1,14 +1,14 @@
 -- A formula or two worked out on a stack: 18, 5 or 6, or the lists where they stand.
 use Prim.Native.Nat.{ℕ}
 use native.Mathlib.Omega.{arith}
-use mathlib.Core.Path.{◌≡◌, refl, sym, ◌∙◌, ap, ap₂}
-use mathlib.Core.List.{List, [], ◌∷◌, ◌++◌, append-nil}
-use lib.ListN.{length, get_or}
+use mathlib.Core.Path.{◌≡◌, ◌∙◌, ap}
+use mathlib.Core.List.{List, [], ◌++◌, append-nil}
+use lib.ListN.{get_or}
 use Rattle.signals.specs.declared.Written.{Written}
 use Rattle.signals.specs.declared.Written.TheVariants as written
 use Rattle.signals.specs.declared.Verdict.{Verdict}
 use Rattle.signals.specs.declared.Verdict.TheVariants as verdict
-use Rattle.slices.specs.Bytes.{Bytes, Words}
+use Rattle.slices.specs.Bytes.{Bytes}
 use Rattle.building.specs.Building.{HandsOver}
 use Rattle.comparing.specs.Finding.{FoundAt}
 use Rattle.comparing.proofs.ImpliesExact.{implies_exact}
@@ -36,7 +36,7 @@ module _ (sheet text codes before : List ℕ) (ran : Ran) (after : List ℕ) (ok
       → Run sheet text before o a o' after
   formula_handed z o o' a h =
       let e = on_top_lem sheet text before after ok bytes c.read ran.fault w.end out z in
-      let t : list_of sheet after ran.top ≡ words_on sheet text = w.top-is z (rw e (omega arith)) ∙ ap (λ st. get_or st 0 []) e in
+      let t : list_of sheet after ran.top ≡ words_on sheet text = w.top_is z (rw e (omega arith)) ∙ ap (λ st. get_or st 0 []) e in
       run_handed sheet text before after ok bytes c.read ran.fault w.end out z o o' a (rw t at h)
 
 -- two formulas
@@ -53,8 +53,8 @@ module _ (sheet f g fs gs before : List ℕ) (ran : Ran) (after : List ℕ) (ok 
   claim_judged z v x y found first second =
       let h : FoundAt sheet constants constants after ran.below ran.top v = rw (first, second) at found in
       let s = stands sheet f g before after ok bytes cf.read cg.read ran.fault w.end both z in
-      let t : list_of sheet after ran.top ≡ words_on sheet g = w.top-is z (rw s.0 (omega arith)) ∙ ap (λ st. get_or st 0 []) s.0 in
-      let b : list_of sheet after ran.below ≡ words_on sheet f = w.below-is z (rw s.0 (omega arith)) ∙ ap (λ st. get_or st 1 [])
+      let t : list_of sheet after ran.top ≡ words_on sheet g = w.top_is z (rw s.0 (omega arith)) ∙ ap (λ st. get_or st 0 []) s.0 in
+      let b : list_of sheet after ran.below ≡ words_on sheet f = w.below_is z (rw s.0 (omega arith)) ∙ ap (λ st. get_or st 1 [])
       s.0 in
       judge_done sheet f g before after ok bytes cf.read cg.read ran.fault w.end both z v
       (implies_exact (words_on sheet f) (words_on sheet g) v s.1 s.2 s.3 s.4 (rw (b, t) at h))

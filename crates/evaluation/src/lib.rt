@@ -1,4 +1,6 @@
 // Formula calls and claims of two formulas on a sheet.
+#![tactic(auto)]
+
 ghost use Rattle.std.specs.Prelude.{◌≡◌, List, ◌++◌, ℕ, ◌≤◌, length, drop};
 ghost use Rattle.building.specs.Building.{HandsOver};
 ghost use Rattle.format.specs.Reading.{sheet_fault};

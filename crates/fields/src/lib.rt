@@ -1,4 +1,6 @@
 // Parts and bytes of a text, for the test programs that read their cases.
+#![tactic(auto)]
+
 ghost use Rattle.std.specs.Prelude.{◌≡◌, get_or};
 ghost use Rattle.fields.specs.Parts.{part_of};
 

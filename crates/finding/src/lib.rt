@@ -1,4 +1,6 @@
 // Finding a signal among those of a sheet, by its name.
+#![tactic(auto)]
+
 ghost use Rattle.std.specs.Prelude.{◌≡◌, drop};
 ghost use Rattle.format.specs.Reading.{signal_size};
 ghost use Rattle.format.specs.Calls.{place_among};

@@ -168,44 +168,45 @@ placed_front out x = ap (λ (k : ℕ). x ++ drop k out) (zero-add (length x))
 -- an appending without a fault writes the sheet with one signal more
 module _ (sheet name list out o₁ o₂ o₃ o₄ : List ℕ) (n : ℕ) (b : Bytes sheet) (z : append_fault sheet name list (length out) ≡ 0)
     (ne : n ≡ count_on sheet) (e : o₁ ≡ placed out 0 (take 5 sheet)) (f : o₂ ≡ placed o₁ 5 (bytes16 (n + 1)))
-    (g : o₃ ≡ placed o₂ 7 (take (length sheet - 7) (drop 7 sheet))) (h : o₄ ≡ placed o₃ (length sheet) (entry_bytes (entry name list))) where
-  append_size : length (appended sheet name list) ≡ length sheet + (10 + 4 * length list)
-  append_size =
-      let a = appends sheet name list (length out) z in
-      length_appended sheet b a.fine name list (named_short name a.named)
+    (g : o₃ ≡ placed o₂ 7 (take (length sheet - 7) (drop 7 sheet))) (h : o₄ ≡ placed o₃ (length sheet) (entry_bytes (entry name list)))
+  where
+    append_size : length (appended sheet name list) ≡ length sheet + (10 + 4 * length list)
+    append_size =
+        let a = appends sheet name list (length out) z in
+        length_appended sheet b a.fine name list (named_short name a.named)
 
-  pieces : o₄ ≡ placed out 0 (((take 5 sheet ++ bytes16 (n + 1)) ++ drop 7 sheet) ++ entry_bytes (entry name list))
-  pieces =
-      let a = appends sheet name list (length out) z in
-      let r = (front_none sheet a.fine).room in
-      let s = append_size in
-      let m = a.room-enough in
-      let l₁ : length (take 5 sheet) ≡ 5 = length-take-le 5 sheet (omega arith) in
-      let l₂ : length (take 5 sheet ++ bytes16 (n + 1)) ≡ 7 = simp (length-append, l₁, two) in
-      let l₃ : length ((take 5 sheet ++ bytes16 (n + 1)) ++ drop 7 sheet) ≡ length sheet = simp (length-append, l₁, two, length-drop)
-      (omega arith) in
-      let l₄ = length_entry name list (named_short name a.named) in
-      let h₂ = then_put out o₁ o₂ 0 5 (take 5 sheet) (bytes16 (n + 1)) e f (omega arith) (omega (arith, two (n + 1))) in
-      let h₃ =
-      then_put out o₂ o₃ 0 7 (take 5 sheet ++ bytes16 (n + 1)) (drop 7 sheet) h₂
-      (g ∙ ap (λ (l : List ℕ). placed o₂ 7 l) (part_rest sheet 7)) (omega arith) (omega (arith, length-drop 7 sheet)) in
-      then_put out o₃ o₄ 0 (length sheet) ((take 5 sheet ++ bytes16 (n + 1)) ++ drop 7 sheet) (entry_bytes (entry name list)) h₃ h
-      (omega arith) (omega arith)
+    pieces : o₄ ≡ placed out 0 (((take 5 sheet ++ bytes16 (n + 1)) ++ drop 7 sheet) ++ entry_bytes (entry name list))
+    pieces =
+        let a = appends sheet name list (length out) z in
+        let r = (front_none sheet a.fine).room in
+        let s = append_size in
+        let m = a.room_enough in
+        let l₁ : length (take 5 sheet) ≡ 5 = length-take-le 5 sheet (omega arith) in
+        let l₂ : length (take 5 sheet ++ bytes16 (n + 1)) ≡ 7 = simp (length-append, l₁, two) in
+        let l₃ : length ((take 5 sheet ++ bytes16 (n + 1)) ++ drop 7 sheet) ≡ length sheet = simp (length-append, l₁, two, length-drop)
+        (omega arith) in
+        let l₄ = length_entry name list (named_short name a.named) in
+        let h₂ = then_put out o₁ o₂ 0 5 (take 5 sheet) (bytes16 (n + 1)) e f (omega arith) (omega (arith, two (n + 1))) in
+        let h₃ =
+        then_put out o₂ o₃ 0 7 (take 5 sheet ++ bytes16 (n + 1)) (drop 7 sheet) h₂
+        (g ∙ ap (λ (l : List ℕ). placed o₂ 7 l) (part_rest sheet 7)) (omega arith) (omega (arith, length-drop 7 sheet)) in
+        then_put out o₃ o₄ 0 (length sheet) ((take 5 sheet ++ bytes16 (n + 1)) ++ drop 7 sheet) (entry_bytes (entry name list)) h₃ h
+        (omega arith) (omega arith)
 
-  pub append_put : (Count (length sheet + (10 + 4 * length list)) ≡ written_of (append_fault sheet name list (length out))
-      (appended sheet name list))
-      × (o₄ ≡ output_of (append_fault sheet name list (length out)) (appended sheet name list) out)
-  unfolding written_of output_of
-  append_put =
-      let a = appends sheet name list (length out) z in (
-        sym (rw (z, append_size)),
-        pieces
-            ∙ ap
-            (λ (k : ℕ). placed out 0 (((take 5 sheet ++ bytes16 (k + 1)) ++ drop 7 sheet) ++ entry_bytes (entry name list))) ne
-            ∙ ap (λ (l : List ℕ). placed out 0 l) (sym (appended_as sheet b a.fine name list))
-            ∙ placed_front out (appended sheet name list)
-            ∙ sym (rw z),
-      )
+    pub append_put : (Count (length sheet + (10 + 4 * length list)) ≡ written_of (append_fault sheet name list (length out))
+        (appended sheet name list))
+        × (o₄ ≡ output_of (append_fault sheet name list (length out)) (appended sheet name list) out)
+    unfolding written_of output_of
+    append_put =
+        let a = appends sheet name list (length out) z in (
+          sym (rw (z, append_size)),
+          pieces
+              ∙ ap
+              (λ (k : ℕ). placed out 0 (((take 5 sheet ++ bytes16 (k + 1)) ++ drop 7 sheet) ++ entry_bytes (entry name list))) ne
+              ∙ ap (λ (l : List ℕ). placed out 0 l) (sym (appended_as sheet b a.fine name list))
+              ∙ placed_front out (appended sheet name list)
+              ∙ sym (rw z),
+        )
 
 -- what an appending without a fault knows of sizes
 pub record Roomy (sheet name list out : List ℕ) : Type 0 where
@@ -218,5 +219,5 @@ append_room sheet name list out b z =
     let a = appends sheet name list (length out) z in
     let s = named_short name a.named in
     let e = length_appended sheet b a.fine name list s in
-    let r = a.room-enough in
+    let r = a.room_enough in
     record { front = (front_none sheet a.fine).room; short = s; all = omega arith }

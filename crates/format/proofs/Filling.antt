@@ -68,7 +68,8 @@ signal_put out o₁ o₂ o₃ at name list n r e f g =
 
 -- the empty sheet
 pub begin_short : (out : List ℕ) → length out < 7
-    → (Refused 7 ≡ written_of (begin_fault (length out)) (sheet_bytes [])) × (out ≡ output_of (begin_fault (length out)) (sheet_bytes []) out)
+    → (Refused 7 ≡ written_of (begin_fault (length out)) (sheet_bytes [])) ×
+    (out ≡ output_of (begin_fault (length out)) (sheet_bytes []) out)
 unfolding begin_fault written_of output_of sheet_bytes entries_bytes bytes16
 begin_short out h = (sym (rw (lt-ltb (length out) 7 h)), sym (rw (lt-ltb (length out) 7 h)))
 

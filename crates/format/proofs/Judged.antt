@@ -10,8 +10,7 @@ use borrow.Author.Tests.{eq-eqb, ne_eqb}
 use Rattle.signals.proofs.Truth.{true_false}
 use Rattle.slices.specs.Bytes.{low16}
 use Rattle.names.specs.Names.{well_named}
-use Rattle.format.specs.Names.{among}
-use Rattle.format.specs.Reading.{sheet_fault, count_on, signals_on, signals_from, names}
+use Rattle.format.specs.Reading.{sheet_fault, count_on, signals_on}
 use Rattle.format.specs.Calls.{place_from, place_of, place_among, or_missing, place_judged}
 use Rattle.format.specs.declared.Place.{Place}
 use Rattle.format.specs.declared.Place.TheVariants.{At, Refused}
@@ -34,7 +33,8 @@ module _ (sheet name : List ℕ) where
     where
       go : (w : Bool) (p : Place) → well_named name ≡ w → walked ≡ p → or_missing w p ≡ place_of sheet name
       go true (At start count) e q = sym q ∙ place_walked sheet name ok e
-      go true (Refused fault) e q = sym (place_refused name 7 (count_on sheet) (drop 7 sheet) (ap found_in q)) ∙ place_walked sheet name ok e
+      go true (Refused fault) e q = sym (place_refused name 7 (count_on sheet) (drop 7 sheet) (ap found_in q)) ∙ place_walked sheet name
+          ok e
       go false (At start count) e q = true_false (sym (well ok (ap found_in q)) ∙ e)
       go false (Refused fault) e q = place_bad_name sheet name ok e
 
@@ -61,7 +61,8 @@ module _ (sheet name : List ℕ) (n : ℕ) (en : n ≡ low16 (drop 5 sheet)) (pl
   judged_found start count q =
       q ∙ sym (ap (or_missing (well_named name)) q) ∙ ap (or_missing (well_named name)) e ∙ judged_place sheet name n en
 
-  pub judged_missing : (fault : ℕ) (w : Bool) → place ≡ Refused fault → w ≡ well_named name → Refused (cond w 13 16) ≡ place_judged sheet name
+  pub judged_missing : (fault : ℕ) (w : Bool) → place ≡ Refused fault → w ≡ well_named name → Refused (cond w 13 16) ≡ place_judged
+      sheet name
   judged_missing fault w q ew =
       ap (λ b. Refused (cond b 13 16)) ew ∙ sym (ap (or_missing (well_named name)) q) ∙ ap (or_missing (well_named name)) e
       ∙ judged_place sheet name n en

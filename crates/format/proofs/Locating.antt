@@ -8,16 +8,16 @@ use lib.Dec.{eqb}
 use lib.ListN.{length, take, drop, length-drop}
 use borrow.Author.Tests.{eq-eqb, ne_eqb, eqb-true}
 use Rattle.signals.proofs.Truth.{true_false}
-use Rattle.format.proofs.Walking.{wholes_all}
 use Rattle.format.proofs.Judging.{sound, found_in, found_known, Fronted, fronted}
 use Rattle.format.proofs.PlaceSays.{place_says}
 use Rattle.names.specs.Names.{well_named}
 use Rattle.format.specs.Names.{same, among}
 use Rattle.slices.specs.Bytes.{low16}
-use Rattle.format.specs.Reading.{name_at, word_count, signal_size, signal_fault, signals_fault, front_fault, sheet_fault, count_on, signals_on}
+use Rattle.format.specs.Reading.{name_at, word_count, signal_size, signal_fault, signals_fault, front_fault, sheet_fault, count_on}
+use Rattle.format.specs.Reading.{signals_on}
 use Rattle.format.specs.Reading.{signals_from, names}
 use Rattle.format.specs.Calls.{fault_of_place, first_byte, byte_count, place_for, place_from, place_on, place_of, lookup_fault, lookup_of}
-use Rattle.format.specs.Calls.{part_at, place_among}
+use Rattle.format.specs.Calls.{part_at}
 use Rattle.format.specs.Walk.{Whole}
 use Rattle.format.specs.declared.Place.{Place}
 use Rattle.format.specs.declared.Place.TheVariants.{At, Refused}
@@ -56,7 +56,8 @@ place_refused name at (suc n) rest h =
         → place_from name (at + signal_size rest) n (drop (signal_size rest) rest) ≡ Refused 13)
         → found_in (cond t (At (at + 10) (4 * word_count rest)) (place_from name (at + signal_size rest) n
         (drop (signal_size rest) rest))) ≡ false
-        → cond t (At (at + 10) (4 * word_count rest)) (place_from name (at + signal_size rest) n (drop (signal_size rest) rest)) ≡ Refused 13
+        → cond t (At (at + 10) (4 * word_count rest)) (place_from name (at + signal_size rest) n (drop (signal_size rest) rest)) ≡
+        Refused 13
     go true again k = true_false k
     go false again k = again k
 
@@ -139,7 +140,8 @@ unfolding place_of lookup_fault first_of
 place_within sheet name start count e = go (eqb (lookup_fault sheet name) 0) refl e
   where
     go : (t : Bool) → eqb (lookup_fault sheet name) 0 ≡ t
-        → cond t (At (first_byte (place_on sheet name)) (byte_count (place_on sheet name))) (Refused (lookup_fault sheet name)) ≡ At start count
+        → cond t (At (first_byte (place_on sheet name)) (byte_count (place_on sheet name))) (Refused (lookup_fault sheet name)) ≡ At
+        start count
         → (start ≤ length sheet) × (start + count ≤ length sheet)
     go true z k =
         let f = lookup_none sheet name (eqb-true (lookup_fault sheet name) 0 z) in

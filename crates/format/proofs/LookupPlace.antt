@@ -81,15 +81,15 @@ stands name at (suc n) rest f =
     go false e again k =
         let s = again k in
         record {
-          before_it = entry (name_at rest) words ∷ s.before-it;
+          before_it = entry (name_at rest) words ∷ s.before_it;
           list = s.list;
-          after_it = s.after-it;
+          after_it = s.after_it;
           signals = ap (λ (es : List Entry). entry (name_at rest) words ∷ es) s.signals;
           first =
               omega (
                 arith,
                 s.first,
-                length-append (entry_bytes (entry (name_at rest) words)) (entries_bytes s.before-it),
+                length-append (entry_bytes (entry (name_at rest) words)) (entries_bytes s.before_it),
                 length_entry (name_at rest) words (name_short rest),
                 length_words_in (word_count rest) (drop 10 rest),
               );
@@ -102,9 +102,9 @@ lookup_place sheet name z =
     let s = stands name 7 (count_on sheet) (drop 7 sheet)
     (found_known name 7 (count_on sheet) (drop 7 sheet) ∙ held_from sheet name (lookup_none sheet name z).held) in
     record {
-      before = s.before-it;
+      before = s.before_it;
       list = s.list;
-      after = s.after-it;
+      after = s.after_it;
       signals = s.signals;
       first = rw (eq-eqb (lookup_fault sheet name) 0 z) s.first;
       count = rw (eq-eqb (lookup_fault sheet name) 0 z) s.count;

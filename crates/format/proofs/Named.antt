@@ -26,7 +26,8 @@ use Rattle.format.specs.declared.Place.TheVariants.{At}
 pub take_words : (n : ℕ) (b : List ℕ) → Bytes b → 4 * n ≤ length b → take (4 * n) b ≡ word_bytes (words_in n b)
 take_words n b k h =
     ap (λ (l : List ℕ). take (4 * n) l) (sym (words_written n b k h))
-    ∙ take_at (word_bytes (words_in n b)) (drop (4 * n) b) (4 * n) (length_words (words_in n b) ∙ ap (λ (m : ℕ). 4 * m) (length_words_in n b))
+    ∙ take_at (word_bytes (words_in n b)) (drop (4 * n) b) (4 * n)
+    (length_words (words_in n b) ∙ ap (λ (m : ℕ). 4 * m) (length_words_in n b))
 
 -- the part at a name's place is the bytes of its list
 pub part_list : (name sheet : List ℕ) (at n : ℕ) → Bytes sheet → Whole n (drop at sheet)

@@ -105,7 +105,8 @@ module _ (bytes : List ℕ) (b : Bytes bytes) where
       )
     where
       words : (t : Bool) → eqb (word_count bytes) 0 || ltb most_words (word_count bytes) ≡ t
-          → (cond t 17 (sheet_words_fault (word_count bytes) (drop 10 bytes)) ≡ 0 → later (name_at bytes) (drop (signal_size bytes) bytes) next)
+          → (cond t 17 (sheet_words_fault (word_count bytes) (drop 10 bytes)) ≡ 0 → later (name_at bytes)
+          (drop (signal_size bytes) bytes) next)
           → Check 17 ((word_count bytes ≡ 0) ⊎ (most_words < word_count bytes))
           (WordsFaultIs [] (word_count bytes) (drop 10 bytes) (later (name_at bytes)))
           (first_of (cond t 17 (sheet_words_fault (word_count bytes) (drop 10 bytes))) next)
@@ -118,7 +119,8 @@ module _ (bytes : List ℕ) (b : Bytes bytes) where
                 (λ z. subst (λ (x : List ℕ). later (name_at bytes) x next) (sym (drop-drop (4 * word_count bytes) 10 bytes)) (g z)),
           )
         where
-          within : (word_count bytes ≡ 0 → ⊥) × (word_count bytes ≤ most_words) → ¬ ((word_count bytes ≡ 0) ⊎ (most_words < word_count bytes))
+          within : (word_count bytes ≡ 0 → ⊥) × (word_count bytes ≤ most_words) → ¬
+              ((word_count bytes ≡ 0) ⊎ (most_words < word_count bytes))
           within i (inl z) = i.0 z
           within i (inr c) = omega (arith, c, i.1)
 
@@ -135,7 +137,8 @@ module _ (bytes : List ℕ) (b : Bytes bytes) where
           → (cond t₁ 15 (cond (not t₂ || t₃) 16 (cond t₄ 15 (cond t₅ 17 (sheet_words_fault (word_count bytes) (drop 10 bytes))))) ≡ 0
           → later (name_at bytes) (drop (signal_size bytes) bytes) next)
           → SignalFaultIs earlier bytes later
-          (first_of (cond t₁ 15 (cond (not t₂ || t₃) 16 (cond t₄ 15 (cond t₅ 17 (sheet_words_fault (word_count bytes) (drop 10 bytes)))))) next)
+          (first_of (cond t₁ 15 (cond (not t₂ || t₃) 16 (cond t₄ 15
+          (cond t₅ 17 (sheet_words_fault (word_count bytes) (drop 10 bytes)))))) next)
       go true t₂ t₃ t₄ t₅ p₁ p₂ p₃ p₄ p₅ g = inl (ltb-true (length bytes) 8 p₁, refl)
       go false false t₃ t₄ t₅ p₁ p₂ p₃ p₄ p₅ g = inr ((λ c. omega (arith, c, ltb-false (length bytes) 8 p₁)), inl (unnamed p₂, refl))
       go false true t₃ t₄ t₅ p₁ p₂ p₃ p₄ p₅ g =

@@ -1,5 +1,5 @@
 -- The computed fault of a signal's words is the one that their checks give.
-use Prim.Native.Nat.{ℕ, zero, suc, ◌+◌, ◌-◌, ◌*◌, ◌≤◌, ◌<◌}
+use Prim.Native.Nat.{ℕ, zero, suc, ◌+◌, ◌-◌, ◌*◌, ◌≤◌}
 use native.Mathlib.Omega.{arith}
 use mathlib.Core.Path.{◌≡◌, refl, sym, ap, subst, ◌∙◌}
 use mathlib.Core.Bool.{Bool, true, false, cond, ◌||◌}
@@ -18,7 +18,7 @@ use Rattle.slices.specs.Bytes.{low32, Bytes}
 use Rattle.format.proofs.Digits.{low32_below, written32, bytes_drop}
 use Rattle.format.proofs.SheetFields.{word_single}
 use Rattle.format.specs.Reading.{later_words_fault, sheet_words_fault}
-use Rattle.format.specs.Sentences.{WordField, WordsFaultIs}
+use Rattle.format.specs.Sentences.{WordsFaultIs}
 
 pub words_single : (before : List ℕ) (n : ℕ) (bytes : List ℕ) (later : List ℕ → ℕ → Type 0) → ((rest : List ℕ) → Single (later rest))
     → Single (WordsFaultIs before n bytes later)
@@ -112,7 +112,8 @@ module _ (later : List ℕ → ℕ → Type 0) (next : ℕ) where
           → (past_word_lem n bytes ≡ 0 → later (drop (4 * suc n) bytes) next)
           → WordsFaultIs (done ++ low32 bytes ∷ []) n (drop 4 bytes) later (first_of (past_word_lem n bytes) next))
           → WordsFaultIs done (suc n) bytes later
-          (first_of (cond t 15 (cond (leb (date_of (low32 bytes)) last || changes_nothing value (low32 bytes)) 17 (past_word_lem n bytes))) next)
+          (first_of (cond t 15 (cond (leb (date_of (low32 bytes)) last || changes_nothing value (low32 bytes)) 17
+          (past_word_lem n bytes))) next)
       cut true p g again = inl (ltb-true (length bytes) 4 p, refl)
       cut false p g again =
           let l = ltb-false (length bytes) 4 p in

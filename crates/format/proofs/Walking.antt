@@ -2,13 +2,13 @@
 use Prim.Native.Nat.{ℕ, zero, suc, ◌+◌, ◌-◌, ◌*◌, ◌≤◌, ◌<◌, ◌/◌, ◌%◌}
 use native.Mathlib.Omega.{arith}
 use mathlib.Core.Path.{◌≡◌, refl, sym, ap, ◌∙◌}
-use mathlib.Core.Bool.{Bool, true, false, not, cond}
+use mathlib.Core.Bool.{Bool, true, false}
 use mathlib.Core.List.{List}
 use lib.Dec.{eqb}
 use lib.ListN.{length, take, drop, length-drop}
 use lib.Seq.{drop-drop}
 use borrow.Author.Tests.{lt-leb, le-leb, lt-ltb, le-ltb}
-use Rattle.signals.specs.Words.{date_of, value_at, value_after, head_value, changes_nothing}
+use Rattle.signals.specs.Words.{date_of, value_after, head_value, changes_nothing}
 use Rattle.format.specs.Names.{same, unpadded}
 use Rattle.slices.specs.Bytes.{low16, low32}
 use Rattle.format.specs.Reading.{name_at, word_count, signal_size, later_words_fault, sheet_words_fault}

@@ -69,7 +69,8 @@ or_missing named (Refused fault) = Refused (cond named 13 16)
 -- the whole signals at its front.
 unfoldable pub place_judged : List ℕ → List ℕ → Place
 place_judged sheet name =
-    cond (eqb (sheet_fault sheet) 0) (place_of sheet name) (or_missing (well_named name) (place_among name 7 (count_on sheet) (drop 7 sheet)))
+    cond (eqb (sheet_fault sheet) 0) (place_of sheet name) (or_missing (well_named name)
+    (place_among name 7 (count_on sheet) (drop 7 sheet)))
 
 -- the bytes of a sheet at a place, none when refused
 abbrev pub part_at : List ℕ → Place → List ℕ

@@ -90,7 +90,8 @@ module _ (text : List ℕ) (m : Mark) (deep : ℕ) (out : List ℕ) where
     where
       go : (p : Bool) → eqb (next_mark text m) 48 ≡ p → (q : Bool) → eqb (next_mark text m) 49 ≡ q → (r : Bool) →
           letter (next_mark text m) ≡ r →
-          (s : Bool) → leb (count text m) 8 ≡ s → leaf_end text m ≤ 0 → leaf_at coded text deep (view_of m out) ≡ astray text (view_of m out)
+          (s : Bool) → leb (count text m) 8 ≡ s → leaf_end text m ≤ 0 → leaf_at coded text deep (view_of m out) ≡ astray text
+          (view_of m out)
       go true p q e r f s k none = let z : m.at + 1 ≤ 0 = rw p at none in absurd (omega arith)
       go false p true e r f s k none = let z : m.at + 1 ≤ 0 = rw (p, e) at none in absurd (omega arith)
       go false p false e true f true k none =

@@ -8,7 +8,8 @@ use mathlib.Core.List.{List}
 use lib.Dec.{eqb}
 use lib.ListN.{length}
 use borrow.Author.Tests.{lt-ltb}
-use Rattle.grammar.specs.Reader.{State, stepped, expect, pass_length, value_between, prefix_kind, block_bytes, block_at, timed, sum_at, factor_at}
+use Rattle.grammar.specs.Reader.{State, stepped, expect, pass_length, value_between, prefix_kind, block_bytes, block_at, timed, sum_at}
+use Rattle.grammar.specs.Reader.{factor_at}
 use Rattle.grammar.specs.Reader.{latch_at, timer_at}
 use Rattle.grammar.specs.Formula.{coded, timer_word}
 use Rattle.texts.specs.Lengths.{capped}
@@ -144,7 +145,7 @@ module _ {text old : List ℕ} {m : Mark} {deep t first : ℕ} {x : Mark} (k : O
     block_next out =
         let u = says.block (omega arith) other in
         record {
-          no-prefix = ap prefix_kind (view_next text m out) ∙ u.0;
+          no_prefix = ap prefix_kind (view_next text m out) ∙ u.0;
           no_bracket = ap (λ (b : ℕ). eqb b 40) (view_next text m out) ∙ u.1;
           here = u.2;
           some = omega arith;
@@ -173,7 +174,8 @@ module _ {text old : List ℕ} {m : Mark} (deep : ℕ) (g : Ready text old m (de
       both : Done (λ n s. sum_at coded text n (deep + 1) (expect text 44 (sum_at coded text n (deep + 1) s))) 4 text m old mid2 x2
       both = calling parted s2 (omega (arith, parted.on))
 
-      closed : Done (λ n s. expect text 41 (sum_at coded text n (deep + 1) (expect text 44 (sum_at coded text n (deep + 1) s)))) 4 text m old
+      closed : Done (λ n s. expect text 41 (sum_at coded text n (deep + 1) (expect text 44 (sum_at coded text n (deep + 1) s)))) 4 text
+          m old
           mid2 y3
       closed = turned refl q3 (expecting 41 (omega arith) both)
 

@@ -1,4 +1,6 @@
 // The formula reader: the fault of a formula and where reading it stops, or its parts as code words in working-out order.
+#![tactic(auto)]
+
 mod reader;
 
 ghost use Rattle.std.specs.Prelude.{◌≡◌, ◌≤◌, ◌<◌, length, take};

@@ -35,7 +35,8 @@ module _ {X : Type 0} {E : Emission X} {text : List ℕ} {deep : ℕ} where
     stops = λ s. refl;
   }
 
-  pub times : Chain E text deep 46 kinds.AND 2 (λ n. factor_at E text n deep) (λ n. products_at E text n deep) (λ n. product_at E text n deep)
+  pub times : Chain E text deep 46 kinds.AND 2 (λ n. factor_at E text n deep) (λ n. products_at E text n deep)
+      (λ n. product_at E text n deep)
   unfolding product_at products_at
   times = record {
     some = omega arith;
@@ -56,8 +57,8 @@ pub record BlockNext {X : Type 0} (text : List ℕ) (s : State X) (kind : ℕ) :
 module _ {X : Type 0} (E : Emission X) {text : List ℕ} (deep n : ℕ) {s : State X} {kind : ℕ} (b : BlockNext text s kind) where
   pub latch_is : kinds.AND ≤ kind → factor_at E text (suc n) deep s ≡ latch_at E text n kind deep (stepped (block_bytes kind) s)
   unfolding factor_at
-  latch_is h = rw (b.no-prefix, b.no-bracket, b.here, lt-ltb 0 kind b.some, le-ltb kind kinds.AND h) refl
+  latch_is h = rw (b.no_prefix, b.no_bracket, b.here, lt-ltb 0 kind b.some, le-ltb kind kinds.AND h) refl
 
   pub timer_is : kind < kinds.AND → factor_at E text (suc n) deep s ≡ timer_at E text n kind deep (stepped (block_bytes kind) s)
   unfolding factor_at
-  timer_is h = rw (b.no-prefix, b.no-bracket, b.here, lt-ltb 0 kind b.some, lt-ltb kind kinds.AND h) refl
+  timer_is h = rw (b.no_prefix, b.no_bracket, b.here, lt-ltb 0 kind b.some, lt-ltb kind kinds.AND h) refl

@@ -293,7 +293,7 @@ module _ (text : List ℕ) where
   word_next c s l a =
       let b = c.begins l in
       record {
-        no-prefix = ap prefix_kind (next_of a) ∙ b.0;
+        no_prefix = ap prefix_kind (next_of a) ∙ b.0;
         no_bracket = ap (λ (x : ℕ). eqb x 40) (next_of a) ∙ b.1;
         here = block_of a ∙ b.2;
         some = c.some;
@@ -372,9 +372,11 @@ module _ (text : List ℕ) where
         | Factor.rs {w} {v} {t} {u} {d} {e} (p → h) (q →
             k) ↦ latch_word (82 ∷ 83 ∷ 40 ∷ []) kinds.RS rs rs_word (omega arith) refl w v t u d e (whole w t d h) (whole v u e k)
         | Factor.ton w {v} {t} {d} e (p →
-            h) ↦ timer_word_lem (84 ∷ 79 ∷ 78 ∷ 40 ∷ []) kinds.TON ton ton_word (omega arith) (λ k. refl) (λ k. refl) w v t d e (whole v t d h)
+            h) ↦ timer_word_lem (84 ∷ 79 ∷ 78 ∷ 40 ∷ []) kinds.TON ton ton_word (omega arith) (λ k. refl) (λ k. refl) w v t d e
+            (whole v t d h)
         | Factor.tof w {v} {t} {d} e (p →
-            h) ↦ timer_word_lem (84 ∷ 79 ∷ 70 ∷ 40 ∷ []) kinds.TOF tof tof_word (omega arith) (λ k. refl) (λ k. refl) w v t d e (whole v t d h)
+            h) ↦ timer_word_lem (84 ∷ 79 ∷ 70 ∷ 40 ∷ []) kinds.TOF tof tof_word (omega arith) (λ k. refl) (λ k. refl) w v t d e
+            (whole v t d h)
         | Factor.tp w {v} {t} {d} e (p →
             h) ↦ timer_word_lem (84 ∷ 80 ∷ 40 ∷ []) kinds.TP tp tp_word (omega arith) (λ k. refl) (λ k. refl) w v t d e (whole v t d h)
       ]

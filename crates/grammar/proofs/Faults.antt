@@ -4,7 +4,7 @@ use native.Mathlib.Omega.{arith}
 use mathlib.Core.Path.{◌≡◌, refl, sym, ap, ◌∙◌, subst}
 use mathlib.Core.Bool.{Bool, true, false, cond, not, ◌||◌}
 use mathlib.Core.List.{List}
-use mathlib.Core.Logic.{◌⊎◌, inl, inr, ⊎_elim}
+use mathlib.Core.Logic.{inl, inr, ⊎_elim}
 use lib.Dec.{ltb, eqb}
 use lib.ListN.{length}
 use borrow.Author.Tests.{eqb-true, eqb-false, ltb-true, ltb-false, not-true}
@@ -60,7 +60,8 @@ module _ (w : List ℕ) where
         g.1,
         g.2,
         ⊎_elim (λ h. inl (let k = ltb-true 32 (length (parts_of w)) h in omega arith))
-            (λ h. inr (let k = ltb-true 16 (depth_of w) h in omega arith)) (or_cases (ltb 32 (length (parts_of w))) (ltb 16 (depth_of w)) e),
+            (λ h. inr (let k = ltb-true 16 (depth_of w) h in omega arith))
+            (or_cases (ltb 32 (length (parts_of w))) (ltb 16 (depth_of w)) e),
       )
 
   many_false : many ≡ false → ¬ Breaks12 w

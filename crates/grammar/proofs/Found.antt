@@ -10,7 +10,7 @@ use lib.ListN.{length, get_or, drop, get_or-eq_default}
 use lib.Seq.{drop-cons}
 use borrow.Author.Tests.{eqb-true, ne_eqb}
 use Rattle.grammar.specs.Tree.{Tree, Unary, Binary, unary, binary}
-use Rattle.grammar.specs.Code.{Part, longest, operand, one, ticks_of}
+use Rattle.grammar.specs.Code.{Part, one, ticks_of}
 use Rattle.texts.specs.Lengths.{is_length, value}
 use Rattle.grammar.specs.Grammar.{Sum}
 use Rattle.grammar.specs.Reader.{State, next, bad, expect, put}

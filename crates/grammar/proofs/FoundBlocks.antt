@@ -6,7 +6,7 @@ use mathlib.Core.List.{List, ◌∷◌, ◌++◌}
 use lib.ListN.{length}
 use lib.Seq.{take-append_seam}
 use Rattle.grammar.specs.Tree.{Binary}
-use Rattle.grammar.specs.Code.{Part, operand, two}
+use Rattle.grammar.specs.Code.{Part, two}
 use Rattle.texts.specs.Lengths.{value}
 use Rattle.grammar.specs.Grammar.{Sum}
 use Rattle.grammar.specs.Reader.{State, stepped, expect, put, value_between, timed}

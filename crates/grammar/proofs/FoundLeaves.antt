@@ -1,5 +1,5 @@
 -- What the reader finds where it passes a length, a constant or a name.
-use Prim.Native.Nat.{ℕ, zero, suc, ◌≤◌, ◌<◌}
+use Prim.Native.Nat.{ℕ, suc, ◌≤◌, ◌<◌}
 use native.Mathlib.Omega.{arith}
 use mathlib.Core.Path.{◌≡◌, refl}
 use mathlib.Core.Bool.{Bool, true, false, cond, ◌||◌}
@@ -9,7 +9,7 @@ use lib.ListN.{length, take, drop, take-append-drop}
 use lib.Seq.{length-take-le}
 use borrow.Author.Tests.{eqb-true, leb-true, le-leb}
 use Rattle.grammar.specs.Tree.{Leaf, leaf, name, down, up}
-use Rattle.grammar.specs.Code.{Part, code, longest, operand, one}
+use Rattle.grammar.specs.Code.{Part, code, longest, operand}
 use Rattle.names.specs.Names.{digit, all_of, letter, name_byte, well_named}
 use Rattle.texts.specs.Lengths.{is_length}
 use Rattle.grammar.specs.Grammar.{Factor}

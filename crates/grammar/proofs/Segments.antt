@@ -1,5 +1,5 @@
 -- A place in working-out order ends exactly one part; replacing that part is replacing its segment of the code.
-use Prim.Native.Nat.{ℕ, suc, ◌+◌, ◌≤◌}
+use Prim.Native.Nat.{ℕ, suc, ◌+◌}
 use native.Mathlib.Omega.{arith}
 use mathlib.Core.Path.{◌≡◌, refl, sym, ap, ◌∙◌}
 use mathlib.Core.List.{List, [], ◌∷◌, ◌++◌, append_assoc, append-nil}
@@ -10,7 +10,7 @@ use Rattle.grammar.specs.Code.{Part, one, two, code}
 use Rattle.grammar.specs.Parts.{size}
 use Rattle.grammar.specs.Places.{Surroundings, whole, under, on_left, on_right, around, earlier, place_in, EndsAt}
 use Rattle.grammar.specs.Places.{OnePartEnds, SegmentReplaced}
-use Rattle.grammar.proofs.Places.{fits, size_positive, Spot, spot}
+use Rattle.grammar.proofs.Places.{fits, size_positive, spot}
 
 -- the code is as long as the tree is large
 pub length_code : (t : Tree) → length (code t) ≡ size t

@@ -8,7 +8,7 @@ use lib.Dec.{ltb, eqb}
 use lib.ListN.{length, drop}
 use borrow.Author.Tests.{eqb-true}
 use Rattle.grammar.specs.Tree.{Tree, Unary, Binary, unary, binary, invert, rise, fall, ton, tof, tp, and, or, sr, rs}
-use Rattle.grammar.specs.Code.{Part, operand, one, two, ticks_of}
+use Rattle.grammar.specs.Code.{Part, one, two, ticks_of}
 use Rattle.names.specs.Names.{all_of}
 use Rattle.texts.specs.Lengths.{is_length, value}
 use Rattle.grammar.specs.Grammar.{Sum, Product, Factor}
@@ -125,7 +125,8 @@ module _ (text : List ℕ) where
   prefix_found : (b kind : ℕ) (o : Unary) → prefix_kind b ≡ kind → plain_part kind ≡ one o → ticks_of o ≡ 0 → 0 < b →
       ((w : List ℕ) (t : Tree) (d : ℕ) → Factor w t d → Factor (b ∷ w) (unary o t) (d + 1)) →
       (n : ℕ) → Sound n → (deep : ℕ) (s : State Part) → next text s ≡ b →
-      Finds text Factor deep s (put (plain_part (prefix_kind (next text s))) deep 0 (factor_at (spelled text) text n (deep + 1) (stepped 1 s)))
+      Finds text Factor deep s (put (plain_part (prefix_kind (next text s))) deep 0
+      (factor_at (spelled text) text n (deep + 1) (stepped 1 s)))
   prefix_found b kind o pk pp tk pos make n ih deep s e h =
       let x = next_inv text s b e pos in
       let f = ih.factor (deep + 1) (stepped 1 s)
@@ -144,7 +145,8 @@ module _ (text : List ℕ) where
       }
 
   prefix_step : (n : ℕ) → Sound n → (deep : ℕ) (s : State Part) → ltb 0 (prefix_kind (next text s)) ≡ true →
-      Finds text Factor deep s (put (plain_part (prefix_kind (next text s))) deep 0 (factor_at (spelled text) text n (deep + 1) (stepped 1 s)))
+      Finds text Factor deep s (put (plain_part (prefix_kind (next text s))) deep 0
+      (factor_at (spelled text) text n (deep + 1) (stepped 1 s)))
   unfolding prefix_kind
   prefix_step n ih deep s e = go (eqb (next text s) 33) refl
     where

@@ -1,6 +1,7 @@
 -- Mirrored: A reader that computes: sum, product and factor readers by fuel. Tied to what is believed by `ReaderExact` and, where it
 -- stops, by `StopsExact`.
-use Rattle.std.specs.Prelude.{ℕ, zero, suc, ◌+◌, ◌*◌, ◌-◌, max, Bool, true, false, cond, ◌&&◌, ◌||◌, List, [], ◌∷◌, ◌++◌, leb, ltb, eqb, length, get_or, take, drop}
+use Rattle.std.specs.Prelude.{ℕ, zero, suc, ◌+◌, ◌*◌, ◌-◌, max, Bool, true, false, cond, ◌&&◌, ◌||◌, List, [], ◌∷◌, ◌++◌, leb, ltb, eqb}
+use Rattle.std.specs.Prelude.{length, get_or, take, drop}
 use Rattle.grammar.specs.Kinds as kinds
 use Rattle.names.specs.Names.{digit, letter, name_byte}
 use Rattle.texts.specs.Lengths.{value}

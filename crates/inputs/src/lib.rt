@@ -1,4 +1,6 @@
 // What a program takes from its input: two lines, and the sheet after them.
+#![tactic(auto)]
+
 ghost use Rattle.std.specs.Prelude.{◌≡◌, length, take, replicate};
 ghost use Rattle.inputs.specs.Input.{limit, counted, first_line, second_line, sheet_in, PartOfInput};
 

@@ -2,7 +2,7 @@
 use mathlib.Core.Path.{◌≡◌, refl, sym}
 use mathlib.Core.Bool.{Bool, true, false, not, ◌&&◌, ◌||◌, and_comm, or_comm, and_assoc, or_assoc, and-or_distrib_left, or-and_distrib_left}
 use mathlib.Core.Bool
-use mathlib.Core.Bool.{and_self_lem as bool-and-self, or_self_lem as bool-or-self, and-true, or-false, and-false, or-true}
+use mathlib.Core.Bool.{and_self as bool-and-self, or_self as bool-or-self, and-true, or-false, and-false, or-true}
 use mathlib.Core.Bool.{and-not_self, or-not_self}
 use Rattle.signals.specs.Signal.{constant, NOT, AND, OR}
 use Rattle.laws.specs.Laws.{and_commutes, or_commutes, and_groups, or_groups, and_distributes, or_distributes, and_absorbs, or_absorbs}

@@ -6,7 +6,8 @@ use mathlib.Core.Bool.{Bool, true, false, not, ◌&&◌, ◌||◌}
 use borrow.Author.Tests.{eqb-false, eq-eqb}
 use Rattle.signals.specs.Moment.{is_gap, just_before}
 use Rattle.signals.specs.Signal.{Signal, constant, NOT, AND, OR, rising, falling}
-use Rattle.laws.specs.Laws.{rising_and_input, rising_of_not, falling_of_not, rising_of_rising, falling_of_rising, rising_of_and, falling_of_or}
+use Rattle.laws.specs.Laws.{rising_and_input, rising_of_not, falling_of_not, rising_of_rising, falling_of_rising, rising_of_and}
+use Rattle.laws.specs.Laws.{falling_of_or}
 use Rattle.laws.specs.Scheme.{f, g}
 use Rattle.laws.specs.Soundness.{Holds}
 use Rattle.laws.proofs.Letters.{put_for}

@@ -12,7 +12,8 @@ use Rattle.signals.specs.Quantified.{Up, Down}
 use Rattle.signals.proofs.Truth.{bool_ext, not_both_lem, down_of}
 use Rattle.signals.proofs.Agreement.{NOT_up, NOT_of, AND_up, AND_of, OR_up, OR_of, SR_up, SR_of, RS_up, RS_of, OneRS, RS_up1, RS_of1}
 use Rattle.signals.proofs.Agreement.{le_opens}
-use Rattle.laws.specs.Laws.{rs_not, rs_reset_one, rs_set_one, rs_set_zero, rs_self, rs_and_set, rs_set_under_reset, rs_as_sr, rs_reset_or, rs_set_or}
+use Rattle.laws.specs.Laws.{rs_not, rs_reset_one, rs_set_one, rs_set_zero, rs_self, rs_and_set, rs_set_under_reset, rs_as_sr}
+use Rattle.laws.specs.Laws.{rs_reset_or, rs_set_or}
 use Rattle.laws.specs.Scheme.{f, s, r, p}
 use Rattle.laws.specs.Soundness.{Holds}
 use Rattle.laws.proofs.Letters.{put_for}

@@ -7,7 +7,7 @@ use Rattle.grammar.specs.Tree.{Tree}
 use Rattle.grammar.specs.Grammar.{Factor}
 use Rattle.grammar.specs.Exactness.{Writable}
 use Rattle.grammar.proofs.Writing.{length_written, every_tree_written}
-use Rattle.laws.specs.Scheme.{Letter, Substitution, put_length}
+use Rattle.laws.specs.Scheme.{Letter, put_length}
 use Rattle.laws.specs.Substitutions.{Chosen, SubstitutionsExact}
 use Rattle.laws.specs.Printed.{EverySubstitutionWritten}
 

@@ -7,15 +7,21 @@ use lib.ListN.{length, get_or}
 use Rattle.laws.specs.Scheme.{Equation}
 use Rattle.laws.specs.Laws.{table, equation, and_commutes, NumberOfLaws}
 use Rattle.laws.specs.Soundness.{Holds, EveryLawHolds}
-use Rattle.laws.proofs.Boolean.{and_commutes_lem, or_commutes_lem, and_groups_lem, or_groups_lem, and_distributes_lem, or_distributes_lem, and_absorbs_lem}
-use Rattle.laws.proofs.Boolean.{or_absorbs_lem, not_of_and_lem, not_of_or_lem, not_not_lem, and_self_lem, or_self_lem, and_one_lem, or_zero_lem, and_zero_lem, or_one_lem}
+use Rattle.laws.proofs.Boolean.{and_commutes_lem, or_commutes_lem, and_groups_lem, or_groups_lem, and_distributes_lem}
+use Rattle.laws.proofs.Boolean.{or_distributes_lem, and_absorbs_lem}
+use Rattle.laws.proofs.Boolean.{or_absorbs_lem, not_of_and_lem, not_of_or_lem, not_not_lem, and_self_lem, or_self_lem, and_one_lem}
+use Rattle.laws.proofs.Boolean.{or_zero_lem, and_zero_lem, or_one_lem}
 use Rattle.laws.proofs.Boolean.{and_not_lem, or_not_lem}
-use Rattle.laws.proofs.SetReset.{sr_not_lem, sr_reset_one_lem, sr_set_one_lem, sr_set_zero_lem, sr_and_reset_lem, sr_reset_or_lem, sr_set_or_lem}
-use Rattle.laws.proofs.ResetSet.{rs_not_lem, rs_reset_one_lem, rs_set_one_lem, rs_set_zero_lem, rs_self_lem, rs_and_set_lem, rs_set_under_reset_lem, rs_as_sr_lem}
+use Rattle.laws.proofs.SetReset.{sr_not_lem, sr_reset_one_lem, sr_set_one_lem, sr_set_zero_lem, sr_and_reset_lem, sr_reset_or_lem}
+use Rattle.laws.proofs.SetReset.{sr_set_or_lem}
+use Rattle.laws.proofs.ResetSet.{rs_not_lem, rs_reset_one_lem, rs_set_one_lem, rs_set_zero_lem, rs_self_lem, rs_and_set_lem}
+use Rattle.laws.proofs.ResetSet.{rs_set_under_reset_lem, rs_as_sr_lem}
 use Rattle.laws.proofs.ResetSet.{rs_reset_or_lem, rs_set_or_lem}
-use Rattle.laws.proofs.Timers.{ton_and_input_lem, input_and_tof_lem, ton_of_and_lem, tof_of_or_lem, ton_of_ton_lem, tof_of_tof_lem, ton_and_ton_lem, ton_or_ton_lem}
+use Rattle.laws.proofs.Timers.{ton_and_input_lem, input_and_tof_lem, ton_of_and_lem, tof_of_or_lem, ton_of_ton_lem, tof_of_tof_lem}
+use Rattle.laws.proofs.Timers.{ton_and_ton_lem, ton_or_ton_lem}
 use Rattle.laws.proofs.Timers.{tof_and_tof_lem, tof_or_tof_lem, not_ton_lem, not_tof_lem}
-use Rattle.laws.proofs.Edges.{rising_and_input_lem, rising_of_not_lem, falling_of_not_lem, rising_of_rising_lem, falling_of_rising_lem, rising_of_and_lem}
+use Rattle.laws.proofs.Edges.{rising_and_input_lem, rising_of_not_lem, falling_of_not_lem, rising_of_rising_lem, falling_of_rising_lem}
+use Rattle.laws.proofs.Edges.{rising_of_and_lem}
 use Rattle.laws.proofs.Edges.{falling_of_or_lem}
 
 infixr 50 ◌then◌

@@ -10,7 +10,8 @@ use Rattle.signals.specs.Signal.{Signal, constant, NOT, AND, OR, TON, TOF}
 use Rattle.signals.specs.Quantified.{Up, Down, Started, FromTo}
 use Rattle.signals.proofs.Truth.{bool_ext, up_or_down, not_both_lem, down_of}
 use Rattle.signals.proofs.Agreement.{NOT_up, NOT_of, AND_up, AND_of, OR_up, OR_of, TON_up, TON_of, TOF_up, TOF_of}
-use Rattle.laws.specs.Laws.{ton_and_input, input_and_tof, ton_of_and, tof_of_or, ton_of_ton, tof_of_tof, ton_and_ton, ton_or_ton, tof_and_tof, tof_or_tof}
+use Rattle.laws.specs.Laws.{ton_and_input, input_and_tof, ton_of_and, tof_of_or, ton_of_ton, tof_of_tof, ton_and_ton, ton_or_ton}
+use Rattle.laws.specs.Laws.{tof_and_tof, tof_or_tof}
 use Rattle.laws.specs.Laws.{not_ton, not_tof}
 use Rattle.laws.specs.Scheme.{f, g}
 use Rattle.laws.specs.Soundness.{Holds}

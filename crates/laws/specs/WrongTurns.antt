@@ -57,7 +57,8 @@ pub record WrongTurns : Type 0 where
   pub sr_as_set_or_rs : Lost (SR e e) (OR e (RS e e)) (gap 5) × (SrAsSetOrRs → ⊥)
   -- at 6, after gap 5 where both were up, SR is down
   pub sr_with_reset_cut : Invented (SR only_gap only_gap) (SR only_gap (AND only_gap (NOT only_gap))) (instant 6) × (SrWithResetCut → ⊥)
-  pub sr_as_rs_with_reset_cut : Invented (SR only_gap only_gap) (RS only_gap (AND only_gap (NOT only_gap))) (instant 6) × (SrAsRsWithResetCut → ⊥)
+  pub sr_as_rs_with_reset_cut : Invented (SR only_gap only_gap) (RS only_gap (AND only_gap (NOT only_gap))) (instant 6) ×
+      (SrAsRsWithResetCut → ⊥)
   -- from the start, SR(1,1) is up
   pub copys_line : Lost (SR one one) (RS (AND one (NOT one)) one) (gap 0) × (CopysLine → ⊥)
   -- in gap 2, before 3

@@ -1,1 +1,2 @@
 // The law table, one-step rewriting and their soundness: specs/ and proofs/ only.
+#![tactic(auto)]

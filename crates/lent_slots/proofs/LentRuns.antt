@@ -144,16 +144,16 @@ module _ {S : Type 0} (pass : S → ℕ → S) (sheet left right old : List ℕ)
         (r : Running pass list old at room start work passed state)
       where
         pub running_length : length work ≡ length old
-        running_length = ap length r.work-is ∙ with_slot_long old at room p.fits r.slot r.full
+        running_length = ap length r.work_is ∙ with_slot_long old at room p.fits r.slot r.full
 
         -- the list is as it was
         pub running_list : list_at sheet left right work f ≡ list
         running_list =
-            ap (λ (w : List ℕ). list_at sheet left right w f) r.work-is
+            ap (λ (w : List ℕ). list_at sheet left right w f) r.work_is
             ∙ apart_kept old at room p.fits r.slot r.full sheet left right f p.apart
 
         there : slot_in work at room ≡ r.slot
-        there = rw r.work-is (slot_back old at room p.fits r.slot r.full)
+        there = rw r.work_is (slot_back old at room p.fits r.slot r.full)
 
         -- the slot is lent and comes back with other words
         module _ (part : List ℕ) (full : length part ≡ length (take (at + room - at) (drop at work))) where
@@ -169,7 +169,7 @@ module _ {S : Type 0} (pass : S → ℕ → S) (sheet left right old : List ℕ)
           lent_is : lent ≡ with_slot old at room part
           lent_is =
               part_back work at room (rw running_length p.fits) part (at + room - at) size
-              ∙ ap (λ (w : List ℕ). with_slot w at room part) r.work-is
+              ∙ ap (λ (w : List ℕ). with_slot w at room part) r.work_is
               ∙ slot_again old at room p.fits r.slot r.full part
 
           pub lent_length : length lent ≡ length old

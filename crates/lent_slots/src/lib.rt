@@ -1,4 +1,6 @@
 // Whether an engine with a length may build its answer in a slot of the work area.
+#![tactic(auto)]
+
 ghost use Rattle.std.specs.Prelude.{◌≡◌};
 ghost use Rattle.lent_slots.specs.Lent.{may_build};
 

@@ -28,7 +28,8 @@ module _ (l : List ℕ) (passed last : ℕ) (before : Bool) (h : passed < length
   fault_4 d e = rw (drop-cons l passed 0 h, lt-leb _ _ d, e)
 
   pub no_fault : last < date_of (get_or l passed 0) → changes_nothing before (get_or l passed 0) ≡ false
-      → words_fault last before (drop passed l) ≡ words_fault (date_of (get_or l passed 0)) (value_after (get_or l passed 0)) (drop (passed + 1) l)
+      → words_fault last before (drop passed l) ≡ words_fault (date_of (get_or l passed 0)) (value_after (get_or l passed 0))
+      (drop (passed + 1) l)
   unfolding words_fault
   no_fault d e = rw (add-one, drop-cons l passed 0 h, lt-leb _ _ d, e)
 

@@ -1,4 +1,6 @@
 // Lists: the check of a list.
+#![tactic(auto)]
+
 ghost use Rattle.std.specs.Prelude.{◌≡◌, get_or, drop};
 ghost use Rattle.signals.specs.Words.{head_value, words_fault, list_fault, pair_fault};
 ghost use Rattle.lists.specs.Head.{head_fault};

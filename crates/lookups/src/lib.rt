@@ -1,4 +1,6 @@
 // Looking a name up on a sheet: its place, its words, and the fault.
+#![tactic(auto)]
+
 ghost use Rattle.std.specs.Prelude.{◌≡◌};
 ghost use Rattle.format.specs.Calls.{place_of, place_judged, lookup_fault};
 ghost use Rattle.lookups.specs.LookedUp.{LookedUp};

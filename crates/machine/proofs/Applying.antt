@@ -57,7 +57,8 @@ module _ (w : ℕ) (a b : List ℕ) where
   unfolding judged_for
   judged_one e x y = rw (arity_one (w % 16) e, whole_length (w % 16) (w / 16) y) (unary_ok (unary_of (w % 16) (w / 16)) a x y)
 
-  pub exact_one : operands_of w ≡ 1 → ticks_of (unary_of (w % 16) (w / 16)) ≤ M → exact_for w a b ≡ unary_exact (unary_of (w % 16) (w / 16)) a
+  pub exact_one : operands_of w ≡ 1 → ticks_of (unary_of (w % 16) (w / 16)) ≤ M → exact_for w a b ≡ unary_exact
+      (unary_of (w % 16) (w / 16)) a
   unfolding exact_for
   exact_one e y = rw (arity_one (w % 16) e, whole_length (w % 16) (w / 16) y)
 

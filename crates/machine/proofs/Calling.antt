@@ -63,7 +63,7 @@ module _ (sheet text before after : List ℕ) (ok : sheet_fault sheet ≡ 0) (by
       go : Outcome sheet (placed_codes sheet text) before after fault end → fault ≡ first_of (work_fault sheet (length before))
           (working_fault sheet text)
       go (inl h) = h.1 ∙ sym (first_is _ _ h.0)
-      go (inr h) = (left h.1).fault-is ∙ sym (next_is _ _ h.0)
+      go (inr h) = (left h.1).fault_is ∙ sym (next_is _ _ h.0)
 
   pub worked_kept : KeptWhen (work_fault sheet (length before)) before after
   worked_kept x = go (outcome sheet _ before after fault end r)
@@ -90,7 +90,7 @@ module _ (sheet text before after : List ℕ) (ok : sheet_fault sheet ≡ 0) (by
       × (out' ≡ output_of (first_of (worked_fault sheet text (length before)) (room_fault (words_on sheet text) (length out)))
       (words_on sheet text) out)
       → Run sheet text before out a out' after
-  ran out out' a h = let q = rw (whole (length out)) at h in record { answer-is = q.0; output-is = q.1; kept = worked_kept }
+  ran out out' a h = let q = rw (whole (length out)) at h in record { answer_is = q.0; output_is = q.1; kept = worked_kept }
 
   pub run_refused : (fault ≡ 0 → ⊥) → (out : List ℕ) → Run sheet text before out (written.Refused fault) out after
   run_refused x out = ran out out (written.Refused fault) (refused (worked_fault sheet text (length before)) _
@@ -138,7 +138,7 @@ module _ (sheet formula work out : List ℕ) where
       pub call_run : (r : Written) (out' work' : List ℕ) → Run sheet formula work out r out' work' → Called r out' work'
       unfolding call_answer call_output call_fault run_fault first_fault
       call_run r out' work' x =
-          let a = from_reading _ r out' (x.answer-is, x.output-is) in (
+          let a = from_reading _ r out' (x.answer_is, x.output_is) in (
             a.0,
             a.1,
             λ n. x.kept (λ z. n (next_is (sheet_fault sheet) _ ok ∙ next_is (reading_fault sheet formula) _ read ∙ z)),

@@ -49,7 +49,8 @@ unfolding verdict_for
 by_one f g v e n = let m : g ≡ 0 → ⊥ = λ z. n (sym e ∙ z) in rw (ne_eqb g 0 m, e)
 
 -- two lists compared
-pub compared : (sheet : List ℕ) → sheet_fault sheet ≡ 0 → (t u : Tree) → list_fault (exact_on sheet t) ≡ 0 → list_fault (exact_on sheet u) ≡ 0
+pub compared : (sheet : List ℕ) → sheet_fault sheet ≡ 0 → (t u : Tree) → list_fault (exact_on sheet t) ≡ 0 → list_fault
+    (exact_on sheet u) ≡ 0
     → implies_of (exact_on sheet t) (exact_on sheet u) ≡ claim_verdict sheet t u
 unfolding implies_of claim_fails verdict_for later_last pair_fault first_of
 compared sheet ok t u a b =
@@ -81,12 +82,12 @@ module _ (sheet f g : List ℕ) (ok : sheet_fault sheet ≡ 0) (bytes : Bytes sh
       go middle (inl h) =
           let a = formula_ran sheet f ok bytes readF [] (omega arith) 0 middle h.0 in
           let b = formula_ran sheet g ok bytes readG (words_on sheet f ∷ []) (omega arith) fault end (rw (a.stack_is refl) at h.1) in (
-            b.fault-is ∙ sym (next_is (working_fault sheet f) _ (sym a.fault-is)),
+            b.fault_is ∙ sym (next_is (working_fault sheet f) _ (sym a.fault_is)),
             λ z. (b.stack_is z, a.accepted refl, b.accepted z, a.small refl, b.small z),
           )
       go middle (inr h) =
           let a = formula_ran sheet f ok bytes readF [] (omega arith) fault middle h.1 in
-          (a.fault-is ∙ sym (first_is (working_fault sheet f) _ (λ z. h.0 (a.fault-is ∙ z))), λ z. absurd (h.0 z))
+          (a.fault_is ∙ sym (first_is (working_fault sheet f) _ (λ z. h.0 (a.fault_is ∙ z))), λ z. absurd (h.0 z))
 
 -- in a work area
 module _ (sheet f g before after : List ℕ) (ok : sheet_fault sheet ≡ 0) (bytes : Bytes sheet) (readF : reading_fault sheet f ≡ 0)
@@ -112,7 +113,7 @@ module _ (sheet f g before after : List ℕ) (ok : sheet_fault sheet ≡ 0) (byt
       go (inr h) = absurd (x h.0)
 
   pub judge_refused : (fault ≡ 0 → ⊥) → Judged sheet f g before (Refused fault) after
-  judge_refused x = record { answer-is = by_one fault _ _ (sym judged_fault_lem) x; kept = judged_kept }
+  judge_refused x = record { answer_is = by_one fault _ _ (sym judged_fault_lem) x; kept = judged_kept }
 
   -- without a fault the two lists stand on the stack, accepted
   module _ (z : fault ≡ 0) where
@@ -122,7 +123,8 @@ module _ (sheet f g before after : List ℕ) (ok : sheet_fault sheet ≡ 0) (byt
       where
         go : Outcome sheet (placed_codes sheet f ++ placed_codes sheet g) before after fault end
             → (end ≡ words_on sheet g ∷ words_on sheet f ∷ [])
-            × (list_fault (words_on sheet f) ≡ 0) × (list_fault (words_on sheet g) ≡ 0) × Words (words_on sheet f) × Words (words_on sheet g)
+            × (list_fault (words_on sheet f) ≡ 0) × (list_fault (words_on sheet g) ≡ 0) × Words (words_on sheet f) × Words
+            (words_on sheet g)
         go (inl h) = absurd (h.0 (sym h.1 ∙ z))
         go (inr h) = (ended h.1).1 z
 
@@ -130,7 +132,7 @@ module _ (sheet f g before after : List ℕ) (ok : sheet_fault sheet ≡ 0) (byt
     unfolding words_on
     judge_done v e =
         record {
-          answer-is = e ∙ compared sheet ok (formula_tree f) (formula_tree g) stands.1 stands.2 ∙ by_none _ _ (sym judged_fault_lem ∙ z);
+          answer_is = e ∙ compared sheet ok (formula_tree f) (formula_tree g) stands.1 stands.2 ∙ by_none _ _ (sym judged_fault_lem ∙ z);
           kept = judged_kept;
         }
 
@@ -138,13 +140,14 @@ module _ (sheet f g before after : List ℕ) (ok : sheet_fault sheet ≡ 0) (byt
 module _ (sheet F G work : List ℕ) where
   pub on_reading : (f : ℕ) → reading_fault sheet G ≡ f → (f ≡ 0 → ⊥) → ClaimOn sheet F G work (Refused f) work
   unfolding claim_on_fault
-  on_reading f e n = record { answer-is = by_first f (reading_fault sheet G) _ _ e n; kept = λ x. refl }
+  on_reading f e n = record { answer_is = by_first f (reading_fault sheet G) _ _ e n; kept = λ x. refl }
 
-  pub on_judged : reading_fault sheet G ≡ 0 → (r : Verdict) (after : List ℕ) → Judged sheet F G work r after → ClaimOn sheet F G work r after
+  pub on_judged : reading_fault sheet G ≡ 0 → (r : Verdict) (after : List ℕ) → Judged sheet F G work r after → ClaimOn sheet F G work r
+      after
   unfolding claim_on_fault
   on_judged read r after x =
       record {
-        answer-is = by_next (reading_fault sheet G) _ _ r read x.answer-is;
+        answer_is = by_next (reading_fault sheet G) _ _ r read x.answer_is;
         kept = λ n. x.kept (λ z. n (next_is (reading_fault sheet G) _ read ∙ z));
       }
 
@@ -165,6 +168,6 @@ module _ (sheet F G work : List ℕ) where
     pub claim_goes_on : reading_fault sheet F ≡ 0 → (r : Verdict) (after : List ℕ) → ClaimOn sheet F G work r after → Claimed r after
     unfolding claim_answer claim_fault claim_on_fault judge_fault first_claim_fault
     claim_goes_on read r after c = (
-      by_next (sheet_fault sheet) _ _ r ok (by_next (reading_fault sheet F) _ _ r read c.answer-is),
+      by_next (sheet_fault sheet) _ _ r ok (by_next (reading_fault sheet F) _ _ r read c.answer_is),
       λ n. c.kept (λ z. n (next_is (sheet_fault sheet) _ ok ∙ next_is (reading_fault sheet F) _ read ∙ z)),
     )

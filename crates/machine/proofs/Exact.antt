@@ -77,7 +77,8 @@ module _ (sheet : List ℕ) (ok : sheet_fault sheet ≡ 0) where
       ∙ ap (λ s. list_of s n) e
       ∙ one_list (signal_on sheet v) n (settling_date sheet v) (rw e at h) (settles sheet ok v)
 
-  pub unary_exact_lem : (o : Unary) (t : Tree) → list_fault (exact_on sheet t) ≡ 0 → unary_exact o (exact_on sheet t) ≡ exact_on sheet (unary o t)
+  pub unary_exact_lem : (o : Unary) (t : Tree) → list_fault (exact_on sheet t) ≡ 0 → unary_exact o (exact_on sheet t) ≡ exact_on sheet
+      (unary o t)
   unfolding exact_of_one exact_of_delay
   unary_exact_lem invert t h = of_one NOT _ t (unary invert t) refl (settling.not _ _ (settled_at t h))
   unary_exact_lem rise t h = of_one rising _ t (unary rise t) refl (settling.rises _ _ (settled_at t h))

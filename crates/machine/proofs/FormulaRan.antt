@@ -9,7 +9,6 @@ use mathlib.Core.Logic.{◌⊎◌, inl, inr}
 use lib.ListN.{length}
 use Rattle.slices.specs.Bytes.{Bytes, Words}
 use Rattle.signals.specs.Words.{list_fault}
-use Rattle.signals.specs.Answers.{first_of}
 use Rattle.signals.proofs.FirstFault.{both_none}
 use Rattle.grammar.specs.Formula.{formula_fault, formula_tree, code_of}
 use Rattle.format.specs.Reading.{sheet_fault}
@@ -19,7 +18,7 @@ use Rattle.machine.specs.Machine.{placed_codes}
 use Rattle.machine.specs.Stack.{Runs, Worked, lacking, high, leaf, made, refused}
 use Rattle.machine.proofs.Preparing.{known_tree, lengths_small, code_is, code_short}
 use Rattle.machine.proofs.Tracing.{trace_code, work_all}
-use Rattle.machine.proofs.Running.{Ran, run}
+use Rattle.machine.proofs.Running.{run}
 
 -- a formula read without a fault
 pub read_fine : (sheet text : List ℕ) → reading_fault sheet text ≡ 0
@@ -48,7 +47,7 @@ formula_ran sheet text ok bytes read base low fault end r =
     let q = run sheet text ok bytes base low (code_of text) [] (formula_tree text) fault end (omega (arith, code_short text f.0))
     (rw (code_is text f.0) (work_all (formula_tree text))) (rw (code_is text f.0) known) tt r in
     record {
-      fault_is = q.fault-is ∙ rw (code_is text f.0) (ap (parts_fault sheet) (trace_code (formula_tree text)));
+      fault_is = q.fault_is ∙ rw (code_is text f.0) (ap (parts_fault sheet) (trace_code (formula_tree text)));
       stack_is = λ z. (q.stack_is z).0;
       accepted = λ z. (q.stack_is z).1.0;
       small = λ z. (q.stack_is z).1.1;

@@ -1,5 +1,5 @@
 -- The lists of leaves: a constant's has one word, a name's is the one that the sheet gives it.
-use Prim.Native.Nat.{ℕ, suc, ◌+◌, ◌*◌, ◌-◌, ◌/◌, ◌%◌, zero, ◌≤◌, ◌<◌, ◌^◌, min}
+use Prim.Native.Nat.{ℕ, suc, ◌*◌, ◌-◌, ◌/◌, ◌%◌, zero, ◌≤◌, ◌<◌, ◌^◌, min}
 use native.Mathlib.Omega.{arith}
 use mathlib.Core.Path.{◌≡◌, refl, sym, ◌∙◌, ap, ap₂}
 use mathlib.Core.Bool.{Bool, true, false, cond}
@@ -87,7 +87,8 @@ module _ (sheet n : List ℕ) (ok : sheet_fault sheet ≡ 0) (bytes : Bytes shee
 
   pub name_list : exact_on sheet (leaf (name n)) ≡ list_named n (signals_on sheet)
   unfolding exact_on settling_date environment_on
-  name_list = (read_back_lem (list_named n (signals_on sheet)) ((accepted_normal (list_named n (signals_on sheet))).0 the_part.listed).0).same
+  name_list = (read_back_lem (list_named n (signals_on sheet))
+      ((accepted_normal (list_named n (signals_on sheet))).0 the_part.listed).0).same
 
   pub part_words : (part : List ℕ) → part ≡ lookup_of sheet n → words_in (length part / 4) part ≡ exact_on sheet (leaf (name n))
   unfolding decoded
@@ -128,7 +129,13 @@ drop_take (suc k) (suc m) (x ∷ b) = let e : m - k ≡ suc m - suc k = omega ar
 low_take : (m : ℕ) (b : List ℕ) → 4 ≤ m → low32 (take m b) ≡ low32 b
 unfolding low32
 low_take m b h =
-    rw (get_or-take m b 0 0 (omega arith), get_or-take m b 1 0 (omega arith), get_or-take m b 2 0 (omega arith), get_or-take m b 3 0 (omega arith))
+    rw (
+      get_or-take m b 0 0 (omega arith),
+      get_or-take m b 1 0 (omega arith),
+      get_or-take m b 2 0 (omega arith),
+      get_or-take m b 3 0
+          (omega arith),
+    )
 
 words_take : (n m : ℕ) (b : List ℕ) → 4 * n ≤ m → words_in n (take m b) ≡ words_in n b
 unfolding words_in

@@ -87,7 +87,8 @@ known_append : (sheet : List ℕ) (ps qs : List Part) → AllKnown sheet ps → 
 known_append sheet [] qs a b = b
 known_append sheet (p ∷ ps) qs a b = (a.0, known_append sheet ps qs a.1 b)
 
-pub known_tree : (sheet : List ℕ) → sheet_fault sheet ≡ 0 → (t : Tree) → names_found sheet t ≡ true → longest t ≤ M → AllKnown sheet (code t)
+pub known_tree : (sheet : List ℕ) → sheet_fault sheet ≡ 0 → (t : Tree) → names_found sheet t ≡ true → longest t ≤ M → AllKnown sheet
+    (code t)
 unfolding code names_found longest
 known_tree sheet ok (leaf down) f l = (tt, tt)
 known_tree sheet ok (leaf up) f l = (tt, tt)
@@ -96,7 +97,8 @@ known_tree sheet ok (unary o t) f l = known_append sheet (code t) (one o ∷ [])
 known_tree sheet ok (binary o t u) f l =
     known_append sheet (code t) (code u ++ (two o ∷ []))
     (known_tree sheet ok t (and_left (names_found sheet t) (names_found sheet u) f) (omega arith))
-    (known_append sheet (code u) (two o ∷ []) (known_tree sheet ok u (and_right (names_found sheet t) (names_found sheet u) f) (omega arith))
+    (known_append sheet (code u) (two o ∷ []) (known_tree sheet ok u (and_right (names_found sheet t) (names_found sheet u) f)
+    (omega arith))
     (tt, tt))
 
 -- an accepted formula: its tree, its code words
@@ -135,7 +137,8 @@ module _ (text : List ℕ) (fine : formula_fault text ≡ 0) where
   code_short =
       let d = derived text fine in
       let p : parts_of text ≡ code (formula_tree text) = parts_exact text d.0 d.1 d.2 ∙ ap code (sym tree_read.1.0) in
-      let m : length (code_of text) ≡ length (parts_of text) = sym (length-map (code_of text) (part_of text)) ∙ ap length (code_is ∙ sym p) in
+      let m : length (code_of text) ≡ length (parts_of text) = sym (length-map (code_of text) (part_of text)) ∙ ap length
+      (code_is ∙ sym p) in
       omega (arith, clear.1)
 
 -- a code word's name is found on an accepted sheet exactly where a lookup finds it

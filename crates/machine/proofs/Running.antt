@@ -1,19 +1,17 @@
 -- The code words of a formula, worked out on a stack of lists, meet the faults of its parts in working-out order and leave its list on the
 -- stack: each list there is that of the tree in its place.
-use Prim.Native.Nat.{ℕ, zero, suc, ◌+◌, ◌*◌, ◌/◌, ◌%◌, ◌≤◌, ◌<◌}
+use Prim.Native.Nat.{ℕ, zero, suc, ◌+◌, ◌/◌, ◌%◌, ◌≤◌}
 use native.Mathlib.Omega.{arith}
-use native.Mathlib.Decide.{ℕ_discrete}
-use mathlib.Core.Path.{◌≡◌, refl, sym, ◌∙◌, ap, subst}
+use mathlib.Core.Path.{◌≡◌, refl, sym, ◌∙◌, ap}
 use mathlib.Core.List.{List, [], ◌∷◌, ◌++◌, map}
-use lib.ListN.{length, drop, length-map, length-append}
+use lib.ListN.{length, length-map, length-append}
 use Rattle.slices.specs.Bytes.{Bytes, Words}
 use Rattle.signals.specs.Words.{list_fault}
 use Rattle.signals.specs.Answers.{first_of, fault_in}
 use Rattle.signals.specs.declared.Written.{Written}
 use Rattle.signals.proofs.FirstFault.{first_is}
-use Rattle.grammar.specs.Kinds as kinds
 use Rattle.grammar.specs.Tree.{Tree, leaf, unary, binary}
-use Rattle.grammar.specs.Code.{one, two, code, work, top, ticks_of}
+use Rattle.grammar.specs.Code.{work, top, ticks_of}
 use Rattle.signals.specs.Moment.{M}
 use Rattle.grammar.specs.PartWords.{part_of}
 use Rattle.format.specs.Reading.{sheet_fault}
@@ -175,7 +173,7 @@ module _ (sheet text : List ℕ) (ok : sheet_fault sheet ≡ 0) (bytes : Bytes s
       go (goes z l b) again =
           let q = again b l in
           record {
-            fault_is = rw z q.fault-is;
+            fault_is = rw z q.fault_is;
             stack_is = q.stack_is;
           }
       go (stops z x) again =

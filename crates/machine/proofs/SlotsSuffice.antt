@@ -1,7 +1,7 @@
 -- The code words of formulas meet the 5 or 6 of a part and nothing else.
 use Prim.Native.Nat.{ℕ, ◌≤◌}
 use native.Mathlib.Omega.{arith}
-use mathlib.Core.Path.{◌≡◌, refl, sym, ◌∙◌}
+use mathlib.Core.Path.{◌≡◌}
 use mathlib.Core.Bool.{Bool, true, false, cond}
 use mathlib.Core.List.{List, [], ◌∷◌}
 use lib.Dec.{eqb, ltb}
@@ -49,7 +49,7 @@ pub slots_suffice : SlotsSuffice
 slots_suffice =
     record {
       one = λ sheet f ok bytes read fault end r.
-          let e = (formula_ran sheet f ok bytes read [] (omega arith) fault end r).fault-is in
+          let e = (formula_ran sheet f ok bytes read [] (omega arith) fault end r).fault_is in
           (e, no_12 fault (working_fault sheet f) e (working_small sheet f));
       two = λ sheet f g ok bytes readF readG fault end r.
           let e = (both_ran sheet f g ok bytes readF readG fault end r).0 in (

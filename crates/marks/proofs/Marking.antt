@@ -38,7 +38,8 @@ lent_byte page bytes i h = get_or-take (min bytes 1024) page i 0 h
 pub lent_end : (page : List ℕ) (bytes i : ℕ) → min bytes 1024 ≤ i → get_or (lent page bytes) i 0 ≡ 0
 lent_end page bytes i h = get_or-eq_default (lent page bytes) 0 (omega (arith, lent_most page bytes))
 
-pub lent_after : (page : List ℕ) (bytes at k : ℕ) → at + k < min bytes 1024 → get_or page (at + k) 0 ≡ get_or (drop at (lent page bytes)) k 0
+pub lent_after : (page : List ℕ) (bytes at k : ℕ) → at + k < min bytes 1024 → get_or page (at + k) 0 ≡ get_or
+    (drop at (lent page bytes)) k 0
 lent_after page bytes at k h = sym (get_or-drop at (lent page bytes) k 0 ∙ lent_byte page bytes (at + k) h)
 
 pub lent_past : (page : List ℕ) (bytes at k : ℕ) → min bytes 1024 ≤ at + k → 0 ≡ get_or (drop at (lent page bytes)) k 0

@@ -1,5 +1,7 @@
 // Where the reader of a formula is: the next byte, and the fault of a text that was read to its end. The text is lent as the first
 // bytes of an array of 1,024 and the mark as an array, so that a reader that calls another holds neither on the stack.
+#![tactic(auto)]
+
 pub mod kind;
 
 ghost use Rattle.std.specs.Prelude.{◌≡◌, max};

@@ -84,7 +84,7 @@ module _ (o : Operation) (table : Table) (l m : List ℕ) (start : State) where
   module _ (slot : List ℕ) (x y : Cursor) (made : Made) (bit : Bool) (date : ℕ) (g : Along slot x y made bit date) where
     ahead : date ≡ date_ahead l m (reached slot made bit x.passed y.passed)
     unfolding date_ahead
-    ahead = g.date-is ∙ rw (reads_date l x g.first, reads_date m y g.second)
+    ahead = g.date_is ∙ rw (reads_date l x g.first, reads_date m y g.second)
 
     pub along_end : NEVER ≤ date → Merges o table l m slot made start
     along_end h = g.on slot made (done (rw (sym ahead) h) refl refl)

@@ -35,13 +35,13 @@ module _ (o : Operation) (table : Table) (l m : List ℕ) (work : List ℕ) (at 
   module _ (fits : at + room ≤ length work) (now : List ℕ) (x y : Cursor) (made : Made) (bit : Bool) (date : ℕ)
       (g : Looping now x y made bit date) where
     pub looping_long : length now ≡ length work
-    looping_long = ap length g.now-is ∙ with_slot_long work at room fits g.slot g.full
+    looping_long = ap length g.now_is ∙ with_slot_long work at room fits g.slot g.full
 
     -- a list apart from the slot is as it was where the loop began
     pub looping_still : (sheet left right : List ℕ) (a : Source) → apart_from a at room ≡ true
         → list_at sheet left right now a ≡ list_at sheet left right work a
     looping_still sheet left right a e =
-        ap (λ (w : List ℕ). list_at sheet left right w a) g.now-is
+        ap (λ (w : List ℕ). list_at sheet left right w a) g.now_is
         ∙ apart_kept work at room fits g.slot g.full sheet left right a e
 
     pub looping_end : NEVER ≤ date → Merges o table l m g.slot made start
@@ -61,7 +61,7 @@ module _ (o : Operation) (table : Table) (l m : List ℕ) (work : List ℕ) (at 
           record {
             slot = part;
             full = kept ∙ slot_long now at room here;
-            now_is = part_back now at room here part room refl ∙ ap (λ (w : List ℕ). with_slot w at room part) g.now-is
+            now_is = part_back now at room here part room refl ∙ ap (λ (w : List ℕ). with_slot w at room part) g.now_is
                 ∙ slot_again work at room fits g.slot g.full part;
             along = along_turn o table l m start g.slot x y made bit date g.along small u v eu ev s es made' part
                 (em.0, em.1 ∙ ap (λ (w : List ℕ). emitted_in w made date s.at s.after) whole) date' ed;
@@ -72,7 +72,7 @@ module _ (o : Operation) (table : Table) (l m : List ℕ) (work : List ℕ) (at 
 
           whole : take room (drop at now) ≡ g.slot
           whole =
-              ap (λ (w : List ℕ). slot_in w at room) g.now-is ∙ slot_back work at room fits g.slot g.full
+              ap (λ (w : List ℕ). slot_in w at room) g.now_is ∙ slot_back work at room fits g.slot g.full
 
 -- Where the loop begins, the work area being `work`, and at the call `entry`: it is as long, the state is that after gap 0, and what the
 -- loop builds from there is built from the call's. The lists are there `l'` and `m'`, at the call `l` and `m`.
@@ -112,7 +112,7 @@ module _ (o : Operation) (table : Table) (entry : List ℕ) (at room : ℕ) (hel
             slot = slot_in work at room;
             full = slot_long work at room fits;
             now_is = sym (slot_kept work at room fits);
-            along = record { first = rw el gx; second = rw em gy; date-is = ed; on = λ end last z. z };
+            along = record { first = rw el gx; second = rw em gy; date_is = ed; on = λ end last z. z };
           };
           builds = λ after last slot e w. (
             slot,

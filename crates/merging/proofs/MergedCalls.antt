@@ -37,7 +37,8 @@ module _ (o : Operation) (table : Table) (sheet left right work : List ℕ) (a b
   pub no_room : length work < at + most_words → MergedAt o table sheet left right work a b at NotBegun work
   unfolding may_merge
   no_room h = may_not (rw (lt-leb (at + most_words) (length work) h)
-      (ap (λ (t : Bool). apart_from a at most_words && t) (and-false (apart_from b at most_words)) ∙ and-false (apart_from a at most_words)))
+      (ap (λ (t : Bool). apart_from a at most_words && t) (and-false (apart_from b at most_words)) ∙ and-false
+      (apart_from a at most_words)))
 
   pub begins : MayMerge a b at most_words (length work) → (made : Made) (after : List ℕ)
       → BuiltAt o table sheet left right work a b at most_words made after → (answer : SlotAnswer) → answer ≡ made_answer made

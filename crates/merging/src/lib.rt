@@ -1,4 +1,6 @@
 // The merge of two lists where they stand: connectives and latches; of a list and one that is always down, NOT and edges.
+#![tactic(auto)]
+
 ghost use Rattle.std.specs.Prelude.{◌≡◌, length};
 ghost use Rattle.showing.specs.declared.Operation.TheVariants.{Connective};
 ghost use Rattle.merging.specs.Merging.{MayMerge, BuiltAt, MergedAt};

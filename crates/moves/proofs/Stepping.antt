@@ -106,11 +106,13 @@ stray_fits text m h =
         omega (arith, leb-false (run name_byte (drop m.at text)) 8 g, run_most name_byte (drop m.at text))
 
 -- the largest depth and length, each read after the words before it were stored
-pub stored : (l : List ℕ) (n deep ticks d t : ℕ) → d ≡ max (get_or (set l 2 n) 3 0) deep → t ≡ max (get_or (set (set l 2 n) 3 d) 4 0) ticks →
+pub stored : (l : List ℕ) (n deep ticks d t : ℕ) → d ≡ max (get_or (set l 2 n) 3 0) deep → t ≡ max (get_or (set (set l 2 n) 3 d) 4 0)
+    ticks →
     set (set (set l 2 n) 3 d) 4 t ≡ set (set (set l 2 n) 3 (max (get_or l 3 0) deep)) 4 (max (get_or l 4 0) ticks)
 stored l n deep ticks d t qd qt =
     let third = get_or-set_other l 2 3 n 0 (λ e. absurd (omega arith)) in
-    let fourth = get_or-set_other (set l 2 n) 3 4 d 0 (λ e. absurd (omega arith)) ∙ get_or-set_other l 2 4 n 0 (λ e. absurd (omega arith)) in
+    let fourth = get_or-set_other (set l 2 n) 3 4 d 0 (λ e. absurd (omega arith)) ∙ get_or-set_other l 2 4 n 0
+    (λ e. absurd (omega arith)) in
     let d-is : d ≡ max (get_or l 3 0) deep = rw third at qd in
     let t-is : t ≡ max (get_or l 4 0) ticks = rw fourth at qt in
     rw (t-is, d-is) refl

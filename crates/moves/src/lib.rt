@@ -1,4 +1,6 @@
 // The steps of the formula reader that read no sum: each changes the words of a mark, and none makes a bad mark good.
+#![tactic(auto)]
+
 ghost use Rattle.std.specs.Prelude.{◌≡◌};
 ghost use Rattle.marks.specs.Marks.{mark_of, lent};
 ghost use Rattle.openings.specs.Opening.{open_kind};

@@ -1,4 +1,6 @@
 // Names as a sheet holds them: compared, and read from a field of bytes.
+#![tactic(auto)]
+
 ghost use Rattle.std.specs.Prelude.{◌≡◌};
 ghost use Rattle.format.specs.Names.{same, zeros, unpadded, field_fits};
 

@@ -1,4 +1,6 @@
 // Names: the one rule that formulas and sheets share.
+#![tactic(auto)]
+
 ghost use Rattle.std.specs.Prelude.{◌≡◌};
 ghost use Rattle.names.specs.Names.{letter, digit, name_byte, all_of, well_named};
 

@@ -1,11 +1,13 @@
 // The notation of a case's arguments. A space ends an argument, a comma a piece of it; the bytes of all arguments stand in one space.
 // A piece is a text in quotes, a number (b: of 8 bits, h: of 16, else of 32, low byte first), or @, the bytes that are kept, and @n, the
 // first n of them. v*n is n times v, v+s*n are n numbers that rise by s. Every other byte, as in -, stands for nothing.
+#![tactic(auto)]
+
 use fields::{byte_at, part};
 
 // What is read of a piece: its kind; where its text begins and ends; value, rise and count, and which of them is being read; then how many
 // bytes stand in the space, and how many arguments have ended.
-#[derive(Drop)]
+#[derive(Clone, Copy)]
 pub struct Piece {
     pub kind: u8,
     pub from: usize,

@@ -150,7 +150,8 @@ module _ (text : List ℕ) (m : Mark) where
   unfolding open_kind
   opens =
       by_cond (Opens text m) (ltb 0 (prefix_kind (next_mark text m)))
-      (λ e. of_prefix (prefix_kind (next_mark text m)) refl (ltb-true 0 (prefix_kind (next_mark text m)) e) (prefix_most (next_mark text m)))
+      (λ e. of_prefix (prefix_kind (next_mark text m)) refl (ltb-true 0 (prefix_kind (next_mark text m)) e)
+      (prefix_most (next_mark text m)))
       (λ e. by_cond (Opens text m) (eqb (next_mark text m) 40) (λ f. of_bracket (eqb-true (next_mark text m) 40 f))
       (λ f.
       let p = ltb-false 0 (prefix_kind (next_mark text m)) e in

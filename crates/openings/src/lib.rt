@@ -1,5 +1,7 @@
 // What begins a factor of a formula at a mark of its text: a prefix, an open bracket, or a block's word with its bracket; and where none
 // stands, how much is there of one.
+#![tactic(auto)]
+
 ghost use Rattle.std.specs.Prelude.{cond, ◌≡◌, get_or, drop};
 ghost use Rattle.grammar.specs.Reader.{prefix_kind, starts, shared, word_reach, block_kind};
 ghost use Rattle.marks.specs.Marks.{mark_of, lent, next_mark};

@@ -1,8 +1,7 @@
 -- Faults 5 to 8 of a call are given exactly when their sentences hold and none before them does.
 use Prim.Native.Nat.{ℕ, zero, suc, ◌≤◌}
 use native.Mathlib.Omega.{arith}
-use native.Mathlib.Decide.{ℕ_discrete}
-use mathlib.Core.Path.{◌≡◌, refl, sym}
+use mathlib.Core.Path.{◌≡◌, refl}
 use mathlib.Core.Logic.{◌⊎◌, inl, inr}
 use mathlib.Core.Bool.{Bool, true, false, cond}
 use mathlib.Core.List.{List, [], ◌∷◌}
@@ -17,7 +16,7 @@ use Rattle.signals.specs.Checks.{Check, FaultCheck}
 use Rattle.signals.specs.Quantified.{Up}
 use Rattle.signals.specs.Normal.{Accepted}
 use Rattle.signals.proofs.Truth.{not_both_lem, or_cases, or_left, or_right}
-use Rattle.signals.proofs.FirstFault.{first_assoc, first_is, next_is}
+use Rattle.signals.proofs.FirstFault.{first_assoc}
 use Rattle.signals.proofs.Checks.{Single, none_single, check_single, fault_check, passed_check, exactly}
 use Rattle.signals.proofs.ListFaults.{list_fault_range}
 use Rattle.operations.specs.Calls.{changes_after_m, part_fault, room_fault, answer_fault, length_fault}
@@ -83,7 +82,8 @@ unfolding fault_of_two pair_fault
 of_two operation a b n =
     rw (first_assoc (list_fault a) (list_fault b) (answer_fault (exact_of_two operation a b) n))
     (fault_check (list_fault a) (first_of (list_fault b) (answer_fault (exact_of_two operation a b) n)) (FaultCheck (list_fault b) answer)
-    (λ z. fault_check (list_fault b) (answer_fault (exact_of_two operation a b) n) answer (λ y. answer_checks (exact_of_two operation a b) n)))
+    (λ z. fault_check (list_fault b) (answer_fault (exact_of_two operation a b) n) answer
+    (λ y. answer_checks (exact_of_two operation a b) n)))
   where
     answer : ℕ → Type 0
     answer = AnswerChecks (exact_of_two operation a b) n
@@ -187,7 +187,8 @@ pub part_none : (exact : List ℕ) → part_fault exact ≡ 0 → (length exact 
 unfolding part_fault
 part_none exact = go (ltb most_words (length exact)) (changes_after_m exact) refl
   where
-    go : (b c : Bool) → ltb most_words (length exact) ≡ b → ◌≡◌ {A = ℕ} (cond b 5 (cond c 6 0)) 0 → (length exact ≤ most_words) × (c ≡ false)
+    go : (b c : Bool) → ltb most_words (length exact) ≡ b → ◌≡◌ {A = ℕ} (cond b 5 (cond c 6 0)) 0 → (length exact ≤ most_words) ×
+        (c ≡ false)
     go true c e z = absurd (omega arith)
     go false true e z = absurd (omega arith)
     go false false e z = (ltb-false most_words (length exact) e, refl)

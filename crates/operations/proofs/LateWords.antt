@@ -139,7 +139,9 @@ unfolding exact_of_delay
 change_is_word =
     record {
       signal = late_change;
-      ton = λ d a h. late_change (TON d (signal_of a)) (last_date a + d) (settling.ton d (signal_of a) (last_date a) (accepted_settled a h));
-      tof = λ d a h. late_change (TOF d (signal_of a)) (last_date a + d) (settling.tof d (signal_of a) (last_date a) (accepted_settled a h));
+      ton = λ d a h. late_change (TON d (signal_of a)) (last_date a + d)
+          (settling.ton d (signal_of a) (last_date a) (accepted_settled a h));
+      tof = λ d a h. late_change (TOF d (signal_of a)) (last_date a + d)
+          (settling.tof d (signal_of a) (last_date a) (accepted_settled a h));
       tp = λ d a h. late_change (TP d (signal_of a)) (last_date a + d) (settling.tp d (signal_of a) (last_date a) (accepted_settled a h));
     }

@@ -1,18 +1,16 @@
 -- NOT and edges never meet 5, and no operation without a length meets 6.
-use Prim.Native.Nat.{ℕ, ◌+◌, ◌-◌, ◌%◌, ◌≤◌, ◌<◌, max}
+use Prim.Native.Nat.{ℕ, ◌-◌, ◌%◌, ◌≤◌, max}
 use native.Mathlib.Omega.{arith}
 use mathlib.Core.Path.{◌≡◌, refl, sym, ◌∙◌, ap}
-use mathlib.Core.Logic.{◌⊎◌, inl, inr}
 use mathlib.Core.Bool.{Bool, true, false, not, cond, beq, ◌&&◌}
 use mathlib.Core.List.{List, [], ◌∷◌}
 use lib.ListN.{length, get_or, length-append}
 use borrow.Author.Tests.{eq-eqb}
 use Rattle.signals.specs.Moment.{M, gap, instant, is_gap, just_before}
-use Rattle.signals.specs.Signal.{Signal, num, NOT, rising, falling}
+use Rattle.signals.specs.Signal.{Signal, NOT, rising, falling}
 use Rattle.signals.specs.Quantified.{Down}
-use Rattle.signals.specs.Words.{word, date_of, value_at, value_after, head_value, list_fault, signal_of, last_from, last_date, words_of, list_of}
+use Rattle.signals.specs.Words.{word, date_of, value_after, head_value, signal_of, last_from, last_date, words_of, list_of}
 use Rattle.signals.specs.Settled.{entry}
-use Rattle.signals.specs.Normal.{Accepted}
 use Rattle.signals.proofs.Truth.{down_of, not_both_lem}
 use Rattle.signals.proofs.Agreement.{rising_up, falling_up}
 use Rattle.signals.proofs.WordFacts.{date_le}
@@ -61,7 +59,8 @@ follows_length f g fol m k v (w ∷ ws) a le =
     (scan_to g m k (date_of w) (g (gap k)) (g (instant (date_of w))) (g (gap (date_of w))) held d)
     (omega (
       arith,
-      length-append (entry (g (gap k)) (date_of w) (g (instant (date_of w))) (g (gap (date_of w)))) (words_of g (date_of w) (m - date_of w)),
+      length-append (entry (g (gap k)) (date_of w) (g (instant (date_of w))) (g (gap (date_of w))))
+          (words_of g (date_of w) (m - date_of w)),
       entry_length (g (gap k)) (date_of w) (g (instant (date_of w))) (g (gap (date_of w))),
       follows_length f g fol m (date_of w) (value_after w) ws step.1 le,
     ))
@@ -83,7 +82,8 @@ unfolding NOT
 NOT_follows f k t l h = ap not (h t l (omega arith))
 
 -- an instant after gap k has the value of the gap before it
-same_before : (f : Signal) (k t : ℕ) → gap k ≤ t → ((u : ℕ) → gap k ≤ u → u ≤ t → f u ≡ f (gap k)) → Down (is_gap t) → f (just_before t) ≡ f t
+same_before : (f : Signal) (k t : ℕ) → gap k ≤ t → ((u : ℕ) → gap k ≤ u → u ≤ t → f u ≡ f (gap k)) → Down (is_gap t) → f (just_before t)
+    ≡ f t
 unfolding is_gap just_before
 same_before f k t l h i =
     let odd : ¬ (t ≡ gap k) = λ e. not_both_lem (eq-eqb (t % 2) 0 (omega arith)) i in

@@ -14,7 +14,7 @@ use Rattle.signals.specs.declared.Written.{Written}
 use Rattle.signals.specs.declared.Told.{Told}
 use Rattle.format.specs.Calls.{fault_of_place, first_byte, byte_count}
 use Rattle.format.specs.declared.Place.{Place}
-use Rattle.stretches.specs.Calls.{fault_of_up_time, count_of_up_time, total_of_up_time}
+use Rattle.stretches.specs.Calls.{fault_of_up_time, count_of_up_time}
 use Rattle.stretches.specs.declared.UpTime.{UpTime}
 use Rattle.columns.specs.Columns.{fault_of_column, count_of_column, passed_of_column}
 use Rattle.columns.specs.declared.Column.{Column}

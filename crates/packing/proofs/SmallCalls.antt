@@ -14,7 +14,8 @@ use Rattle.grammar.specs.Formula.{formula_fault, formula_tree, accepted, longest
 use Rattle.grammar.specs.Parts.{parts}
 use Rattle.format.specs.Reading.{sheet_fault}
 use Rattle.calls.specs.OnSheet.{exact_on, names_found}
-use Rattle.calls.specs.Calls.{needed_work, reading_fault, work_fault, parts_fault, working_fault, words_on, call_fault, call_answer, claim_fault}
+use Rattle.calls.specs.Calls.{needed_work, reading_fault, work_fault, parts_fault, working_fault, words_on, call_fault, call_answer}
+use Rattle.calls.specs.Calls.{claim_fault}
 use Rattle.calls.specs.Calls.{claim_answer}
 use Rattle.operations.specs.Calls.{room_fault, part_fault}
 use Rattle.calls.proofs.FirstFault.{passed}

@@ -10,7 +10,8 @@ use Rattle.signals.specs.Moment.{M}
 use Rattle.signals.specs.Signal.{Signal}
 use Rattle.signals.specs.Words.{list_fault, most_words}
 use Rattle.signals.specs.Answers.{written_of}
-use Rattle.operations.specs.Calls.{changes_after_m, answer_fault, length_fault, fault_of_one, exact_of_one, fault_of_two, exact_of_two, fault_of_delay}
+use Rattle.operations.specs.Calls.{changes_after_m, answer_fault, length_fault, fault_of_one, exact_of_one, fault_of_two, exact_of_two}
+use Rattle.operations.specs.Calls.{fault_of_delay}
 use Rattle.operations.specs.Calls.{exact_of_delay, part_fault, room_fault}
 use Rattle.signals.specs.Words.{pair_fault}
 use Rattle.packing.proofs.SmallAnswers.{SmallWritten, choice, first_small, list_small, written_small}

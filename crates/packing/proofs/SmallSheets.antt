@@ -2,7 +2,7 @@
 use Prim.Native.Nat.{ℕ, ◌+◌, ◌*◌, ◌<◌, ◌≤◌}
 use native.Mathlib.Omega.{arith}
 use mathlib.Core.Path.{◌≡◌, refl, sym, ap, ◌∙◌}
-use mathlib.Core.Bool.{Bool, true, false, not, cond, ◌||◌}
+use mathlib.Core.Bool.{true, not, ◌||◌}
 use mathlib.Core.Logic.{inl, inr}
 use mathlib.Core.List.{List, [], ◌∷◌, ◌++◌}
 use lib.Dec.{eqb, ltb, leb}
@@ -21,10 +21,10 @@ use Rattle.format.specs.declared.Place.TheVariants as place
 use Rattle.format.proofs.Locating.{place_within, lookup_none, place_fault}
 use Rattle.format.proofs.SheetSize.{sheet_short}
 use Rattle.format.proofs.Fields.{named_short}
-use Rattle.format.proofs.Filling.{two, length_entry}
+use Rattle.format.proofs.Filling.{length_entry}
 use Rattle.format.proofs.Accepting.{listed_some}
 use Rattle.format.proofs.Appending.{length_on, entries_snoc, appends}
-use Rattle.format.proofs.SheetLists.{Sound, AllSound, sheet_sound}
+use Rattle.format.proofs.SheetLists.{AllSound, sheet_sound}
 use Rattle.format.proofs.FaultNumbers.{OfSheets, sheet_of}
 use Rattle.packing.proofs.SmallAnswers.{SmallWritten, SmallPlace, choice, list_small, written_small}
 use Rattle.signals.specs.Answers.{first_of}

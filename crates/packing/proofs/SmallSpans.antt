@@ -136,8 +136,8 @@ claims_early : (sheet F G : List ℕ) (work : ℕ) (s : Span) → claim_answer s
 claims_early sheet F G work s e =
     let z : claim_fault sheet F G work ≡ 0 = sym (claim_fault_shown sheet F G work) ∙ ap fault_of_verdict e ∙ no_fault s in
     let c = claim_clear sheet F G work z in
-    let w = derived F (text_fine sheet F c.0.text-ok) in
-    let v = derived G (text_fine sheet G c.1.text-ok) in
+    let w = derived F (text_fine sheet F c.0.text_ok) in
+    let v = derived G (text_fine sheet G c.1.text_ok) in
     run_early (signal_on sheet w.0) (signal_on sheet v.0) s (tree_settled sheet F c.0 w.0 w.1 w.2)
     (tree_settled sheet G c.1 v.0 v.1 v.2)
     (((claim_judged sheet F G work z w.0 v.0 w.1 v.1 w.2 v.2).fails s).0 e)

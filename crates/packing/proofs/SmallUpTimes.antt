@@ -26,7 +26,8 @@ fault_small sheet name H room =
     (choice (ltb room (length (up_time_words sheet name H))) 7 0 (omega arith) (omega arith)))
 
 pub up_time_small : (sheet name : List ℕ) (H room : ℕ) → Bytes sheet
-    → SmallUpTime (up_time_for (up_time_fault sheet name H room) (length (up_time_words sheet name H)) (sum_of_ticks (stretches_on sheet name H)))
+    → SmallUpTime (up_time_for (up_time_fault sheet name H room) (length (up_time_words sheet name H))
+    (sum_of_ticks (stretches_on sheet name H)))
 unfolding up_time_for up_time_fault
 up_time_small sheet name H room b = go (eqb (up_time_fault sheet name H room) 0) refl
   where

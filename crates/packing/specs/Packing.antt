@@ -16,7 +16,6 @@ use Rattle.signals.specs.declared.End.TheVariants as ends
 use Rattle.signals.specs.declared.Verdict.{Verdict}
 use Rattle.signals.specs.declared.Verdict.TheVariants as verdict
 use Rattle.format.specs.declared.Place.{Place}
-use Rattle.format.specs.declared.Place.TheVariants as place
 
 -- 65,536 × fault
 unfoldable pub pack_fault : ℕ → ℕ

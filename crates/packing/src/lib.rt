@@ -1,5 +1,7 @@
 // The answers of the library packed into one number each, and the table that a number stands for. Of each number of an answer the low
 // bits are kept that its place has room for: for the answers that a call gives, these are all.
+#![tactic(auto)]
+
 ghost use Rattle.std.specs.Prelude.{◌≡◌, ◌%◌};
 ghost use Rattle.signals.specs.declared.End.TheVariants.{Before};
 ghost use Rattle.packing.specs.Packing.{fault_bits, written_bits, told_bits, verdict_bits, pack_end, span_bits, place_bits, up_time_bits};

@@ -1,7 +1,7 @@
 -- A formula read for a sheet that is accepted: 10, 11, 8, 12, 13, or the code words of its parts with the places of its names.
 use Prim.Native.Nat.{ℕ, ◌≤◌}
 use native.Mathlib.Omega.{arith}
-use mathlib.Core.Path.{◌≡◌, refl, sym, ◌∙◌, ap}
+use mathlib.Core.Path.{◌≡◌, sym, ◌∙◌, ap}
 use mathlib.Core.List.{List, ◌++◌}
 use mathlib.Core.Logic.{◌⊎◌, inl, inr}
 use lib.ListN.{length, take, drop, length-map, length-append}
@@ -12,7 +12,7 @@ use Rattle.signals.specs.Answers.{first_of}
 use Rattle.signals.specs.declared.Written.{Written}
 use Rattle.signals.specs.declared.Written.TheVariants.{Count, Refused}
 use Rattle.signals.proofs.FirstFault.{both_none, first_is, next_is}
-use Rattle.grammar.specs.Formula.{formula_fault, formula_tree, code_of}
+use Rattle.grammar.specs.Formula.{formula_fault, code_of}
 use Rattle.format.specs.Reading.{sheet_fault}
 use Rattle.calls.specs.Calls.{reading_fault}
 use Rattle.calls.proofs.FirstFault.{zero_or_not}

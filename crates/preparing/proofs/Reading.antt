@@ -85,5 +85,8 @@ pub faulty : (sheet text codes : List ℕ) (f : ℕ) → f ≡ sheet_fault sheet
     → JudgesAndPrepares sheet text codes (Refused f) codes
 unfolding judged_fault judged_code written_of
 faulty sheet text codes f e z =
-    let x : sheet_fault sheet ≡ 0 → ⊥ = λ w. z (e ∙ w) in
-    (rw (first_is (sheet_fault sheet) (preparing_fault sheet text) x, ne_eqb (sheet_fault sheet) 0 x, e), rw (ne_eqb (sheet_fault sheet) 0 x))
+    let x : sheet_fault sheet ≡ 0 → ⊥ = λ w. z (e ∙ w) in (
+      rw (first_is (sheet_fault sheet) (preparing_fault sheet text) x, ne_eqb (sheet_fault sheet) 0 x, e),
+      rw
+          (ne_eqb (sheet_fault sheet) 0 x),
+    )

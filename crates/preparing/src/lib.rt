@@ -1,4 +1,6 @@
 // A formula read for a sheet: its code words, with the places of its names on the sheet.
+#![tactic(auto)]
+
 ghost use Rattle.std.specs.Prelude.{◌≡◌, ◌&&◌, map, ◌++◌, ◌≤◌, length, take, drop};
 ghost use Rattle.machine.specs.Machine.{placed_name, placed_word, word_found, all_found};
 ghost use Rattle.preparing.specs.Preparing.{PreparesFor, JudgesAndPrepares};

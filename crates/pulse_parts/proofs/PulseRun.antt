@@ -36,7 +36,8 @@ module _ (d : ℕ) (sheet left right old : List ℕ) (f : Source) (at room : ℕ
         let same : list_at sheet left right first f ≡ whole =
         first_list (past_word d) sheet left right old f at room fits apart part false e in
         rw (← state)
-        (begun_run (past_word d) sheet left right old f at room fits apart part false e finish (state_of (held_value whole 1) 0 made) r after
+        (begun_run (past_word d) sheet left right old f at room fits apart part false e finish (state_of (held_value whole 1) 0 made) r
+        after
         (subst
         (λ (l : List ℕ). EndsIn (finish (through (past_word d) (drop 1 (list_at sheet left right first f))
         (state_of (held_value l 1) 0 made (slot_in first at room)))) first at room r after)

@@ -1,4 +1,6 @@
 // The pulse timer of a list where it stands, in a slot of the work area.
+#![tactic(auto)]
+
 ghost use Rattle.std.specs.Prelude.{◌≡◌, true, ◌+◌, ◌≤◌, length, drop};
 ghost use Rattle.signals.specs.Words.{most_words};
 ghost use Rattle.signals.specs.Passing.{held_value};

@@ -29,7 +29,7 @@ pulse_answers d l accepted short small old made slot e holds full out answer aft
     let built : Built (exact_of_delay (TP d) d l) old slot made =
     rw (ap (λ (x : Ended). x.made) e, ap (λ (x : Ended). x.slot) e) (pulsed_exact d l old accepted short small) in
     delivered (exact_of_delay (TP d) d l) old slot made built
-    (λ h. omega (arith, built.count-is, holds (omega (arith, built.count-is)))) full out answer after
+    (λ h. omega (arith, built.count_is, holds (omega (arith, built.count_is)))) full out answer after
 
 -- the answer of a short list stands in a short slot
 pub short_answer : (d : ℕ) (l old : List ℕ) (n : ℕ) {made : Made} {slot : List ℕ} → 1 ≤ length l → 2 * length l ≤ n

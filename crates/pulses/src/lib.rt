@@ -1,4 +1,6 @@
 // The pulse timer TP of a list.
+#![tactic(auto)]
+
 ghost use Rattle.std.specs.Prelude.{◌≡◌, ◌≤◌, length};
 ghost use Rattle.signals.specs.Signal.{TP};
 ghost use Rattle.signals.specs.Words.{most_words};

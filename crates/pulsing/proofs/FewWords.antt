@@ -83,7 +83,7 @@ few_words d (x ∷ ws) old h =
 
 pub pulses_few : PulsesFew
 pulses_few d a accepted short small =
-    omega (arith, (pulsed_exact d a [] accepted short small).count-is, few_words d a [] (one_word a ((accepted_normal a).0 accepted).0))
+    omega (arith, (pulsed_exact d a [] accepted short small).count_is, few_words d a [] (one_word a ((accepted_normal a).0 accepted).0))
   where
     one_word : (l : List ℕ) → Normal l → 1 ≤ length l
     one_word [] n = absurd n

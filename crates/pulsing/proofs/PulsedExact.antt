@@ -101,7 +101,7 @@ module _ (d : ℕ) (l old : List ℕ) (accepted : list_fault l ≡ 0) (short : d
           record {
             since = q;
             before = l;
-            scanned = subst (λ (x : Ended). Scanned q x) (sym (put_idle e due (sym s.value-is ∙ here))) s;
+            scanned = subst (λ (x : Ended). Scanned q x) (sym (put_idle e due (sym s.value_is ∙ here))) s;
             still = λ t a b. value t a b (omega (arith, tick_low q t a)) ∙ sym here;
           }
 

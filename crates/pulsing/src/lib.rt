@@ -1,4 +1,6 @@
 // How a pulse timer is built date by date: a rising instant at which no pulse is running starts one, and rises before its end are ignored.
+#![tactic(auto)]
+
 ghost use Rattle.std.specs.Prelude.{◌≡◌};
 ghost use Rattle.signals.specs.Answers.{sum_of};
 ghost use Rattle.timing.specs.Delay.{date_in};
@@ -9,7 +11,7 @@ use building::Made;
 use signals::{Date, Length};
 
 // A pulse timer on its way: the end of the last pulse, 0 where none has started, and the answer being built.
-#[derive(Drop)]
+#[derive(Clone, Copy)]
 pub struct Going {
     pub due: Date,
     pub made: Made,

@@ -46,7 +46,8 @@ module _ (a b : List ℕ) (za : Accepted a) (zb : Accepted b) where
   told = rw (za, zb)
 
   same_all : Same (signal_of a) (signal_of b) → all ≡ true
-  same_all s = every_of (agreeing (signal_of a) (signal_of b)) (gap (later_last a b)) (λ u l. same_agree (signal_of a) (signal_of b) u (s u))
+  same_all s = every_of (agreeing (signal_of a) (signal_of b)) (gap (later_last a b))
+      (λ u l. same_agree (signal_of a) (signal_of b) u (s u))
 
   all_same : all ≡ true → Same (signal_of a) (signal_of b)
   all_same h t = go (up_or_down (agreeing (signal_of a) (signal_of b) t))

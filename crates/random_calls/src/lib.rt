@@ -1,4 +1,6 @@
 // Test support: the engine's calls on the sheet and formulas of four slots of 4,096 bytes: slot 0 the sheet, 1 to 3 the formulas.
+#![tactic(auto)]
+
 ghost use Rattle.std.specs.Prelude.{◌≡◌, length};
 
 use fields::part;

@@ -66,7 +66,7 @@ pub fn count(cells: &mut Cells, i: usize, more: u64) {
 }
 
 // A seed, and what was drawn when it came.
-#[derive(Drop)]
+#[derive(Clone, Copy)]
 pub struct Draw {
     pub seed: u64,
     pub value: u64,

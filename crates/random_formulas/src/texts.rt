@@ -106,7 +106,7 @@ fn part_task(place: usize, level: u64) -> u64 {
 }
 
 // The tasks of a part's operands, the last to be done first.
-#[derive(Drop)]
+#[derive(Clone, Copy)]
 struct Operands {
     first: u64,
     second: u64,

@@ -73,6 +73,7 @@ pass_count l k p n e = go (is_next l p k) refl
     go : (t : Bool) → is_next l p k ≡ t → n ≡ cond t (p + 1) p + count_by k (drop (cond t (p + 1) p) l)
     go true q =
         let h : p < length l = ltb-true p (length l) (and_left (ltb p (length l)) (eqb (date_of (get_or l p 0)) k) q) in
-        let d : date_of (get_or l p 0) ≡ k = eqb-true (date_of (get_or l p 0)) k (and_right (ltb p (length l)) (eqb (date_of (get_or l p 0)) k) q) in
+        let d : date_of (get_or l p 0) ≡ k = eqb-true (date_of (get_or l p 0)) k
+        (and_right (ltb p (length l)) (eqb (date_of (get_or l p 0)) k) q) in
         count_passed l k p n h (omega arith) e
     go false q = e

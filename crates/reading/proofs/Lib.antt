@@ -3,5 +3,3 @@ pub mod ReadingFacts
 pub mod Counting
 pub mod AlongWords
 pub mod ReaderSays
-pub mod Apart
-pub mod Above

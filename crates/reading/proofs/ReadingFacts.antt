@@ -33,7 +33,8 @@ none_next l p d h = rw (le-ltb p (length l) h)
 
 module _ (l : List ℕ) (p d : ℕ) (b : Bool) (e : b ≡ held_value l p) where
   pub step_taken : is_next l p d ≡ true
-      → ◌≡◌ {A = Step} (record { before = b; at = value_at (get_or l p 0); after = value_after (get_or l p 0); passed = p + 1 }) (step_past l p d)
+      → ◌≡◌ {A = Step} (record { before = b; at = value_at (get_or l p 0); after = value_after (get_or l p 0); passed = p + 1 })
+      (step_past l p d)
   unfolding at_date after_date passed_date
   step_taken n = rw (n, ← e)
 

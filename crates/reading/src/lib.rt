@@ -1,4 +1,6 @@
 // Reading: the reader that goes along a list's words.
+#![tactic(auto)]
+
 ghost use Rattle.std.specs.Prelude.{◌≡◌, ◌-◌};
 ghost use Rattle.signals.specs.Passing.{held_value};
 ghost use Rattle.reading.specs.Reading.{next_date, held_on, step_past};
@@ -10,7 +12,7 @@ use signals::Date;
 pub const NEVER: u32 = 4294967295;
 
 // What passing a date finds: the values before, at and after it, and the number of words passed.
-#[derive(Drop)]
+#[derive(Clone, Copy)]
 pub struct Step {
     pub before: bool,
     pub at: bool,
@@ -80,7 +82,7 @@ fn past_at(words: &[u32], passed: usize, date: Date) -> Step
 }
 
 // A reader goes along a list's words and knows how many it has passed.
-#[derive(Drop)]
+#[derive(Clone, Copy)]
 pub struct Reader<'a> {
     pub words: &'a [u32],
     pub passed: usize,

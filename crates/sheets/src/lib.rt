@@ -1,4 +1,6 @@
 // Checking a sheet, front to back.
+#![tactic(auto)]
+
 ghost use Rattle.std.specs.Prelude.{◌≡◌, ◌+◌, ◌≤◌, min, length, drop};
 ghost use Rattle.slices.specs.Bytes.{low32};
 ghost use Rattle.format.specs.Names.{among};

@@ -1,5 +1,5 @@
 -- What gap 0 and a date show, by the operation, from the results of the calls that the code makes.
-use mathlib.Core.Path.{◌≡◌, refl, sym, ◌∙◌, ap}
+use mathlib.Core.Path.{◌≡◌}
 use mathlib.Core.Bool.{Bool, true, false, not, ◌&&◌}
 use Rattle.signals.specs.Signal.{Table, cell}
 use Rattle.showing.specs.Showing.{first_shown, date_shown, latch_first, latch_shown}

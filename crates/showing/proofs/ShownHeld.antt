@@ -1,13 +1,11 @@
 -- What the merge's signal does up to the next date, from what its two operands do.
-use Prim.Native.Nat.{ℕ, zero, suc, ◌+◌, ◌*◌, ◌-◌, ◌%◌, ◌≤◌, ◌<◌}
+use Prim.Native.Nat.{ℕ, ◌+◌, ◌-◌, ◌≤◌, ◌<◌}
 use native.Mathlib.Omega.{arith}
-use mathlib.Core.Path.{◌≡◌, refl, sym, ◌∙◌, ap, ap₂}
-use mathlib.Core.Bool.{Bool, true, false, not, ◌&&◌, and-false}
+use mathlib.Core.Path.{◌≡◌, refl, sym, ◌∙◌, ap₂}
+use mathlib.Core.Bool.{Bool, true, false, not, ◌&&◌}
 use mathlib.Core.Logic.{⊎_elim}
-use lib.Dec.{eqb}
-use borrow.Author.Tests.{eq-eqb, ne_eqb}
 use Rattle.signals.specs.Moment.{gap, instant, is_gap, just_before}
-use Rattle.signals.specs.Signal.{Signal, Table, cell, connective, rising, falling, SR, RS}
+use Rattle.signals.specs.Signal.{Signal, Table, cell, connective, rising, falling}
 use Rattle.signals.specs.LatchSteps.{latch, carried, shown, gap_step, at_step}
 use Rattle.signals.proofs.Scan.{Held}
 use Rattle.signals.proofs.Wording.{is_gap_gap, is_gap_instant, just_before_instant, either}

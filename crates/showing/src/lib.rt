@@ -1,4 +1,6 @@
 // What the merge of two lists shows at gap 0 and at each date: a connective, an edge or a latch.
+#![tactic(auto)]
+
 ghost use Rattle.std.specs.Prelude.{◌≡◌, not, ◌&&◌, ◌||◌};
 ghost use Rattle.signals.specs.Signal.{cell};
 ghost use Rattle.signals.specs.LatchSteps.{at_step, gap_step, shown};
@@ -7,7 +9,7 @@ ghost use Rattle.showing.specs.Showing.{latch_first, latch_shown, first_shown, d
 use reading::Step;
 
 // What the merge of two lists builds: a connective by its table, an edge of the first, or a latch.
-#[derive(Drop)]
+#[derive(Clone, Copy)]
 pub enum Operation {
     Connective,
     Rising,
@@ -17,7 +19,7 @@ pub enum Operation {
 }
 
 // What a date shows of the merge: its value at the date and after it, and the bit that a latch carries on.
-#[derive(Drop)]
+#[derive(Clone, Copy)]
 pub struct Shown {
     pub at: bool,
     pub after: bool,

@@ -49,7 +49,8 @@ pub sound : (k : ℕ) (v : Bool) (w : ℕ) (ws : List ℕ) → words_fault k v (
 unfolding words_fault
 sound k v w ws h = go (leb (date_of w) k) (changes_nothing v w) refl refl h
   where
-    go : (t u : Bool) → leb (date_of w) k ≡ t → changes_nothing v w ≡ u → cond t 3 (cond u 4 (words_fault (date_of w) (value_after w) ws)) ≡ 0
+    go : (t u : Bool) → leb (date_of w) k ≡ t → changes_nothing v w ≡ u → cond t 3
+        (cond u 4 (words_fault (date_of w) (value_after w) ws)) ≡ 0
         → Sound k v w ws
     go true u p q z = absurd (omega arith)
     go false true p q z = absurd (omega arith)
@@ -177,7 +178,8 @@ denote_date v a b x k t ws r le here at after = go (beq a v && beq b v) (ℕ_dis
         let i : t ≡ instant (date_of w) = omega (arith, date) in
         rw (p, i) (value_at_lem v w ws) ∙ value_at_word (suc k) a b ∙ sym (at e)
     go false (no n) (no m) p =
-        rw p (value_after_lem v w ws t (omega (arith, date)) (omega (arith, date)) ∙ rw (value_after_word (suc k) a b) (after (omega arith)))
+        rw p (value_after_lem v w ws t (omega (arith, date)) (omega (arith, date)) ∙ rw (value_after_word (suc k) a b)
+        (after (omega arith)))
 
 pub scan_denotes : (s : Signal) (n k t : ℕ) → SettledFrom s (k + n) → gap k ≤ t → value_from (s (gap k)) (words_of s k n) t ≡ s t
 unfolding words_of

@@ -1,6 +1,6 @@
 -- An operand ahead of a date: the value held, the words left, and what passing the next date tells.
 use Prim.Native.Nat.{ℕ, ◌+◌, ◌-◌, ◌≤◌, ◌<◌}
-use mathlib.Core.Bool.{Bool, true, false, cond, ◌&&◌}
+use mathlib.Core.Bool.{Bool, true, false, cond}
 use mathlib.Core.List.{List, [], ◌∷◌}
 use mathlib.Core.Path.{◌≡◌, refl, ◌∙◌}
 use native.Mathlib.Omega.{arith}
@@ -170,7 +170,8 @@ at_stay f l p k e a later before = go (ltb p (length l)) refl
 
 -- passing the date of the next word
 pub at_take : (f : Signal) (l : List ℕ) (p k : ℕ) → At f l p k → p < length l
-    → Held f k (date_of (get_or l p 0)) (held_value l p) (value_at (get_or l p 0)) (value_after (get_or l p 0)) × At f l (p + 1) (date_of (get_or l p 0))
+    → Held f k (date_of (get_or l p 0)) (held_value l p) (value_at (get_or l p 0)) (value_after (get_or l p 0)) × At f l (p + 1)
+    (date_of (get_or l p 0))
 at_take f l p k a h =
     let ahead : Ahead f k (held_value l p) (get_or l p 0 ∷ drop (p + 1) l) = rw (words_left l p h) at a.ahead in
     let step = pass_word f k (held_value l p) (get_or l p 0) (drop (p + 1) l) ahead in

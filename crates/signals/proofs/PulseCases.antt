@@ -19,7 +19,8 @@ of_list d l h ws accepted =
     gives (TP d (signal_of l)) (last_date l + d) h ws (settling.tp d (signal_of l) (last_date l) (accepted_settled l accepted))
 
 pub pulse_cases : PulseCases
-unfolding list_of words_of word signal_of value_from list_fault words_fault changes_nothing value_at value_after head_value date_of last_date last_from
+unfolding list_of words_of word signal_of value_from list_fault words_fault changes_nothing value_at value_after head_value date_of
+    last_date last_from
     TP running starts tick rising is_gap just_before constant
 pulse_cases =
     record {

@@ -75,60 +75,72 @@ unfolding list_fault words_fault changes_nothing value_at value_after head_value
 l_settled = accepted_settled l_list refl
 
 ton3f : Gives (TON 3 f) (0 ∷ 35 ∷ 36 ∷ [])
-unfolding list_of words_of word signal_of value_from list_fault words_fault changes_nothing value_at value_after head_value date_of TON every started
+unfolding list_of words_of word signal_of value_from list_fault words_fault changes_nothing value_at value_after head_value date_of TON
+    every started
     from_to
 ton3f = gives (TON 3 f) 12 0 (35 ∷ 36 ∷ []) (settling.ton 3 f 9 f_settled) refl refl
 
 ton4f : Gives (TON 4 f) (0 ∷ [])
-unfolding list_of words_of word signal_of value_from list_fault words_fault changes_nothing value_at value_after head_value date_of TON every started
+unfolding list_of words_of word signal_of value_from list_fault words_fault changes_nothing value_at value_after head_value date_of TON
+    every started
     from_to
 ton4f = gives (TON 4 f) 13 0 [] (settling.ton 4 f 9 f_settled) refl refl
 
 tof2f : Gives (TOF 2 f) (0 ∷ 23 ∷ 44 ∷ [])
-unfolding list_of words_of word signal_of value_from list_fault words_fault changes_nothing value_at value_after head_value date_of TOF some from_to
+unfolding list_of words_of word signal_of value_from list_fault words_fault changes_nothing value_at value_after head_value date_of TOF
+    some from_to
 tof2f = gives (TOF 2 f) 11 0 (23 ∷ 44 ∷ []) (settling.tof 2 f 9 f_settled) refl refl
 
 tof2e : Gives (TOF 2 e) (0 ∷ 23 ∷ 30 ∷ [])
-unfolding list_of words_of word signal_of value_from list_fault words_fault changes_nothing value_at value_after head_value date_of TOF some from_to
+unfolding list_of words_of word signal_of value_from list_fault words_fault changes_nothing value_at value_after head_value date_of TOF
+    some from_to
 tof2e = gives (TOF 2 e) 7 0 (23 ∷ 30 ∷ []) (settling.tof 2 e 5 e_settled) refl refl
 
 ton0e : Gives (TON 0 e) (0 ∷ 22 ∷ [])
-unfolding list_of words_of word signal_of value_from list_fault words_fault changes_nothing value_at value_after head_value date_of TON every started
+unfolding list_of words_of word signal_of value_from list_fault words_fault changes_nothing value_at value_after head_value date_of TON
+    every started
     from_to
 ton0e = gives (TON 0 e) 5 0 (22 ∷ []) (settling.ton 0 e 5 e_settled) refl refl
 
 ton3one : Gives (TON 3 one) (0 ∷ 15 ∷ [])
-unfolding list_of words_of word signal_of value_from list_fault words_fault changes_nothing value_at value_after head_value date_of TON every started
+unfolding list_of words_of word signal_of value_from list_fault words_fault changes_nothing value_at value_after head_value date_of TON
+    every started
     from_to constant
 ton3one = gives (TON 3 one) 3 0 (15 ∷ []) (settling.ton 3 one 0 (settling.constants true)) refl refl
 
 rising_f : Gives (rising f) (0 ∷ 22 ∷ [])
-unfolding list_of words_of word signal_of value_from list_fault words_fault changes_nothing value_at value_after head_value date_of rising is_gap
+unfolding list_of words_of word signal_of value_from list_fault words_fault changes_nothing value_at value_after head_value date_of
+    rising is_gap
     just_before
 rising_f = gives (rising f) 9 0 (22 ∷ []) (settling.rises f 9 f_settled) refl refl
 
 rising_l : Gives (rising l) (0 ∷ [])
-unfolding list_of words_of word signal_of value_from list_fault words_fault changes_nothing value_at value_after head_value date_of rising is_gap
+unfolding list_of words_of word signal_of value_from list_fault words_fault changes_nothing value_at value_after head_value date_of
+    rising is_gap
     just_before
 rising_l = gives (rising l) 5 0 [] (settling.rises l 5 l_settled) refl refl
 
 falling_e : Gives (falling e) (0 ∷ [])
-unfolding list_of words_of word signal_of value_from list_fault words_fault changes_nothing value_at value_after head_value date_of falling is_gap
+unfolding list_of words_of word signal_of value_from list_fault words_fault changes_nothing value_at value_after head_value date_of
+    falling is_gap
     just_before
 falling_e = gives (falling e) 5 0 [] (settling.falls e 5 e_settled) refl refl
 
 sr_ee : Gives (SR e e) (0 ∷ 23 ∷ [])
-unfolding list_of words_of word signal_of value_from list_fault words_fault changes_nothing value_at value_after head_value date_of SR some every opens
+unfolding list_of words_of word signal_of value_from list_fault words_fault changes_nothing value_at value_after head_value date_of SR
+    some every opens
     in_open
 sr_ee = gives (SR e e) 5 0 (23 ∷ []) (settling.sr e e 5 5 e_settled e_settled) refl refl
 
 rs_ee : Gives (RS e e) (0 ∷ [])
-unfolding list_of words_of word signal_of value_from list_fault words_fault changes_nothing value_at value_after head_value date_of RS some every opens
+unfolding list_of words_of word signal_of value_from list_fault words_fault changes_nothing value_at value_after head_value date_of RS
+    some every opens
     in_closed
 rs_ee = gives (RS e e) 5 0 [] (settling.rs e e 5 5 e_settled e_settled) refl refl
 
 sr_ff : Gives (SR f f) (0 ∷ 23 ∷ 36 ∷ [])
-unfolding list_of words_of word signal_of value_from list_fault words_fault changes_nothing value_at value_after head_value date_of SR some every opens
+unfolding list_of words_of word signal_of value_from list_fault words_fault changes_nothing value_at value_after head_value date_of SR
+    some every opens
     in_open
 sr_ff = gives (SR f f) 9 0 (23 ∷ 36 ∷ []) (settling.sr f f 9 9 f_settled f_settled) refl refl
 

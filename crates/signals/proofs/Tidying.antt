@@ -32,7 +32,12 @@ tidy h ws z = go (ltb most_words (length (h ∷ ws))) (ltb 1 h) refl refl z
     go : (t u : Bool) → ltb most_words (length (h ∷ ws)) ≡ t → ltb 1 h ≡ u → cond t 1 (cond u 2 (dates_fault 0 ws)) ≡ 0 → Tidy h ws
     go true u p q e = absurd (omega arith)
     go false true p q e = absurd (omega arith)
-    go false false p q e = record { first = ltb-false 1 h q; rises = no_fault_rise 0 ws e; short = ltb-false most_words (length (h ∷ ws)) p }
+    go false false p q e = record {
+      first = ltb-false 1 h q;
+      rises = no_fault_rise 0 ws e;
+      short = ltb-false most_words
+          (length (h ∷ ws)) p;
+    }
 
 pub not_empty : tidy_fault [] ≡ 0 → ⊥
 unfolding tidy_fault
@@ -73,7 +78,8 @@ unfolding tidied list_of last_date
 tidied_shorter [] z = absurd (not_empty z)
 tidied_shorter (h ∷ ws) z =
     let e : last_from 0 ws - 0 ≡ last_from 0 ws = omega arith in
-    let s = rw e at (scan_length (signal_of (h ∷ ws)) (last_from 0 ws) 0 (head_value h) ws (start h ws (tidy h ws z).rises) (omega arith)) in
+    let s = rw e at (scan_length (signal_of (h ∷ ws)) (last_from 0 ws) 0 (head_value h) ws (start h ws (tidy h ws z).rises)
+    (omega arith)) in
     omega arith
 
 tidied_normal : (l : List ℕ) → tidy_fault l ≡ 0 → Normal (tidied l)

@@ -6,10 +6,9 @@ use mathlib.Core.List.{List, [], ◌∷◌}
 use mathlib.Core.Bool.{Bool, true, false, beq, ◌&&◌, true≢false}
 use lib.Dec.{leb}
 use lib.ListN.{length, get_or}
-use borrow.Author.Tests.{le-leb, leb-true, leb-false}
+use borrow.Author.Tests.{leb-true, leb-false}
 use Rattle.signals.specs.Words.{date_of, value_at, value_after, head_value, changes_nothing, words_fault}
 use Rattle.signals.specs.ListFaults.{Breaks3, Breaks4, date_before, value_before, SoundBefore}
-use Rattle.signals.proofs.Truth.{down_of}
 use Rattle.signals.proofs.Normal.{same_values}
 
 -- the date and the value before word i of the words ws, with k and v before them
@@ -51,7 +50,8 @@ pub fine_all : (k : ℕ) (v : Bool) (w : ℕ) (ws : List ℕ) → Fine k v (w �
 fine_all k v w ws f i h zero l = f
 fine_all k v w ws f i h (suc j) l = fine_cons k v w ws j (h j (omega arith))
 
-pub says_cons : (n k : ℕ) (v : Bool) (w : ℕ) (ws : List ℕ) → Fine k v (w ∷ ws) 0 → Says n (date_of w) (value_after w) ws → Says n k v (w ∷ ws)
+pub says_cons : (n k : ℕ) (v : Bool) (w : ℕ) (ws : List ℕ) → Fine k v (w ∷ ws) 0 → Says n (date_of w) (value_after w) ws → Says n k v
+    (w ∷ ws)
 says_cons zero k v w ws f h = λ i. fine_all k v w ws f i (λ j l. h j) i (omega arith)
 says_cons (suc zero) k v w ws f h = absurd h
 says_cons (suc (suc zero)) k v w ws f h = absurd h
@@ -104,7 +104,8 @@ prior_date_lem w (x ∷ ws) zero l = refl
 prior_date_lem w [] (suc i) l = absurd (omega arith)
 prior_date_lem w (x ∷ ws) (suc i) l = prior_date_lem x ws i (omega arith)
 
-pub prior_value_lem : (w : ℕ) (ws : List ℕ) (i : ℕ) → i < suc (length ws) → prior_value (value_after w) ws i ≡ value_after (get_or (w ∷ ws) i 0)
+pub prior_value_lem : (w : ℕ) (ws : List ℕ) (i : ℕ) → i < suc (length ws) → prior_value (value_after w) ws i ≡ value_after
+    (get_or (w ∷ ws) i 0)
 prior_value_lem w [] zero l = refl
 prior_value_lem w (x ∷ ws) zero l = refl
 prior_value_lem w [] (suc i) l = absurd (omega arith)

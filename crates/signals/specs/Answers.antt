@@ -4,7 +4,6 @@
 use Rattle.std.specs.Prelude.{ℕ, ◌+◌, ◌-◌, Bool, true, false, cond, List, ◌++◌, ltb, eqb, length, drop}
 use Rattle.std.proofs.Math.Option.{Option, none, some}
 use Rattle.signals.specs.Moment.{M, is_gap, tick, gap, instant}
-use Rattle.signals.specs.declared.Date.{Date}
 use Rattle.signals.specs.declared.Sum.{Sum}
 use Rattle.signals.specs.declared.Sum.TheVariants as sum
 use Rattle.signals.specs.declared.Written.{Written}

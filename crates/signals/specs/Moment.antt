@@ -1,5 +1,5 @@
 -- Believed: Document 01, "Time and words": ticks, dates, lengths and moments, and the spans of moments that "Operations" speaks of.
-use Rattle.std.specs.Prelude.{ℕ, zero, suc, ◌+◌, ◌*◌, ◌-◌, ◌/◌, ◌%◌, ◌≤◌, Bool, true, false, ◌&&◌, leb, eqb}
+use Rattle.std.specs.Prelude.{ℕ, ◌+◌, ◌*◌, ◌-◌, ◌/◌, ◌%◌, Bool, ◌&&◌, leb, eqb}
 
 -- M: the largest date and the largest length
 abbrev pub M : ℕ

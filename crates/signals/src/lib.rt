@@ -1,4 +1,5 @@
 // Dates, lengths, and the answers that the crates above share.
+#![tactic(auto)]
 
 // The largest date and the largest length.
 pub const M: u32 = 1073741823;
@@ -7,15 +8,15 @@ pub const M: u32 = 1073741823;
 pub const WORDS: usize = 256;
 
 // A date counts ticks from the start.
-#[derive(Drop)]
+#[derive(Clone, Copy)]
 pub struct Date(pub u32);
 
 // A length counts ticks between two dates.
-#[derive(Drop)]
+#[derive(Clone, Copy)]
 pub struct Length(pub u32);
 
 // What a date plus a length is: a date, an exact sum past M, or refused with a fault number.
-#[derive(Drop)]
+#[derive(Clone, Copy)]
 pub enum Sum {
     On(Date),
     PastM(u32),
@@ -23,14 +24,14 @@ pub enum Sum {
 }
 
 // What a call that writes answers: how many words (for sheets, bytes) it wrote, or the fault number that refuses it.
-#[derive(Drop)]
+#[derive(Clone, Copy)]
 pub enum Written {
     Count(usize),
     Refused(u32),
 }
 
 // How the first unbroken run of failing moments ends: its last is the instant k, or the gap before the instant k; or it never ends.
-#[derive(Drop)]
+#[derive(Clone, Copy)]
 pub enum End {
     At(u32),
     Before(u32),
@@ -38,7 +39,7 @@ pub enum End {
 }
 
 // What a claim answers: it holds; fails first at the instant k, or in the gap k, which is after it, with the end of that run; is refused.
-#[derive(Drop)]
+#[derive(Clone, Copy)]
 pub enum Verdict {
     Holds,
     FailsAt(u32, End),
@@ -47,7 +48,7 @@ pub enum Verdict {
 }
 
 // What a question about a signal answers: yes (up), no (down), or refused.
-#[derive(Drop)]
+#[derive(Clone, Copy)]
 pub enum Told {
     Yes,
     No,

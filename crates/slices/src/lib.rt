@@ -1,4 +1,6 @@
 // What sheets and the programs do with bytes.
+#![tactic(auto)]
+
 ghost use Rattle.std.specs.Prelude.{◌≡◌, ◌<◌, length, drop};
 ghost use Rattle.slices.specs.Bytes.{low16, low32};
 ghost use Rattle.slices.specs.Slices.{before, past, put_at};

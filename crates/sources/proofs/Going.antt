@@ -7,18 +7,17 @@ use mathlib.Core.Bool.{Bool, true, false, cond, ◌&&◌}
 use mathlib.Core.List.{List}
 use lib.Dec.{ltb, eqb}
 use lib.ListN.{length, get_or}
-use borrow.Author.Tests.{ltb-true, ltb-false, lt-ltb, eq-eqb, ne_eqb}
+use borrow.Author.Tests.{ltb-true, ltb-false, eq-eqb, ne_eqb}
 use Rattle.signals.specs.Words.{value_at, value_after, date_of}
-use Rattle.signals.specs.Passing.{held_value, is_next, at_date, after_date, passed_date}
+use Rattle.signals.specs.Passing.{held_value, is_next, passed_date}
 use Rattle.reading.specs.Reading.{NEVER, next_date, held_on, step_past}
-use Rattle.reading.specs.declared.Step.{Step}
 use Rattle.sources.specs.Sources.{next_word, cursor_at, start_of, On, past_on}
 use Rattle.sources.specs.declared.Cursor.{Cursor}
 use Rattle.sources.specs.declared.Passed.{Passed}
 use Rattle.sources.proofs.SourceWords.{pass_on, no_word_left, pass_word, pass_none}
 use Rattle.slices.specs.Bytes.{Words}
 use native.Mathlib.Nat.{mod-eq_of_lt}
-use Rattle.sources.proofs.Sourcing.{pass_is_step, held_after, first_held, next_word_date, date_of_left, word_is_left}
+use Rattle.sources.proofs.Sourcing.{pass_is_step, held_after, first_held, next_word_date, date_of_left}
 
 passed_few : (l : List ℕ) (i d : ℕ) → length l < 4294967296 → i < 4294967296 → passed_date l i d < 4294967296
 unfolding passed_date is_next
@@ -148,7 +147,7 @@ module _ (l : List ℕ) (small : Words l) (short : length l < 4294967296) (c : C
     pub on_next : On l u.next u.step.passed
     on_next =
         record {
-          is = both.next-is;
-          held = both.held-is ∙ rw on_step (sym (held_after l i d));
+          is = both.next_is;
+          held = both.held_is ∙ rw on_step (sym (held_after l i d));
           few = rw on_step (passed_few l i d short o.few);
         }

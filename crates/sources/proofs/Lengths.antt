@@ -1,6 +1,6 @@
 -- How many words a list has where it stands.
 use Prim.Native.Nat.{ℕ, ◌-◌, ◌/◌, min}
-use mathlib.Core.Path.{◌≡◌, refl, sym, ◌∙◌, ap}
+use mathlib.Core.Path.{◌≡◌, sym, ◌∙◌, ap}
 use mathlib.Core.List.{List}
 use lib.ListN.{length, take, drop, length-take, length-drop}
 use Rattle.sources.specs.Sources.{list_on_sheet, list_from}

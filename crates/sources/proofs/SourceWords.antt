@@ -44,7 +44,8 @@ unfolding sheet_word
 bytes_short sheet at h = rw (lt-ltb (length sheet) (at + 4) h)
 
 pub bytes_whole : (sheet : List ℕ) (at : ℕ) → at + 4 ≤ length sheet
-    → get_or sheet at 0 + 256 * get_or sheet (at + 1) 0 + 65536 * (get_or sheet (at + 2) 0 + 256 * get_or sheet (at + 3) 0) ≡ sheet_word sheet at
+    → get_or sheet at 0 + 256 * get_or sheet (at + 1) 0 + 65536 * (get_or sheet (at + 2) 0 + 256 * get_or sheet (at + 3) 0) ≡ sheet_word
+    sheet at
 unfolding sheet_word
 bytes_whole sheet at h =
     let e : at + 2 + 1 ≡ at + 3 = omega arith in
@@ -96,7 +97,8 @@ module _ (sheet left right work : List ℕ) (at count passed : ℕ) where
   all_passed m h = sym (no_word_left (list_from m sheet left right work at count) passed (omega (arith, at_most m)))
 
   module _ (m : Memory) (h : passed < count) (x : ℕ) where
-    pub next_on_sheet : m ≡ Sheet → x ≡ sheet_word sheet (at + 4 * passed) → x ≡ next_word (list_from m sheet left right work at count) passed
+    pub next_on_sheet : m ≡ Sheet → x ≡ sheet_word sheet (at + 4 * passed) → x ≡ next_word (list_from m sheet left right work at count)
+        passed
     next_on_sheet e q = rw e (q ∙ sheet_next h)
 
     pub next_in_work : m ≡ Work → x ≡ next_word work (at + passed) → x ≡ next_word (list_from m sheet left right work at count) passed

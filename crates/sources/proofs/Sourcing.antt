@@ -18,7 +18,7 @@ use Rattle.sources.specs.Sources.{no_word, next_word, list_on_sheet, list_from, 
 use Rattle.sources.specs.declared.Memory.{Memory}
 use Rattle.sources.specs.declared.Memory.TheVariants.{Sheet, Work, Left, Right}
 use Rattle.sources.specs.declared.Source.{Source}
-use Rattle.sources.proofs.SourceWords.{pass_on, word_left, no_word_left, at_most}
+use Rattle.sources.proofs.SourceWords.{pass_on, word_left, at_most}
 
 -- the date of the next word
 pub next_word_date : (l : List ℕ) (i : ℕ) → next_word l i / 4 ≡ next_date l i
@@ -29,14 +29,7 @@ next_word_date l i = go (ltb i (length l))
     go true = refl
     go false = refl
 
--- it is below NEVER exactly where a word is left
-pub word_is_left : (l : List ℕ) (i : ℕ) → next_word l i / 4 < NEVER → i < length l
-word_is_left l i h = go (ltb i (length l)) refl
-  where
-    go : (t : Bool) → ltb i (length l) ≡ t → i < length l
-    go true e = ltb-true i (length l) e
-    go false e = absurd (let q = no_word_left l i (ltb-false i (length l) e) in omega arith)
-
+-- where a word is left, it is below NEVER
 pub date_of_left : (l : List ℕ) (i : ℕ) → Words l → i < length l → next_word l i / 4 < NEVER
 date_of_left l i w h = rw (word_left l i h) (omega (arith, w i))
 
@@ -84,7 +77,8 @@ pub held_after : (l : List ℕ) (i d : ℕ) → held_value l (passed_date l i d)
 unfolding passed_date after_date held_value
 held_after l i d = go (is_next l i d)
   where
-    go : (t : Bool) → value_after (get_or l (cond t (i + 1) i - 1) 0) ≡ cond t (value_after (get_or l i 0)) (value_after (get_or l (i - 1) 0))
+    go : (t : Bool) → value_after (get_or l (cond t (i + 1) i - 1) 0) ≡ cond t (value_after (get_or l i 0))
+        (value_after (get_or l (i - 1) 0))
     go true = let e : i + 1 - 1 ≡ i = omega arith in rw e
     go false = refl
 

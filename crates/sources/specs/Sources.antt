@@ -1,10 +1,10 @@
 -- Mirrored: The list that a source names in the memory that it stands in, the next of its words, passing a date by it, and slots of the
 -- work area.
-use Rattle.std.specs.Prelude.{ℕ, ◌+◌, ◌-◌, ◌/◌, ◌%◌, ◌<◌, min, ◌≡◌, Bool, true, cond, ◌||◌, List, ◌++◌, leb, ltb, eqb, length, take, drop, get_or}
+use Rattle.std.specs.Prelude.{ℕ, ◌+◌, ◌-◌, ◌/◌, ◌%◌, ◌<◌, min, ◌≡◌, Bool, true, cond, ◌||◌, List, ◌++◌, leb, ltb, eqb, length, take}
+use Rattle.std.specs.Prelude.{drop, get_or}
 use Rattle.slices.specs.Bytes.{low32, words_in}
 use Rattle.signals.specs.Words.{value_at, value_after}
 use Rattle.signals.specs.Passing.{held_value}
-use Rattle.reading.specs.declared.Step.{Step}
 use Rattle.reading.specs.Reading.{held_on}
 use Rattle.sources.specs.declared.Memory.{Memory}
 use Rattle.sources.specs.declared.Memory.TheVariants.{Sheet, Work, Left, Right}

@@ -1,4 +1,6 @@
 // Where a list stands, and its words read there: on a sheet, in the work area, or in one of two lists that are lent beside them.
+#![tactic(auto)]
+
 ghost use Rattle.std.specs.Prelude.{◌≡◌, ◌<◌, ◌-◌, min, length};
 ghost use Rattle.sources.specs.Sources.{next_word, sheet_word, list_at, cursor_at, start_of, past_on, apart_from};
 
@@ -6,7 +8,7 @@ use reading::{NEVER, Step};
 use signals::Date;
 
 // What a list stands in.
-#[derive(Drop)]
+#[derive(Clone, Copy)]
 pub enum Memory {
     Sheet,
     Work,
@@ -16,7 +18,7 @@ pub enum Memory {
 
 // A list that stands somewhere: its first byte on the sheet, or its first word elsewhere, and how many words it has, as far as they are
 // there.
-#[derive(Drop)]
+#[derive(Clone, Copy)]
 pub struct Source {
     pub memory: Memory,
     pub at: u32,
@@ -93,7 +95,7 @@ pub fn apart(list: Source, at: u32, room: u32) -> bool
 
 // A reader of a list where it stands: the low 32 bits of the next word, its date, which is NEVER where none is left, the last word passed,
 // whose low bit is the value held, and how many words are passed. Its fields leave no padding between them, which would be copied too.
-#[derive(Drop)]
+#[derive(Clone, Copy)]
 pub struct Cursor {
     pub word: u32,
     pub date: u32,
@@ -102,7 +104,7 @@ pub struct Cursor {
 }
 
 // What passing a date finds, and the reader past it.
-#[derive(Drop)]
+#[derive(Clone, Copy)]
 pub struct Passed {
     pub step: Step,
     pub next: Cursor,

@@ -1,5 +1,7 @@
 // Test support: a second evaluator that shares no code with the engine: the value of every part at every moment of the rows, by the
 // sentences of documents 01 and 02. No function has a `requires`; what is proved of each is that it is safe and ends.
+#![tactic(auto)]
+
 use random_formulas::cells::{Cells, NAMES, PART, TREE, at};
 use random_formulas::trees::operands;
 use random_sheets::rows::{dates, row_fault, store, up};

@@ -1,19 +1,19 @@
 -- What the up-time call gives, and its answer's reading and giving.
 use Prim.Native.Nat.{ℕ, ◌≤◌}
-use mathlib.Core.Path.{◌≡◌, refl, sym, ◌∙◌, ap}
+use mathlib.Core.Path.{◌≡◌, refl, ◌∙◌, ap}
 use mathlib.Core.List.{List}
-use lib.Dec.{eqb}
 use lib.ListN.{length}
 use borrow.Author.Tests.{eq-eqb, ne_eqb}
 use Rattle.slices.specs.Bytes.{Bytes}
-use Rattle.signals.specs.Words.{most_words, signal_of}
+use Rattle.signals.specs.Words.{most_words}
 use Rattle.signals.specs.Answers.{output_of}
 use Rattle.signals.proofs.AnswersSay.{by_fault, is_fault}
 use Rattle.format.specs.Reading.{signals_on, list_named, environment_on}
 use Rattle.format.specs.Calls.{lookup_fault}
 use Rattle.format.proofs.Theorems.{lookup_gives_the_list}
-use Rattle.stretches.specs.Stretches.{stretches_before, stretch_words}
-use Rattle.stretches.specs.Calls.{fault_of_up_time, count_of_up_time, total_of_up_time, up_time_for, stretches_on, up_time_words, up_time_fault}
+use Rattle.stretches.specs.Stretches.{stretches_before}
+use Rattle.stretches.specs.Calls.{fault_of_up_time, count_of_up_time, total_of_up_time, up_time_for, stretches_on, up_time_words}
+use Rattle.stretches.specs.Calls.{up_time_fault}
 use Rattle.stretches.specs.Calls.{CallOfUpTime}
 use Rattle.stretches.specs.Sentences.{Gives, UpTimeGives, GivenUpTime, UpTimeSays}
 use Rattle.stretches.specs.declared.UpTime.{UpTime}

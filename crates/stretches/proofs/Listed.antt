@@ -7,8 +7,8 @@ use mathlib.Core.List.{List, [], ◌∷◌}
 use mathlib.Core.Logic.{◌⊎◌, inl, inr}
 use Rattle.signals.specs.Signal.{Signal}
 use Rattle.signals.specs.Quantified.{Up}
-use Rattle.signals.proofs.Truth.{at_or_after, true_false, not_both_lem}
-use Rattle.stretches.specs.Stretches.{Stretch, begins, up_for, stretches_from, stretches_before}
+use Rattle.signals.proofs.Truth.{at_or_after, not_both_lem}
+use Rattle.stretches.specs.Stretches.{Stretch, begins, up_for, stretches_from}
 use Rattle.stretches.specs.LongestRuns.{IsAmong, InOrder}
 use Rattle.stretches.proofs.UpRuns.{begins_down, up_for_up}
 

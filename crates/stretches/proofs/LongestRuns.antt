@@ -1,9 +1,9 @@
 -- The stretches listed are exactly the longest runs of up gaps, cut at H, and no other list in order has just these.
 use Prim.Native.Nat.{ℕ, suc, ◌+◌, ◌-◌, ◌≤◌, ◌<◌}
 use native.Mathlib.Omega.{arith}
-use mathlib.Core.Path.{◌≡◌, refl, sym, ap, ◌∙◌, subst}
+use mathlib.Core.Path.{◌≡◌, refl, sym, ◌∙◌, subst}
 use mathlib.Core.List.{List, [], ◌∷◌}
-use mathlib.Core.Logic.{◌⊎◌, inl, inr, ◌↔◌}
+use mathlib.Core.Logic.{◌⊎◌, inl, inr}
 use Rattle.signals.specs.Moment.{gap}
 use Rattle.signals.specs.Signal.{Signal}
 use Rattle.signals.specs.Quantified.{Up}

@@ -7,7 +7,7 @@ use mathlib.Core.List.{List, [], ◌∷◌}
 use lib.Dec.{leb, ltb}
 use borrow.Author.Tests.{lt-ltb, lt-leb}
 use Rattle.signals.specs.Moment.{M, gap}
-use Rattle.signals.specs.Signal.{Signal, NOT, constant}
+use Rattle.signals.specs.Signal.{NOT, constant}
 use Rattle.signals.specs.Words.{date_of, value_after, head_value, list_fault, words_fault, changes_nothing, value_at, signal_of, value_from}
 use Rattle.signals.specs.Starred.{f, e, l, one}
 use Rattle.signals.proofs.Truth.{true_false, down_of}
@@ -24,7 +24,7 @@ f_walked H = sym (walk_exact 0 (23 ∷ 36 ∷ []) H refl)
 
 -- e is down in every gap
 e_gaps : (k : ℕ) → e (gap k) ≡ false
-e_gaps k = down_of (e (gap k)) (λ u. omega (arith, (starred.e-reads (gap k)).0 u))
+e_gaps k = down_of (e (gap k)) (λ u. omega (arith, (starred.e_reads (gap k)).0 u))
 
 up_always_lem : (H : ℕ) → 0 < H → stretches_before one H ≡ stretch 0 H ∷ []
 unfolding constant signal_of value_from list_fault words_fault head_value walked last_walked
@@ -55,7 +55,8 @@ lone_up_lem H = sym (walk_exact 0 (22 ∷ []) H refl) ∙ go (leb H 5)
     go false = refl
 
 pub stretch_cases : StretchCases
-unfolding NOT constant walked last_walked date_of value_after stretches_before stretches_from begins up_for signal_of value_from head_value value_at
+unfolding NOT constant walked last_walked date_of value_after stretches_before stretches_from begins up_for signal_of value_from
+    head_value value_at
     stretch_words sum_of_ticks
 stretch_cases =
     record {

@@ -1,11 +1,11 @@
 -- The totals of stretches, and that gaps alone make them.
 use Prim.Native.Nat.{ℕ, zero, suc, ◌+◌, ◌-◌, ◌≤◌, ◌<◌}
 use native.Mathlib.Omega.{arith}
-use mathlib.Core.Path.{◌≡◌, refl, sym, ap, ◌∙◌, subst}
+use mathlib.Core.Path.{◌≡◌, refl, ap, ◌∙◌, subst}
 use mathlib.Core.Bool.{Bool, true, false, not, cond, ◌&&◌}
-use mathlib.Core.List.{List, [], ◌∷◌}
+use mathlib.Core.List.{List, ◌∷◌}
 use mathlib.Core.Logic.{◌⊎◌, inl, inr}
-use Rattle.signals.specs.Moment.{gap, instant}
+use Rattle.signals.specs.Moment.{gap}
 use Rattle.signals.specs.Signal.{Signal, num, NOT}
 use Rattle.signals.specs.Quantified.{Up, Down}
 use Rattle.signals.proofs.Truth.{at_or_after, not_both_lem}
@@ -14,7 +14,7 @@ use Rattle.stretches.specs.LongestRuns.{IsAmong}
 use Rattle.stretches.specs.Totals.{up_gaps, down_gaps, Totals}
 use Rattle.stretches.proofs.UpRuns.{up_for_most, back, back_most, back_up}
 use Rattle.stretches.proofs.Listed.{cut_at, listed_begun}
-use Rattle.stretches.proofs.LongestRuns.{RunOf, listed_at, stretches_of}
+use Rattle.stretches.proofs.LongestRuns.{listed_at, stretches_of}
 use Rattle.stretches.proofs.FewStretches.{two_words, few_words}
 
 -- whether the gap before gap k is up

@@ -12,7 +12,7 @@ use Rattle.signals.specs.Signal.{Signal}
 use Rattle.signals.specs.Words.{date_of, head_value, value_after, value_from, signal_of}
 use Rattle.signals.specs.Normal.{Rising}
 use Rattle.signals.specs.Quantified.{Up, Down}
-use Rattle.signals.proofs.Truth.{at_or_after, bool_ext, true_false, down_of, not_both_lem}
+use Rattle.signals.proofs.Truth.{at_or_after, true_false, down_of, not_both_lem}
 use Rattle.signals.proofs.Operand.{value_none, value_before_lem, value_after_lem, value_held}
 use Rattle.signals.proofs.Normal.{accepted_normal, dates_rise}
 use Rattle.stretches.specs.Stretches.{Stretch, begins, up_for, stretches_from, stretches_before}
@@ -20,7 +20,8 @@ use Rattle.stretches.specs.Walk.{between, last_walked, walked, WalkExact}
 use Rattle.stretches.proofs.UpRuns.{begins_up, begins_down, begins_of, up_for_is}
 
 -- gaps that begin no stretch are passed over
-skip : (f : Signal) (k m n : ℕ) → ((j : ℕ) → k ≤ j → j < k + m → Down (begins f j)) → stretches_from f k (m + n) ≡ stretches_from f (k + m) n
+skip : (f : Signal) (k m n : ℕ) → ((j : ℕ) → k ≤ j → j < k + m → Down (begins f j)) → stretches_from f k (m + n) ≡ stretches_from f
+    (k + m) n
 unfolding stretches_from
 skip f k zero n h =
     let e : 0 + n ≡ n = omega arith in
@@ -117,7 +118,8 @@ rise_below k j (w ∷ ws) l r = (omega (arith, r.0), r.1)
 -- the words left are walked rightly, whatever is held
 abbrev Walks : Signal → ℕ → List ℕ → Type 0
 Walks f H ws =
-    (up : Bool) (from : ℕ) → Rising from ws → Says f from up ws → begins f from ≡ up → walked H up from ws ≡ stretches_from f from (H - from)
+    (up : Bool) (from : ℕ) → Rising from ws → Says f from up ws → begins f from ≡ up → walked H up from ws ≡ stretches_from f from
+    (H - from)
 
 -- past one word more
 module _ (f : Signal) (H : ℕ) (up : Bool) (from w : ℕ) (ws : List ℕ) (r : Rising from (w ∷ ws)) (s : Says f from up (w ∷ ws))

@@ -11,7 +11,8 @@ use Rattle.format.specs.Sentences.{OneOf}
 use Rattle.stretches.specs.Stretches.{Stretch, stretch_words}
 use Rattle.stretches.specs.LongestRuns.{StretchesOf}
 use Rattle.stretches.specs.Totals.{up_gaps}
-use Rattle.stretches.specs.Calls.{fault_of_up_time, count_of_up_time, total_of_up_time, up_time_for, up_time_words, up_time_fault, CallOfUpTime}
+use Rattle.stretches.specs.Calls.{fault_of_up_time, count_of_up_time, total_of_up_time, up_time_for, up_time_words, up_time_fault}
+use Rattle.stretches.specs.Calls.{CallOfUpTime}
 use Rattle.stretches.specs.declared.UpTime.{UpTime}
 use Rattle.stretches.specs.declared.UpTime.TheVariants.{Told, Refused}
 
@@ -44,7 +45,8 @@ pub record UpTimeGives : Type 1 where
       → CallOfUpTime sheet name H out answer after → ¬ (up_time_fault sheet name H (length out) ≡ 0)
       → (answer ≡ Refused (up_time_fault sheet name H (length out))) × (after ≡ out)
   -- an output as long as a list may be is never too short
-  pub suffices : (sheet name : List ℕ) (H : ℕ) → Bytes sheet → lookup_fault sheet name ≡ 0 → length (up_time_words sheet name H) ≤ most_words
+  pub suffices : (sheet name : List ℕ) (H : ℕ) → Bytes sheet → lookup_fault sheet name ≡ 0 → length (up_time_words sheet name H) ≤
+      most_words
 
 -- the answers: a refusal has a number
 abbrev pub GivenUpTime : UpTime → Type 0

@@ -1,4 +1,6 @@
 // Numbers and lines in texts: a number written in decimal, a length read, a text's first line and what follows it.
+#![tactic(auto)]
+
 ghost use Rattle.std.specs.Prelude.{◌≡◌, ◌+◌, ◌*◌, ◌-◌, ◌≤◌, ◌<◌, length, drop};
 ghost use Rattle.names.specs.Names.{digit, all_of};
 ghost use Rattle.signals.specs.Moment.{M as Moment-as-M};
@@ -12,7 +14,7 @@ use signals::{Length, M};
 const TOO_LONG: u64 = M as u64 + 1;
 
 // What a text is read as: a length, not written as a length is, or above M.
-#[derive(Drop)]
+#[derive(Clone, Copy)]
 pub enum Read {
     Ticks(Length),
     NotALength,

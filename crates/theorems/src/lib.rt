@@ -1,1 +1,2 @@
 // Each statement of the crates with its term: proofs/ only.
+#![tactic(auto)]

@@ -5,7 +5,7 @@ use mathlib.Core.Path.{◌≡◌, refl, ◌∙◌, ap}
 use mathlib.Core.Bool.{Bool, true, false, cond}
 use mathlib.Core.List.{List, [], ◌∷◌, ◌++◌}
 use Rattle.signals.specs.Signal.{Signal}
-use Rattle.signals.specs.Words.{date_of, value_at, value_after, head_value, changes_nothing, tidy_fault, tidied, signal_of}
+use Rattle.signals.specs.Words.{date_of, value_at, value_after, head_value, changes_nothing, tidied, signal_of}
 use Rattle.signals.specs.Words.{last_from, last_date, words_of}
 use Rattle.signals.specs.Settled.{entry}
 use Rattle.signals.proofs.WordFacts.{word_of, num_head_value}

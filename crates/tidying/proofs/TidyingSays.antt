@@ -1,18 +1,15 @@
 -- What calls of tidying come to.
 use Prim.Native.Nat.{ℕ, ◌≤◌}
 use native.Mathlib.Omega.{arith}
-use mathlib.Core.Path.{◌≡◌, refl, sym, ◌∙◌, ap}
-use mathlib.Core.Bool.{Bool, true, false, cond}
+use mathlib.Core.Path.{◌≡◌, sym, ◌∙◌, ap}
 use mathlib.Core.List.{List, ◌++◌}
-use lib.Dec.{eqb}
 use lib.ListN.{length, take, drop}
-use lib.Seq.{take-append_seam, drop-append_seam}
+use lib.Seq.{take-append_seam}
 use borrow.Author.Tests.{le-ltb}
 use Rattle.signals.specs.Words.{tidy_fault, tidied, signal_of}
 use Rattle.signals.specs.Settled.{Same}
 use Rattle.signals.specs.Answers.{first_of, fault_in, count_in, written_of, output_of}
 use Rattle.signals.specs.declared.Written.{Written}
-use Rattle.signals.specs.declared.Written.TheVariants.{Count, Refused}
 use Rattle.signals.proofs.AnswersSay.{written_says}
 use Rattle.signals.proofs.Tidying.{tidying}
 use Rattle.signals.proofs.Giving.{no_fault, past_stays}

@@ -134,7 +134,7 @@ count_turn l words wrong i k h c f p q =
       short = k.short;
       few = (omega (arith, k.few.0), omega (arith, k.few.1));
       words_left = omega (arith, k.words_left, changed, length_change c (get_or l i 0) changes);
-      wrong_left = omega (arith, k.wrong-left, above_next l i k.one h);
+      wrong_left = omega (arith, k.wrong_left, above_next l i k.one h);
     }
 
 pub count_end : (l : List ℕ) (words wrong i : ℕ) → CountedTo l words wrong i → length l ≤ i → Counted l words wrong
@@ -142,7 +142,7 @@ unfolding changing all_not_above
 count_end l words wrong i k h =
     let none = drop_of_length-le l {i = i} h in
     let w = rw none at k.words_left in
-    let f = rw none at k.wrong-left in
+    let f = rw none at k.wrong_left in
     (omega (arith, w), omega (arith, f))
 
 -- the second pass up to place i of the list and this place of the output, which was `old` before its loop: what is put there, what is

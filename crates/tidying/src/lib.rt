@@ -1,5 +1,7 @@
 // Tidying: lists that break only rule 4, made normal. It keeps no array: a first pass judges the dates and counts the words to be kept, and
 // once they are known to fit they are written straight into the output.
+#![tactic(auto)]
+
 ghost use Rattle.std.specs.Prelude.{◌≡◌, ◌++◌, ◌≤◌, length, drop};
 ghost use Rattle.lists.specs.Head.{head_fault};
 ghost use Rattle.tidying.specs.Calls.{CallOfTidying};
@@ -11,7 +13,7 @@ use lists::head_fault;
 use signals::Written;
 
 // What the first pass counts: the words to be kept, the first one always, and those that are not dated above the word before.
-#[derive(Drop)]
+#[derive(Clone, Copy)]
 struct Counts {
     kept: u32,
     wrong: u32,

@@ -1,7 +1,7 @@
 -- The cases of a delay's mirror definitions, from the tests that the code makes.
 use Prim.Native.Nat.{ℕ}
-use mathlib.Core.Path.{◌≡◌, refl, sym, ◌∙◌, ap}
-use mathlib.Core.Bool.{Bool, true, false, cond, ◌&&◌}
+use mathlib.Core.Path.{◌≡◌, ◌∙◌, ap}
+use mathlib.Core.Bool.{Bool, true, false, cond}
 use Rattle.timing.specs.Delay.{timer, pending, risen, timer_next}
 use Rattle.timing.specs.declared.Timer.{Timer}
 

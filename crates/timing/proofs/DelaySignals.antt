@@ -1,17 +1,17 @@
 -- A delay of a signal: what it is while its input stays up, from the moment at which the run began; TON and TOF as such delays.
-use Prim.Native.Nat.{ℕ, zero, suc, ◌+◌, ◌*◌, ◌-◌, ◌≤◌, ◌<◌}
+use Prim.Native.Nat.{ℕ, ◌+◌, ◌*◌, ◌≤◌}
 use native.Mathlib.Omega.{arith}
-use mathlib.Core.Path.{◌≡◌, refl, sym, ◌∙◌, ap, fun_ext}
-use mathlib.Core.Bool.{Bool, true, false, not, cond, ◌&&◌, ◌||◌}
+use mathlib.Core.Path.{◌≡◌, refl, sym, ◌∙◌, fun_ext}
+use mathlib.Core.Bool.{Bool, true, false, not, cond, ◌||◌}
 use lib.Dec.{leb}
 use borrow.Author.Tests.{leb-true, leb-false, le-leb}
-use Rattle.signals.specs.Moment.{gap, instant, started, from_to}
-use Rattle.signals.specs.Signal.{Signal, every, implied, NOT, TON, TOF}
+use Rattle.signals.specs.Moment.{instant, started, from_to}
+use Rattle.signals.specs.Signal.{Signal, implied, NOT, TON, TOF}
 use Rattle.signals.specs.Quantified.{Up, Down, Started, FromTo}
-use Rattle.signals.proofs.Truth.{bool_ext, not_both_lem, down_of, not_up, not_of, up_or_down, and_left, and_right, and_of, implied_use}
+use Rattle.signals.proofs.Truth.{bool_ext, not_both_lem, down_of, not_up, not_of, and_left, and_right, and_of, implied_use}
 use Rattle.signals.proofs.Truth.{implied_of, every_up, every_of}
 use Rattle.signals.proofs.Agreement.{started_up, started_of, from_to_up, from_to_of, TOF_up, TOF_of}
-use Rattle.timing.specs.Delay.{throughout, delayed, on_level, level_of, delay_of}
+use Rattle.timing.specs.Delay.{throughout, delayed, level_of, delay_of}
 
 -- the delay with real quantifiers
 abbrev pub UpDelayed : Bool → ℕ → Signal → ℕ → Type 0

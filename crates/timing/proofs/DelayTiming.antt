@@ -1,10 +1,10 @@
 -- A delay's state at a moment, and how it follows its input to the next one.
-use Prim.Native.Nat.{ℕ, zero, suc, ◌+◌, ◌*◌, ◌-◌, ◌≤◌, ◌<◌}
+use Prim.Native.Nat.{ℕ, ◌+◌, ◌*◌, ◌≤◌, ◌<◌}
 use native.Mathlib.Omega.{arith}
 use mathlib.Core.Path.{◌≡◌, refl, sym, ◌∙◌, ap, subst}
 use mathlib.Core.Bool.{Bool, true, false, not, cond, ◌&&◌, ◌||◌}
-use lib.Dec.{leb, ltb, eqb}
-use borrow.Author.Tests.{leb-true, leb-false, le-leb, lt-leb, le-ltb, lt-ltb, eqb-true, eqb-false}
+use lib.Dec.{ltb, eqb}
+use borrow.Author.Tests.{le-leb, lt-leb, le-ltb, eqb-true, eqb-false}
 use Rattle.signals.specs.Moment.{M, gap, instant}
 use Rattle.signals.specs.Signal.{Signal}
 use Rattle.signals.specs.Answers.{sum_of}
@@ -14,7 +14,7 @@ use Rattle.signals.proofs.Truth.{not_both_lem, and_left, and_right}
 use Rattle.timing.specs.Delay.{date_in, timer, pending, reached, risen, timer_next, first_timer, delayed}
 use Rattle.timing.specs.declared.Timer.{Timer}
 use Rattle.timing.proofs.DelayCases.{next_up, next_waiting, next_new, next_down}
-use Rattle.timing.proofs.DelaySignals.{Run, delayed_down, run_first, run_after, run_later, run_up}
+use Rattle.timing.proofs.DelaySignals.{Run, run_first, run_after, run_later, run_up}
 
 -- the instant of a date, or the gap after it
 abbrev pub moment_of : Bool → ℕ → ℕ
@@ -148,7 +148,8 @@ module _ (waits : Bool) (d : ℕ) (g : Signal) (n : ℕ) (short : d ≤ M) where
       run w q = subst (λ (x : Bool). Run g (delayed waits d g) (cond x (instant d) 0) 0) q (run_first waits d g)
 
       go : (w : Bool) → waits ≡ w → Timed g (delayed waits d g) n (cond w (risen (pending 0 true d) 0 false) (timer true false 0 true)) 0
-      go true q = begun_run 0 false (instant d) true 0 refl (λ u. not_both_lem u refl) (omega arith) (omega arith) e (run true q) (omega arith)
+      go true q = begun_run 0 false (instant d) true 0 refl (λ u. not_both_lem u refl) (omega arith) (omega arith) e (run true q)
+          (omega arith)
       go false q = (e, run false q)
   timed_first bound false e = e
 

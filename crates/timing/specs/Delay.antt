@@ -1,12 +1,11 @@
 -- Mirrored: how a delay follows its input from moment to moment.
-use Rattle.std.specs.Prelude.{ℕ, Bool, true, false, not, cond, ◌&&◌, ◌||◌, List, ltb, eqb}
+use Rattle.std.specs.Prelude.{ℕ, Bool, true, false, not, cond, ◌&&◌, ◌||◌, eqb}
 use Rattle.signals.specs.Moment.{started, from_to}
 use Rattle.signals.specs.Signal.{Signal, every, implied}
 use Rattle.signals.specs.Answers.{sum_of}
-use Rattle.signals.specs.declared.Date.{Date}
 use Rattle.signals.specs.declared.Sum.{Sum}
 use Rattle.signals.specs.declared.Sum.TheVariants as sum
-use Rattle.reading.specs.Reading.{NEVER, next_date}
+use Rattle.reading.specs.Reading.{NEVER}
 use Rattle.timing.specs.declared.Timer.{Timer}
 
 -- the date of a sum, past M too

@@ -1,4 +1,6 @@
 // A delay's state, and how it follows its input from moment to moment.
+#![tactic(auto)]
+
 ghost use Rattle.std.specs.Prelude.{◌≡◌};
 ghost use Rattle.timing.specs.Delay.{date_in, pending, reached, risen, timer_next, first_timer, on_level};
 
@@ -6,7 +8,7 @@ use signals::{Date, Length, Sum};
 
 // A delay's state: its level now, and the pending change if there is one: its date, and whether it comes at the instant
 // or after it.
-#[derive(Drop)]
+#[derive(Clone, Copy)]
 pub struct Timer {
     pub level: bool,
     pub waiting: bool,

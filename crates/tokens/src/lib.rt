@@ -1,4 +1,6 @@
 // What stands in the text of a formula at a mark: a length and its ticks, a constant or a name and its code word.
+#![tactic(auto)]
+
 ghost use Rattle.std.specs.Prelude.{◌≡◌, ◌+◌, ◌-◌, ◌<◌, min, drop};
 ghost use Rattle.grammar.specs.Reader.{run};
 ghost use Rattle.texts.specs.Lengths.{capped};

@@ -32,7 +32,8 @@ use Rattle.uptime_page.proofs.HorizonRead.{horizon_fault_lem, horizon_value}
 use Rattle.uptime_page.proofs.PageSays.{lines_of}
 
 -- the call with room for as many words as a list may have: 7 cannot come
-call_fault_lem : (sheet name : List ℕ) (H room : ℕ) → Bytes sheet → room ≡ most_words → up_time_fault sheet name H room ≡ fault_on sheet name H
+call_fault_lem : (sheet name : List ℕ) (H room : ℕ) → Bytes sheet → room ≡ most_words → up_time_fault sheet name H room ≡ fault_on sheet
+    name H
 unfolding up_time_fault fault_on
 call_fault_lem sheet name H room b r = go (ℕ_discrete (lookup_fault sheet name) 0)
   where

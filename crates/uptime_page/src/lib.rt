@@ -1,4 +1,6 @@
 // The page that the program `uptime` prints for what it reads: a line for each stretch, then the total, or the line of a refusal.
+#![tactic(auto)]
+
 ghost use Rattle.std.specs.Prelude.{◌+◌, ◌≤◌, ◌≡◌, [], ◌∷◌, ◌++◌, length};
 ghost use Rattle.signals.specs.Words.{most_words};
 ghost use Rattle.signals.specs.declared.Verdict.TheVariants.{Refused};
@@ -19,7 +21,7 @@ use texts::Read;
 pub const PAGE: usize = 2833;
 
 // A page: as many bytes as the count says, those past them being zeros.
-#[derive(Drop)]
+#[derive(Clone, Copy)]
 pub struct Page {
     pub bytes: [u8; PAGE],
     pub count: usize,

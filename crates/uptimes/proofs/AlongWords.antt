@@ -1,5 +1,5 @@
 -- Along the words of an accepted list: the stretches done and those of the words left are all of the list's.
-use Prim.Native.Nat.{ℕ, suc, ◌+◌, ◌*◌, ◌-◌, ◌≤◌, ◌<◌}
+use Prim.Native.Nat.{ℕ, suc, ◌+◌, ◌*◌, ◌≤◌, ◌<◌}
 use native.Mathlib.Omega.{arith}
 use mathlib.Core.Path.{◌≡◌, refl, sym, ap, ◌∙◌, subst}
 use mathlib.Core.Bool.{Bool, true, false, cond}
@@ -8,7 +8,7 @@ use mathlib.Core.Logic.{◌⊎◌, inl, inr}
 use lib.ListN.{length, get_or, drop, drop_of_length-le}
 use lib.Seq.{drop-cons, append_snoc}
 use borrow.Author.Tests.{lt-leb, le-leb, lt-ltb}
-use Rattle.signals.specs.Words.{date_of, head_value, value_after, signal_of}
+use Rattle.signals.specs.Words.{date_of, value_after, signal_of}
 use Rattle.signals.specs.Normal.{Accepted, Rising}
 use Rattle.signals.specs.Passing.{held_value}
 use Rattle.signals.proofs.Normal.{accepted_normal, dates_rise}

@@ -3,7 +3,7 @@ use Prim.Native.Nat.{ℕ, ◌+◌, ◌-◌, ◌≤◌, ◌<◌}
 use native.Mathlib.Omega.{arith}
 use mathlib.Core.Path.{◌≡◌, refl, sym, ap, ◌∙◌, subst}
 use mathlib.Core.Bool.{Bool, true, false, cond, true≢false}
-use mathlib.Core.List.{List, ◌++◌}
+use mathlib.Core.List.{List}
 use lib.Dec.{leb, ltb}
 use lib.ListN.{length, drop, take}
 use borrow.Author.Tests.{lt-ltb, le-ltb, le-leb, leb-true, leb-false, ne_eqb}
@@ -15,7 +15,7 @@ use Rattle.signals.specs.Signal.{Signal}
 use Rattle.signals.specs.Answers.{first_of, output_of}
 use Rattle.signals.proofs.FirstFault.{first_is, first_some, next_is}
 use Rattle.format.specs.Reading.{environment_on}
-use Rattle.format.specs.Calls.{fault_of_place, lookup_fault, place_of, lookup_of}
+use Rattle.format.specs.Calls.{fault_of_place, lookup_fault, place_of}
 use Rattle.format.specs.Theorems.{decoded}
 use Rattle.format.specs.declared.Place.{Place}
 use Rattle.format.specs.declared.Place.TheVariants as place

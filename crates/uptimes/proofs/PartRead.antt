@@ -1,11 +1,11 @@
 -- A looked-up part read by the reader of lists on a sheet: the list it is, where its words end, and the value held there.
-use Prim.Native.Nat.{ℕ, ◌+◌, ◌*◌, ◌-◌, ◌/◌, ◌%◌, ◌≤◌, ◌<◌, min}
+use Prim.Native.Nat.{ℕ, ◌+◌, ◌-◌, ◌/◌, ◌%◌, ◌≤◌, ◌<◌, min}
 use native.Mathlib.Omega.{arith}
 use mathlib.Core.Path.{◌≡◌, refl, sym, ap, ◌∙◌, subst}
 use mathlib.Core.Bool.{Bool, true, false}
 use mathlib.Core.List.{List, []}
 use mathlib.Core.Logic.{◌⊎◌, inl, inr}
-use lib.ListN.{length, get_or, drop}
+use lib.ListN.{length, get_or}
 use borrow.Author.Tests.{eq-eqb, ne_eqb}
 use Rattle.signals.specs.Moment.{M}
 use Rattle.signals.specs.Words.{date_of, value_after, most_words}
@@ -17,8 +17,7 @@ use Rattle.reading.specs.Reading.{NEVER}
 use Rattle.reading.specs.declared.Step.{Step}
 use Rattle.reading.proofs.Counting.{next_in}
 use Rattle.slices.specs.Bytes.{Bytes, Words, words_in}
-use Rattle.sources.specs.Sources.{list_on_sheet, list_at, start_of, past_on}
-use Rattle.sources.specs.declared.Source.{Source}
+use Rattle.sources.specs.Sources.{list_on_sheet, start_of, past_on}
 use Rattle.sources.specs.declared.Cursor.{Cursor}
 use Rattle.sources.specs.declared.Passed.{Passed}
 use Rattle.sources.proofs.SourceWords.{length_words}

@@ -3,7 +3,7 @@
 use Rattle.std.specs.Prelude.{ℕ, ◌+◌, ◌-◌, ◌≤◌, ◌≡◌, Bool, cond, List, ◌++◌, leb, ltb, length, drop, set}
 use Rattle.signals.specs.Words.{signal_of}
 use Rattle.signals.specs.Answers.{output_of}
-use Rattle.stretches.specs.Stretches.{Stretch, stretches_before, sum_of_ticks, stretch_words}
+use Rattle.stretches.specs.Stretches.{stretches_before, sum_of_ticks, stretch_words}
 use Rattle.stretches.specs.Calls.{up_time_for}
 use Rattle.stretches.specs.declared.UpTime.{UpTime}
 use Rattle.uptimes.specs.declared.Going.{Going}

@@ -1,4 +1,6 @@
 // The up-time of a name's signal on a sheet: its up stretches before a horizon, and their total.
+#![tactic(auto)]
+
 ghost use Rattle.std.specs.Prelude.{◌≡◌, ◌≤◌, ◌-◌};
 ghost use Rattle.signals.specs.Moment.{M as Moment-as-M};
 ghost use Rattle.signals.specs.Words.{list_fault};
@@ -12,7 +14,7 @@ use sources::{Memory, Source};
 use stretches::UpTime;
 
 // On the way along a list: the gap since which the value is held, the words of the stretches so far, and their ticks.
-#[derive(Drop)]
+#[derive(Clone, Copy)]
 struct Going {
     from: Date,
     count: usize,

@@ -1,4 +1,6 @@
 // The line of a claim's answer: holds, fails at k or fails after k with how the failing run ends, or refused n; with its line feed.
+#![tactic(auto)]
+
 ghost use Rattle.std.specs.Prelude.{◌+◌, ◌≤◌, ◌≡◌, ◌++◌, length};
 ghost use Rattle.texts.specs.Decimal.{decimal};
 ghost use Rattle.verdict_line.specs.Line.{end_text};
@@ -11,7 +13,7 @@ use signals::{End, Verdict};
 pub const LONGEST: usize = 47;
 
 // A line: as many bytes as the count says, those past them being zeros.
-#[derive(Drop)]
+#[derive(Clone, Copy)]
 pub struct Line {
     pub bytes: [u8; LONGEST],
     pub count: usize,

@@ -1,4 +1,6 @@
 // Words of a list, their dates and values: the word of a date, whether it changes something, dates added and compared.
+#![tactic(auto)]
+
 ghost use Rattle.std.specs.Prelude.{◌≡◌, min};
 ghost use Rattle.signals.specs.Signal.{num};
 ghost use Rattle.signals.specs.Answers.{sum_of};

@@ -41,9 +41,9 @@ no_room sheet codes before ran h e =
     record {
       end = [];
       out = record { short = λ x. (e ∙ sym fault, refl); runs = λ z. absurd (let q = sym fault ∙ z in omega arith) };
-      top-is = λ z. absurd (let q = sym e ∙ z in omega arith);
-      below-is = λ z. absurd (let q = sym e ∙ z in omega arith);
-      kept-is = refl;
+      top_is = λ z. absurd (let q = sym e ∙ z in omega arith);
+      below_is = λ z. absurd (let q = sym e ∙ z in omega arith);
+      kept_is = refl;
     }
   where
     fault : area_fault (length before) ≡ 18
@@ -113,9 +113,9 @@ module _ (sheet codes before : List ℕ) where
         record {
           end = end;
           out = ended ran after end r;
-          top-is = λ z. absurd (x z);
-          below-is = λ z. absurd (x z);
-          kept-is = kept;
+          top_is = λ z. absurd (x z);
+          below_is = λ z. absurd (x z);
+          kept_is = kept;
         }
 
     module _ (work : List ℕ) (stack : List Source) (slots : List ℕ) (height i : ℕ) (g : Going work stack slots height i) where
@@ -126,9 +126,9 @@ module _ (sheet codes before : List ℕ) where
           record {
             end = g.st;
             out = ended ran work g.st (g.on ran.fault g.st (rw (drop_of_length-le codes {i = i} h) (z, refl)));
-            top-is = λ q k. rw t (above 0 (omega (arith, g.tall)));
-            below-is = λ q k. rw b (above 1 (omega (arith, g.tall)));
-            kept-is = g.kept;
+            top_is = λ q k. rw t (above 0 (omega (arith, g.tall)));
+            below_is = λ q k. rw b (above 1 (omega (arith, g.tall)));
+            kept_is = g.kept;
           }
         where
           above : (depth : ℕ) → depth < height → list_of sheet work (from_above stack height depth) ≡ get_or g.st depth []
@@ -240,7 +240,7 @@ module _ (sheet codes before : List ℕ) where
               (λ fault end r. leaf (sym t ∙ z) (omega (arith, g.tall)) (rw z at r))
             where
               here : Stands sheet work' next.list (get_or slots height 0) (leaf_list sheet w)
-              here = rw m.list-is (leaf_stands sheet work' w (get_or slots height 0))
+              here = rw m.list_is (leaf_stands sheet work' w (get_or slots height 0))
 
           -- an operation
           module _ (l : 1 ≤ taken) (next : Next) (work' : List ℕ)
@@ -268,7 +268,7 @@ module _ (sheet codes before : List ℕ) where
             refusal x ran f =
                 stops ran work' (above ∙ g.kept) [] (λ z. x (sym f ∙ z))
                 (now_runs ran.fault []
-                (refused m.answer _ (rw (sym t) l) (omega (arith, g.tall)) applied (sym (f ∙ m.fault-is)) (λ z. x (sym f ∙ z))))
+                (refused m.answer _ (rw (sym t) l) (omega (arith, g.tall)) applied (sym (f ∙ m.fault_is)) (λ z. x (sym f ∙ z))))
 
             pub list_turn : next.fault ≡ 0
                 → Going work' (set stack (height - taken) next.list) (exchanged slots height (height - taken)) (height - taken + 1)
@@ -280,11 +280,11 @@ module _ (sheet codes before : List ℕ) where
                 (stacked_kept sheet work stack _ slots _ (get_or slots height 0) fits m.slot m.wide (drop taken g.st)
                 (stacked_drop sheet work stack slots taken g.st g.stacked)
                 (λ n k. ((under next.list n k).0, (under next.list n k).1, far n (omega (arith, length-drop taken g.st, g.tall))))))
-                (λ fault end r. made m.answer _ (rw (sym t) l) (omega (arith, g.tall)) applied (sym m.fault-is ∙ z) (rw t at r))
+                (λ fault end r. made m.answer _ (rw (sym t) l) (omega (arith, g.tall)) applied (sym m.fault_is ∙ z) (rw t at r))
               where
                 here : Stands sheet work' next.list (get_or slots height 0) (take (count_in m.answer) m.slot)
                 here =
-                    rw (m.list-is, m.after_is)
+                    rw (m.list_is, m.after_is)
                     (record {
                       names =
                           sym (take-take (count_in m.answer) most_words _ m.short)

@@ -74,7 +74,8 @@ module _ (sheet work : List ℕ) (stack stack' : List Source) (slots slots' : Li
   stacked_kept [] s h = tt
   stacked_kept (l ∷ st) s h = (top, stacked_kept st s.1 (λ k i. h k (omega arith)))
     where
-      here : (get_or stack' (length st) nowhere ≡ get_or stack (length st) nowhere) × (get_or slots' (length st) 0 ≡ get_or slots (length st) 0)
+      here : (get_or stack' (length st) nowhere ≡ get_or stack (length st) nowhere) ×
+          (get_or slots' (length st) 0 ≡ get_or slots (length st) 0)
           × ((get_or slots (length st) 0 + most_words ≤ at) ⊎ (at + most_words ≤ get_or slots (length st) 0))
       here = h (length st) (omega arith)
 

@@ -53,9 +53,9 @@ module _ (w : ℕ) (sheet work : List ℕ) (a b : Source) (at : ℕ) (answer : W
           slot = part.slot;
           wide = slot_long work at most_words r.fits;
           applied = part.applied;
-          list-is = refl;
+          list_is = refl;
         };
-        fault-is = f;
+        fault_is = f;
         short = part.short;
-        list-is = l;
+        list_is = l;
       }

@@ -1,5 +1,7 @@
 // Code words worked out one after the other on a stack of lists, each read where it stands: on the sheet, among the constants, or in a slot
 // of the caller's work area. Other code words than a formula's are worked out as they are, so that every call has an answer.
+#![tactic(auto)]
+
 ghost use Rattle.std.specs.Prelude.{◌≡◌, ◌++◌, ◌<◌, ◌≤◌, ◌+◌, length, get_or};
 ghost use Rattle.code_words.specs.CodeWords.{operands_of};
 ghost use Rattle.signals.specs.Words.{most_words};
@@ -29,7 +31,7 @@ const NOWHERE: Source = Source {
 };
 
 // What working code words out gives: the fault of the first that meets one, or 0; and where the topmost list and the one below it stand.
-#[derive(Drop)]
+#[derive(Clone, Copy)]
 pub struct Ran {
     pub fault: u32,
     pub top: Source,
@@ -37,7 +39,7 @@ pub struct Ran {
 }
 
 // What one part makes: its fault, or 0, and where its list stands.
-#[derive(Drop)]
+#[derive(Clone, Copy)]
 struct Next {
     fault: u32,
     list: Source,

@@ -1,0 +1,42 @@
+-- `combining::join_words` meets its contract, as `latch_words` does: a connective's values are cells of its table.
+use mathlib.Core.Path.{refl, ◌∙◌}
+use mathlib.Core.Bool.{false}
+use Rattle.signals.specs.Words.{value_after}
+use Rattle.showing.specs.declared.Operation.TheVariants.{Connective}
+use Rattle.merging.proofs.Along.{along_turn, along_falls, along_end, first_cell, date_cells}
+use Rattle.combining.proofs.WordLoops.{words_start, words_built}
+use Rattle.combining.proofs.join_words.Goals as goal
+
+pub loop-date-init : goal.loop-date-init
+loop-date-init c = (
+  refl,
+  words_start Connective _ _ _ (λ i. (c.type_inv.a i).fits)
+      (λ i. (c.type_inv.b i).fits) c.requires _ _ c.start_in-x.ensures c.start_in-y.ensures
+      _ _ _ _ c.earlier-date.ensures,
+)
+
+pub loop-date-smaller : goal.loop-date-smaller
+loop-date-smaller c =
+    let at = c.loop-date in
+    along_falls _ _ _ _ _ _ _ _ _ _ _ at.invariant.1 c.loop-date-test.true _ _ c.past_in-u.ensures c.past_in-v.ensures
+
+pub loop-date-preserved : goal.loop-date-preserved
+loop-date-preserved c =
+    let at = c.loop-date in (
+      c.emit-made.auto.slot ∙ at.invariant.0,
+      along_turn _ _ _ _ _ _ _ _ _ _ _ at.invariant.1 c.loop-date-test.true _ _ c.past_in-u.ensures
+          c.past_in-v.ensures _
+          (date_cells _ false c.past_in-u.result.step.before _ _ _ _ _ _ c.cell_of-value.ensures
+          c.cell_of-after.ensures) _ _ c.emit-made.ensures _ c.earlier-date-in-loop-date.ensures,
+    )
+
+pub shape_of-slot : goal.shape_of-slot
+shape_of-slot c = c.loop-date.invariant.0 ∙ c.begin-made.auto.slot
+
+pub returns : goal.returns
+unfolding value_after
+returns c =
+    words_built Connective _ _ _ (λ i. (c.type_inv.a i).fits)
+    (λ i. (c.type_inv.b i).fits) c.requires _ _ c.start_in-x.ensures c.start_in-y.ensures _
+    (first_cell _ _ _ _ c.cell_of-first.ensures) _ _ _ c.begin-made.ensures _ _
+    (along_end _ _ _ _ _ _ _ _ _ _ _ c.loop-date.invariant.1 c.loop-date-test.false)

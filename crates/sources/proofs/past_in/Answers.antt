@@ -1,0 +1,13 @@
+-- `sources::past_in` passes a word of the date, and reads the next one only then.
+use mathlib.Core.Path.{sym}
+use Rattle.signals.specs.Words.{value_at, value_after}
+use Rattle.sources.proofs.Going.{taken_is, past_kept}
+use Rattle.sources.proofs.past_in.Goals as goal
+
+pub returns-then-at-date : goal.returns-then-at-date
+unfolding value_at value_after
+returns-then-at-date c = taken_is _ _ _ _ c.if-at-date.true c.reader_in.ensures
+
+pub returns : goal.returns
+unfolding value_at value_after
+returns c = sym (past_kept _ _ _ c.if-at-date.false)
