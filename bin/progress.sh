@@ -1,19 +1,33 @@
 # shellcheck shell=sh disable=SC2154
 # How far a build of the tools is, and about how long it will take yet: for bin/proved.sh, which sources it. It reads the log of
 # the build, which goes on whatever becomes of it.
-#   watch NAME..     begins to tell; the NAMEs are those that `rt check` is given, if it is run at all
-#   clocked NAME COMMAND..   runs a step that is no crate of `rt check`, and notes its seconds in the log
+#   watch NAME..     begins to tell; the NAMEs are the crates that rt is run for, in their order, if it is run at all
+#   clocked NAME COMMAND..   runs a step, of one of these crates or of cargo, and notes its seconds in the log
 #   unwatch          ends the telling
 #   keep_times       keeps the seconds of this build for the next one
-#   below NAME       prints the crates that a crate names in crates.txt
+#   is_due NAME      whether rt seems to have to prove a crate that is told of
+#   below NAME..     prints the crates of crates.txt that these crates stand on, each after those that it stands on itself
 # Known are the seconds of the last builds here (target/tools/times), else those of bin/times.txt.
 
-below() { # NAME
-    awk -v name="$1" '
-        { sub(/#.*/, ""); at = index($0, ":") }
-        at { crate = substr($0, 1, at - 1); gsub(/[ \t]/, "", crate); listed[crate] = 1 }
-        at && crate == name { named = substr($0, at + 1) }
-        END { n = split(named, names, " "); for (i = 1; i <= n; i++) if (names[i] in listed) print names[i] }' "$root/crates.txt"
+# Reads a line of crates.txt in awk: the crate, and what it uses.
+# shellcheck disable=SC2016
+line_of_crate='
+    { sub(/#.*/, ""); at = index($0, ":"); if (!at) at = length($0) + 1; name = substr($0, 1, at - 1); split(name, words, " ") }
+    words[1] != "" { used[words[1]] = substr($0, at + 1) }'
+
+below() { # NAME..
+    awk -v wanted="$*" "$line_of_crate"'
+        function visit(name,    names, n, i) {
+            if (name in met) return
+            met[name] = 1
+            n = split(used[name], names, " ")
+            for (i = 1; i <= n; i++) if (names[i] in used) {
+                visit(names[i])
+                if (!(names[i] in printed)) print names[i]
+                printed[names[i]] = 1
+            }
+        }
+        END { n = split(wanted, names, " "); for (i = 1; i <= n; i++) visit(names[i]) }' "$root/crates.txt"
 }
 
 clocked() { # NAME COMMAND..
@@ -23,85 +37,65 @@ clocked() { # NAME COMMAND..
     echo "make: $clock made ($(($(date +%s) - started)) s)" >>"$temporary/log"
 }
 
-# The crates that rt will prove: those with no stamp, or with a file newer than it (the plan adds what stands on them). All, where
-# another toolchain proved them.
-changed() {
+# Those of some crates that rt will prove: those with no stamp of rt's, as the library for C never has one, or with a source newer
+# than it (the plan adds what stands on them). All, where another toolchain proved them.
+changed() { # NAME..
     read -r _ last 2>/dev/null <"$keep/proved" || last=$by
-    awk '{ sub(/#.*/, "") } /:/ { sub(/[ \t]*:.*/, ""); print $1 }' "$root/crates.txt" | while read -r crate; do
-        stamp=$root/target/stamp/$crate
-        if [ "$last" = "$by" ] && [ -f "$stamp" ] &&
-            [ -z "$(find "$root/crates/$crate" -name must-fail -prune -o -newer "$stamp" -print 2>/dev/null | head -n 1)" ]; then
-            continue
-        fi
+    for crate; do
+        for stamp in "$root/crates/$crate/out/rlib/stamp" "$root/crates/$crate/out/$crate.stamp"; do
+            if [ "$last" = "$by" ] && [ -f "$stamp" ] && [ -z "$(cd "$root/crates/$crate" &&
+                find src specs proofs -newer "$stamp" -print 2>/dev/null | head -n 1)" ]; then
+                continue 2
+            fi
+        done
         echo "$crate"
     done
 }
 
-# What the build goes through, in its order: the number of the turn, the name, its known seconds, and whether it is to be made (1)
-# or stands (0). A turn is what runs at one time: rt takes a level of crates after the other, some crates of it at a time.
+# What the build goes through, in its order: the name, its known seconds, and whether it is to be made (1) or stands (0).
 plan() { # NAME..
-    jobs=${RT_JOBS:-$(nproc 2>/dev/null || echo 1)}
-    [ "$jobs" -le 4 ] 2>/dev/null || jobs=4
-    changed >"$temporary/changed"
+    changed "$@" >"$temporary/changed"
     cat "$root/bin/times.txt" "$keep/times" 2>/dev/null >"$temporary/known"
-    awk -v jobs="$jobs" -v wanted="$*" '
-        { sub(/#.*/, "") }
-        FILENAME ~ /known$/ { if (NF == 2) seconds[$1] = $2; next }
-        FILENAME ~ /changed$/ { todo[$1] = 1; next }
-        { at = index($0, ":") }
-        at { name = substr($0, 1, at - 1); gsub(/[ \t]/, "", name); below[name] = substr($0, at + 1) }
-        function visit(name,    names, n, i) {
-            if (name in level) return
-            level[name] = 0
-            n = split(below[name], names, " ")
-            for (i = 1; i <= n; i++) if (names[i] in below) {
-                visit(names[i])
-                if (level[names[i]] >= level[name]) level[name] = level[names[i]] + 1
-                if (todo[names[i]]) todo[name] = 1
-            }
-            order[++count] = name
-            if (level[name] > highest) highest = level[name]
-        }
-        function put(name, isto) { print turn, name, name in seconds ? seconds[name] : average, isto + 0 }
+    awk -v wanted="$*" '
+        FILENAME ~ /known$/ { sub(/#.*/, ""); if (NF == 2) seconds[$1] = $2; next }
+        FILENAME ~ /changed$/ { todo[$1] = 1; next }'"$line_of_crate"'
         END {
             for (name in seconds) { sum += seconds[name]; known++ }
             average = known ? sum / known : 10
-            n = split(wanted, names, " ")
-            for (i = 1; i <= n; i++) visit(names[i])
-            for (at = 0; n && at <= highest; at++) {
-                inturn = 0
-                turn++
-                for (i = 1; i <= count; i++) if (level[order[i]] == at) {
-                    if (inturn++ == jobs) { turn++; inturn = 1 }
-                    put(order[i], todo[order[i]])
-                }
+            todo["cargo"] = 1
+            n = split(wanted " cargo", order, " ")
+            for (i = 1; i <= n; i++) {
+                name = order[i]
+                m = split(used[name], names, " ")
+                for (j = 1; j <= m; j++) if (names[j] in used && todo[names[j]]) todo[name] = 1
+                print name, name in seconds ? seconds[name] : average, todo[name] + 0
             }
-            turn++
-            if (n) { put("capi", 1); turn++ }
-            put("cargo", 1)
         }' "$temporary/known" "$temporary/changed" "$root/crates.txt"
 }
 
-# By the plan and the log: how many crates are proved and how many there are to prove, the known seconds of the turns that are over,
-# of the present one and of those to come, and what is under way.
+# By the plan and the log: how many crates are proved and how many there are to prove, the known seconds of what is made, of what is
+# under way and of what is to come, and what is under way.
 reckon() {
     awk '
-        FILENAME ~ /plan$/ { turn[$2] = $1; seconds[$2] = $3; todo[$2] = $4; order[++count] = $2; last = $1; next }
-        /^(rt: [a-zA-Z0-9_]+ proved|make: [a-z]+ made) \([0-9]+ s\)$/ { done[$2] = todo[$2] = 1 }
-        /^rt: [a-zA-Z0-9_]+ proved \(unchanged/ && !done[$2] { todo[$2] = 0 }
+        FILENAME ~ /plan$/ { seconds[$1] = $2; todo[$1] = $3; order[++count] = $1; next }
+        /^make: [a-z0-9_]+ made \([0-9]+ s\)$/ { done[$2] = 1 }
         END {
             for (i = 1; i <= count; i++) if (todo[name = order[i]]) {
-                t = turn[name]
                 if (name != "cargo") { all++; proved += done[name] }
-                if (done[name]) reached = t
-                else open[t] = 1
-                if (seconds[name] > longest[t]) longest[t] = seconds[name]
+                if (done[name]) past += seconds[name]
+                else if (present != "") rest += seconds[name]
+                else { present = name; now = seconds[name] }
             }
-            for (t = 1; t <= last; t++) if (!open[t] || t < reached) past += longest[t]; else if (now) rest += longest[t]; else now = t
-            for (i = 1; i <= count; i++) if (todo[order[i]] && turn[order[i]] == now && !done[order[i]])
-                names = names (names == "" ? "" : ", ") order[i]
-            print proved + 0, all + 0, past + 0, longest[now] + 0, rest + 0, names
+            print proved + 0, all + 0, past + 0, now + 0, rest + 0, present
         }' "$temporary/plan" "$temporary/log"
+}
+
+# Whether the plan has a crate as one that is to be made.
+is_due() { # NAME
+    while read -r made _ isto; do
+        [ "$made" != "$1" ] || return "$((1 - isto))"
+    done <"$temporary/plan"
+    return 1
 }
 
 minutes() { # SECONDS
@@ -116,10 +110,10 @@ columns() {
 }
 
 # Tells every second on a terminal, on one line, and every ten seconds elsewhere. The seconds to come are taken as many times
-# longer, or shorter, as those of the turns that are over were, or that the present turn takes already; at the start, when that says
+# longer, or shorter, as those of the steps that are over were, or that the present step takes already; at the start, when that says
 # little, as they are known.
 tell() {
-    began=$(date +%s) over=0 at=0 every=10 asleep=''
+    over=0 at=0 every=10 asleep=''
     [ ! -t 2 ] || every=1
     trap '[ -z "$asleep" ] || kill "$asleep" 2>/dev/null; exit 0' TERM
     while sleep "$every" 2>/dev/null & asleep=$! && wait "$asleep" && kill -0 $$ 2>/dev/null; do
@@ -163,6 +157,7 @@ TOLD
 watch() { # NAME..
     (plan "$@") >"$temporary/plan" 2>/dev/null
     (announce) || :
+    began=$(date +%s)
     tell </dev/null >/dev/null 9>&- &
     watcher=$!
 }
@@ -175,11 +170,13 @@ unwatch() {
     [ ! -t 2 ] || (printf "\r%$(columns)s\r" '' >&2) || :
 }
 
+# Of a crate that stood, and was not proved, the seconds of when it was are kept.
 keep_times() {
     cat "$keep/times" 2>/dev/null >"$temporary/last.times"
     awk '
         FILENAME ~ /times$/ { if (NF == 2) seconds[$1] = $2; next }
-        /^(rt: [a-zA-Z0-9_]+ proved|make: [a-z]+ made) \([0-9]+ s\)$/ { seconds[$2] = substr($4, 2) }
+        /^logic=proved / { proved = 1 }
+        /^make: [a-z0-9_]+ made \([0-9]+ s\)$/ { if (proved || $2 == "cargo") seconds[$2] = substr($4, 2); proved = 0 }
         END { for (name in seconds) print name, seconds[name] }' "$temporary/last.times" "$temporary/log" 2>/dev/null |
         LC_ALL=C sort >"$temporary/times"
     mv -- "$temporary/times" "$keep/times" 2>/dev/null || :

@@ -84,9 +84,10 @@ make_room() {
     fi
 }
 
-# The digest of files and folders of the repository: the names and contents of all their files.
+# The digest of files and folders of the repository: the names and contents of all their files, but of those that rt and cargo make.
 digest() { # NAME..
-    files=$(cd "$root" && find -L "$@" -path bindings/rust/target -prune -o -type f -exec sha256sum {} + 2>/dev/null) || return 1
+    files=$(cd "$root" && find -L "$@" -path bindings/rust/target -prune -o -path 'crates/*/out' ! -path 'crates/*/*/out' -prune -o \
+        -type f -exec sha256sum {} + 2>/dev/null) || return 1
     printf '%s\n' "$files" | LC_ALL=C sort | sha256sum | cut -d ' ' -f 1
 }
 
@@ -160,12 +161,13 @@ missing() { # COMMAND..
     done
 }
 
-# Runs a command in the repository with a log of what it says, and ends where it fails. It has a group of processes of its own.
-step() { # WHAT COMMAND..
-    what=$1
-    shift
+# Runs a command in a folder of the repository with a log of what it says, and ends where it fails. It has a group of processes of
+# its own.
+step() { # WHAT FOLDER COMMAND..
+    what=$1 at=$2
+    shift 2
     checking=yes
-    (cd "$root" && TMPDIR=$temporary exec setsid "$@") </dev/null >>"$temporary/log" 2>&1 &
+    (cd "$root/$at" && TMPDIR=$temporary exec setsid "$@") </dev/null >>"$temporary/log" 2>&1 &
     wait "$!"
     status=$?
     checking=''
@@ -175,25 +177,42 @@ step() { # WHAT COMMAND..
     trouble "$what ended with status $status"
 }
 
-# Proves and builds the programs and the library. Without what is removed here, rt builds it anew and runs the programs on their
-# stored input: what stands there afterwards is of this check. It proves what the library stands on along with the programs, some
-# crates at a time, and then the library.
+# Proves and builds a program, runs it on its stored input, and ends where it prints something else than what is stored.
+ran() { # NAME
+    input=stdin
+    [ -f "$root/crates/$1/stdin" ] || input=/dev/null
+    # shellcheck disable=SC2016
+    step "the program $1 could not be built: rt run" "crates/$1" sh -c 'exec rt run <"$1" >"$2"' sh "$input" "$temporary/printed"
+    stored=$root/crates/$1/stdout
+    [ ! -f "$stored" ] || [ "$(sha256sum <"$stored")" = "$(sha256sum <"$temporary/printed")" ] ||
+        trouble "the program $1 is built, and does not print what crates/$1/stdout has"
+}
+
+# Proves and builds the programs and the library. Without what is removed here, rt builds it anew: what stands there afterwards is of
+# this check. The libraries that they stand on rt would prove along with them, where these are new or changed; those that seem to be it
+# proves before, one after the other, so that it can be told how far it is.
 prove() {
     for name in $programs; do
-        rm -f -- "$root/target/stamp/$name" "$root/target/bin/$name"
+        rm -f -- "$root/crates/$name/out/$name" "$root/crates/$name/out/$name.stamp"
     done
-    rm -f -- "$root/target/staticlib/$library"
-    # shellcheck disable=SC2046,SC2086
-    set -- $programs $(below capi)
-    watch "$@"
-    step "the programs could not be built: rt check" rt check "$@"
-    clocked capi step "the library could not be built: rt staticlib capi" rt staticlib capi
+    rm -f -- "$root/crates/capi/out/$library"
+    # shellcheck disable=SC2086
+    libraries=$(below $programs capi)
+    # shellcheck disable=SC2086
+    watch $libraries $programs capi
+    for name in $libraries; do
+        ! is_due "$name" || clocked "$name" step "the library $name could not be proved: rt lib" "crates/$name" rt lib
+    done
+    for name in $programs; do
+        clocked "$name" ran "$name"
+    done
+    clocked capi step "the library could not be built: rt lib" crates/capi rt lib
     [ "$(digest crates.txt crates)" = "$sources" ] || trouble "the sources changed while they were being checked: try again"
     set --
     for name in $programs; do
-        set -- "$@" "$root/target/bin/$name"
+        set -- "$@" "$root/crates/$name/out/$name"
     done
-    record proved "$sources $by" "$@" "$root/target/staticlib/$library"
+    record proved "$sources $by" "$@" "$root/crates/capi/out/$library"
 }
 
 # Builds the tools over the kept library.
@@ -204,7 +223,7 @@ bind() {
     for name in $tools; do
         rm -f -- "$cargo/release/$name" "$cargo"/*/release/"$name"
     done
-    clocked cargo step "the tools could not be built: cargo build" \
+    clocked cargo step "the tools could not be built: cargo build" . \
         env -u CARGO_BUILD_TARGET RASCRUNEL_LIB="$keep" CARGO_TARGET_DIR="$cargo" \
         cargo build --manifest-path bindings/rust/Cargo.toml --bins --release --offline --locked --quiet
     [ "$(digest "target/tools/$library" bindings/rust)" = "$bound" ] || trouble "bindings/rust changed while it was being built: try again"
@@ -219,6 +238,11 @@ bind() {
     record bound "$bound" "$@"
 }
 
+# A crate's folder, or its out/, that cannot be written, if there is one: rt builds there.
+unwritable() {
+    find "$root/crates" -mindepth 1 -maxdepth 2 -type d \( ! -path "$root/crates/*/*" -o -name out \) ! -writable -print -quit 2>&1
+}
+
 # Makes whatever is not kept. One use, of any script, does so at a time.
 make_all() {
     needed=''
@@ -229,15 +253,15 @@ make_all() {
     if ! mkdir -p -- "$keep" 2>/dev/null || [ -n "$(find "$root/target/" ! -writable -print -quit 2>&1)" ]; then
         trouble "the tools are to be made first, and $root/target cannot be written"
     fi
+    [ -z "$needed" ] || [ -z "$(unwritable)" ] || trouble "the tools are to be made first, and $(unwritable) cannot be written"
     exec 9>"$root/target/proving"
     if ! flock -n 9; then
         mention "another use is making the tools: waiting for it"
         until flock -w 1 9; do :; done
     fi
     if ! all_kept; then
+        # Temporary files of rt and cargo go there too.
         make_room
-        # Temporary files of rt go there too; run by root, it runs the programs as nobody, who has to reach them.
-        chmod 711 "$temporary"
         : >"$temporary/log"
         # shellcheck disable=SC2086
         proved_kept $programs $library || prove

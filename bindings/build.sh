@@ -21,18 +21,10 @@ trap 'if [ -n "$programs" ]; then kill "$programs" 2>/dev/null || true; wait "$p
 trap 'exit 1' HUP INT TERM
 repository=$copy/repository
 mkdir "$repository" "$copy/tmp"
-for part in crates crates.txt bin bindings include examples README.md .gitignore; do
-    cp -R "$root/$part" "$repository/"
-done
-# Crates proved before and unchanged since are not proved again: the gate runs these tests after rt ci has proved all from nothing. Their
-# libraries are linked where the file system can (rt writes a library anew, and never into an old one), else copied.
-if [ -d "$root/target/rlib" ] && [ -d "$root/target/stamp" ]; then
-    mkdir "$repository/target"
-    cp -R "$root/target/stamp" "$repository/target/"
-    cp -al "$root/target/rlib" "$repository/target/rlib" 2>/dev/null || {
-        rm -rf "$repository/target/rlib" && cp -R "$root/target/rlib" "$repository/target/rlib"
-    }
-fi
+# Without what rt built in the checkout: it takes by itself what its commands kept in checkouts of this machine, and the same text is not
+# proved twice. (What rt ci alone has proved it proves again here.)
+(cd "$root" && find crates -path 'crates/*/out' ! -path 'crates/*/*/out' -prune -o -type f -print) >"$copy/files"
+(cd "$root" && tar -cf - -T "$copy/files" crates.txt bin bindings include examples README.md .gitignore) | tar -xf - -C "$repository"
 
 fail() {
     echo "bindings: $1" >&2

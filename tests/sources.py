@@ -7,6 +7,8 @@ ANTT = re.compile(r'\s+|--[^\n]*|"(?:\\.|[^"\\])*"|«[^»]*»|[(){}.;,@]|[^\s(){
 RATTLE = re.compile(r"""\s+|//[^\n]*|b?"(?:\\.|[^"\\])*"|b'(?:\\.|[^'\\])'|'\w+|->|\w+|.""", re.S)
 MARKS = ("pub", "unfoldable", "abbrev", "axiom")
 CLAUSES = ("ghost", "requires", "ensures")
+# the files of a function's own proof
+OWN = ("Invariants", "Answers", "Proof")
 # the libraries of the test programs, no part of the product
 TEST_SUPPORT = {"fields", "notation", "answers", "list_calls", "column_calls", "sheet_calls"}
 TEST_SUPPORT |= {"random_formulas", "random_sheets", "stepping", "random_calls"}
@@ -16,9 +18,19 @@ class Token(str):
     """A token's text; its column, whether it begins its line, and whether it touches the token before it."""
 
 
+class Clause(list):
+    """The antt tokens of a clause, and the word that it begins with: `ensures` of `ensures low { .. }`."""
+
+
 def read(path):
     with open(path, encoding="utf-8") as file:
         return file.read()
+
+
+def crates():
+    """The crates of crates.txt, each with the libraries that it uses."""
+    lines = [line.partition("#")[0].partition(":") for line in read("crates.txt").splitlines()]
+    return {name.split()[0]: names.split() for name, _, names in lines if name.strip()}
 
 
 def below_floor(kind, numbers):
@@ -82,22 +94,24 @@ def is_name(token):
     return token not in ("(", ")", "{", "}", ".", ";", ",", "@", ":", "=", "→", "λ") and token[0] != '"'
 
 
+def leads_on(tokens, i):
+    """Whether a dot stands at a place, tight between what is before it and a name."""
+    return tokens[i : i + 1] == ["."] and all(t.touches for t in tokens[i : i + 2]) and any(map(is_name, tokens[i + 1 : i + 2]))
+
+
 def paths(tokens):
-    """The names, those joined by dots as one tuple; `x .field` gives x and no field."""
+    """The names, those joined by dots as one tuple; `(g x).field` gives g and x and no field, and so does `x .field`."""
     found, i = [], 0
     while i < len(tokens):
         if tokens[i] == "." and not tokens[i].touches:
             i += 1
-        elif is_name(tokens[i]):
+        elif is_name(tokens[i]) or tokens[i] in (")", "}"):
             path = [tokens[i]]
-            while (
-                tokens[i + 1 : i + 2] == ["."]
-                and all(t.touches for t in tokens[i + 1 : i + 3])
-                and any(map(is_name, tokens[i + 2 : i + 3]))
-            ):
+            while leads_on(tokens, i + 1):
                 path.append(tokens[i + 2])
                 i += 2
-            found.append(tuple(path))
+            if is_name(path[0]):
+                found.append(tuple(path))
         i += 1
     return found
 
@@ -123,11 +137,6 @@ def chunks(tokens):
             found.append([])
         found[-1].append(token)
     return found
-
-
-def full(path):
-    """A path as other crates write it: a crate's own `Rattle·c·specs.specs.M` is `Rattle·c.specs.M`."""
-    return ".".join([re.sub(r"^(Rattle·\w+)·(?:specs|proofs)$", r"\1", path[0]), *path[1:]])
 
 
 class Declaration:
@@ -162,6 +171,9 @@ class Module:
                 self.read(chunk[where + 1 :], parameters + chunk[1:where])
             elif chunk[0] == "mutual":
                 self.read(chunk[1:], parameters)
+            elif chunk[0] == "ruleset":
+                last = self.declare(chunk[1], public, parameters, [])
+                last.mention(chunk[2:])
             elif chunk[0] in ("data", "record"):
                 last = self.declare(chunk[1], public, parameters + chunk[2 : min(colon, where)], chunk[colon + 1 : where])
                 last.data = True
@@ -183,9 +195,8 @@ class Module:
         return self.declared[name]
 
     def use(self, tokens):
-        tokens = tokens[2:] if tokens[0] == "package" else tokens
         if "{" not in tokens:
-            self.qualifiers[tokens[-1]] = full(paths(tokens)[0])
+            self.qualifiers[tokens[-1]] = ".".join(paths(tokens)[0])
             return
         brace = tokens.index("{")
         module, item = list(paths(tokens[:brace])[0]), []
@@ -194,23 +205,29 @@ class Module:
                 item.append(token)
             elif item:
                 end = item.index("as") if "as" in item else len(item)
-                self.items[item[-1]] = full(module + [t for t in item[:end] if t != "."])
+                self.items[item[-1]] = ".".join(module + [t for t in item[:end] if t != "."])
                 item = []
 
 
+def is_own(rest):
+    """Whether a path below proofs/ is of a function's own proof."""
+    return len(rest) > 1 and rest[-1] in OWN
+
+
 class Sources:
-    """The modules of all crates, by their full paths. A function's own proof (a file Proof.antt) holds no term of a statement."""
+    """The modules of all crates, by their full paths. A function's own proof (of the files OWN, in a folder of proofs/) holds no term of a
+    statement."""
 
     def __init__(self):
         self.modules = {}
         for path in sorted(glob.glob("crates/*/specs/**/*.antt", recursive=True) + glob.glob("crates/*/proofs/**/*.antt", recursive=True)):
             _, crate, part, *rest = path[: -len(".antt")].split("/")
-            if part == "specs" or rest[-1] != "Proof":
-                name = ".".join([f"Rattle·{crate}", part, *rest])
+            if part == "specs" or not is_own(rest):
+                name = ".".join(["Rattle", crate, part, *rest])
                 self.modules[name] = Module(name, read(path))
 
     def declarations(self, part):
-        return [d for m in self.modules.values() if m.path.split(".")[1] == part for d in m.declared.values()]
+        return [d for m in self.modules.values() if m.path.split(".")[2] == part for d in m.declared.values()]
 
     def find(self, module, path):
         """The declaration that a path names in a module, or None."""
@@ -218,10 +235,10 @@ class Sources:
         if first in module.owners:
             return module.owners[first]
         if rest:
-            return self.at(module.qualifiers.get(first, full([first])).split(".") + list(rest))
+            return self.at(module.qualifiers.get(first, first).split(".") + list(rest))
         if first in module.items:
             return self.at(module.items[first].split("."))
-        operator = next((name for name in [*module.owners, *module.items] if "_" in name and first in name.split("_")), None)
+        operator = next((name for name in [*module.owners, *module.items] if "◌" in name and first in name.split("◌")), None)
         return self.find(module, (operator,)) if operator else None
 
     def at(self, path):
@@ -250,9 +267,19 @@ class Function:
         self.clauses = {word: [] for word in CLAUSES}
 
 
+def clause_word(last):
+    """The word that a clause begins with, of the tokens before its bracket: `ensures`, `ensures low`, `ghost Value =`; else none."""
+    for i in range(1, 6):
+        if last[-i] in CLAUSES:
+            return last[-i]
+        if not re.fullmatch(r"\w+|[*:=]", last[-i]):
+            return None
+    return None
+
+
 def rattle_tokens(text):
     """The tokens of a file of src/; a clause is one item, the list of its antt tokens, and so is what follows `ghost use`."""
-    at, last = 0, [""]
+    at, last = 0, ["("] * 6
     while at < len(text):
         if text.startswith("/*", at):
             end = block_end(text, at, "/*", "*/")
@@ -260,10 +287,12 @@ def rattle_tokens(text):
             end = RATTLE.match(text, at).end()
         piece = text[at:end]
         if not (piece.isspace() or piece.startswith(("//", "/*"))):
-            if piece == "{" and last[-1] in CLAUSES:
+            word = clause_word(last) if piece == "{" else None
+            if word:
                 tokens, end = antt(text, end)
-                end += 1
-                yield tokens
+                clause, end = Clause(tokens), end + 1
+                clause.word = word
+                yield clause
             elif piece == "use" and last[-1] == "ghost":
                 semicolon = text.index(";", end)
                 yield piece
@@ -290,12 +319,20 @@ def rattle(text):
     return functions, module
 
 
+def told(text, crate):
+    """The lemmas and definitions that `#[tactic(auto, using(..), unfolding(..))]` names in a file of src/, at their full paths."""
+    for attribute in re.findall(r"#!?\[tactic\(.*?\]", "".join(t for t in rattle_tokens(text) if not isinstance(t, list)), re.S):
+        for path in re.findall(r"\w+(?:::\w+)+", attribute):
+            first, *rest = path.split("::")
+            yield ("Rattle", crate if first == "crate" else first, *rest)
+
+
 def head(function, tokens):
     """Reads the parameters, the result and the clauses, up to the body."""
     depth, part, inside = 0, [], True
     for i, token in enumerate(tokens):
         if isinstance(token, list):
-            function.clauses[tokens[i - 1]].append(token)
+            function.clauses[token.word].append(token)
             continue
         if not inside and depth == 0 and token in ("{", ";"):
             return

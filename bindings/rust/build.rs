@@ -1,5 +1,5 @@
 // Links the proved archive: libcapi.a in the folder that RASCRUNEL_LIB names, else the newer of those in the repository's target/tools
-// (bin/make) and target/staticlib (rt staticlib capi). Where that cannot be, it says what is missing and what to do.
+// (bin/make) and crates/capi/out (rt lib). Where that cannot be, it says what is missing and what to do.
 use std::env;
 use std::fs;
 use std::path::{Path, PathBuf};
@@ -14,8 +14,8 @@ fn folders() -> Vec<PathBuf> {
     match env::var_os("RASCRUNEL_LIB") {
         Some(folder) => vec![PathBuf::from(folder)],
         None => {
-            let target = Path::new(&env::var_os("CARGO_MANIFEST_DIR").unwrap_or_default()).join("../../target");
-            vec![target.join("staticlib"), target.join("tools")]
+            let repository = Path::new(&env::var_os("CARGO_MANIFEST_DIR").unwrap_or_default()).join("../..");
+            vec![repository.join("crates/capi/out"), repository.join("target/tools")]
         }
     }
 }
@@ -32,7 +32,7 @@ fn trouble(archive: &Path) -> Option<String> {
     if machine != ("x86_64".into(), "linux".into()) {
         return Some(format!("the proved library is for x86-64 Linux, not for {} {}", machine.0, machine.1));
     }
-    let make = "type `bin/make` in the repository, which makes all tools, or `rt staticlib capi`, which makes the archive";
+    let make = "type `bin/make` in the repository, which makes all tools, or `rt lib` in its crates/capi, which makes the archive";
     let elsewhere = "where it stands elsewhere, set RASCRUNEL_LIB to its folder";
     match fs::read(archive) {
         Err(e) => Some(format!("the proved library {} cannot be read ({e}): {make}; {elsewhere}", archive.display())),

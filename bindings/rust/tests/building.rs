@@ -39,16 +39,16 @@ fn what_is_missing() {
         assert!(words.iter().all(|word| errors[0].contains(word)) && !said.contains("rustc-link"), "{said}");
     };
     let none = dir.join("none");
-    let what_to_type = ["bin/make", "rt staticlib capi", "RASCRUNEL_LIB"];
+    let what_to_type = ["bin/make", "rt lib", "RASCRUNEL_LIB"];
     refused(Some(&none), here, &[&[none.join("libcapi.a").to_str().unwrap(), "cannot be read"], what_to_type.as_slice()].concat());
     refused(None, here, &[&["bindings/rust/../../target/tools/libcapi.a"], what_to_type.as_slice()].concat());
     refused(Some(&none), ("aarch64", "macos"), &["x86-64 Linux", "aarch64 macos"]);
     fs::write(dir.join("libcapi.a"), "!<arch>\nsgl_claim sgl_value_at sgl_value_in").unwrap();
     refused(Some(&dir), here, &["older than these bindings", "sgl_values", "bin/make"]);
     // without a folder named, the newer of the two of the repository
-    for (older, newer) in [("tools", "staticlib"), ("staticlib", "tools")] {
+    for (older, newer) in [("target/tools", "crates/capi/out"), ("crates/capi/out", "target/tools")] {
         for (name, seconds) in [(older, 1_000), (newer, 2_000)] {
-            let folder = dir.join("target").join(name);
+            let folder = dir.join(name);
             fs::create_dir_all(&folder).unwrap();
             let archive = fs::File::create(folder.join("libcapi.a")).unwrap();
             (&archive).write_all(b"sgl_values").unwrap();
@@ -56,10 +56,7 @@ fn what_is_missing() {
         }
         fs::create_dir_all(dir.join("bindings/rust")).unwrap();
         let said = said(&script, None, here);
-        assert!(
-            said.contains(&format!("rustc-link-search=native={}", dir.join("bindings/rust/../../target").join(newer).display())),
-            "{said}"
-        );
+        assert!(said.contains(&format!("rustc-link-search=native={}", dir.join("bindings/rust/../..").join(newer).display())), "{said}");
     }
     // the archive that these tests are linked with
     if let Some(lib) = env::var_os("RASCRUNEL_LIB") {
