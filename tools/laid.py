@@ -16,6 +16,7 @@ import re
 import subprocess
 import sys
 import tempfile
+from itertools import zip_longest
 
 sys.dont_write_bytecode = True
 sys.path.insert(0, os.path.dirname(os.path.abspath(__file__)))
@@ -303,7 +304,7 @@ class Laid:
                 said["edits"].append((name, "is new" if a is None else "IS GONE", None, "", ""))
                 continue
             la, lb = edit_lines(a), edit_lines(b)
-            refused = re.search(r"^# refused: ([^\n]*)", b, re.M)
+            refused = re.search(rf"^{crate}/{re.escape(name[: -len('.edit')])}: ([^\n]*)", read("tests/refused.txt"), re.M)
             if la == lb:
                 continue
             same = len(la) == len(lb) and all(self.edit_words(x[1]) == self.edit_words(y[1], False) for x, y in zip(la, lb))
@@ -376,7 +377,7 @@ def shown(crate, said, full):
     words = [e for e in said["edits"] if e[1] != "spelling"]
     for name, how, refused, la, lb in words:
         out.append(f"- Edit `{name}`: {how}; refused: {refused}")
-        out += [f"\n      - {k}: {x}\n      + {q}: {y}" for (k, x), (q, y) in zip(la, lb) if (k, x) != (q, y)] + [""]
+        out += [f"\n      - {k}: {x}\n      + {q}: {y}" for (k, x), (q, y) in zip_longest(la, lb, fillvalue=("none", "")) if (k, x) != (q, y)] + [""]
     spelled = [(name, refused) for name, how, refused, _, _ in said["edits"] if how == "spelling"]
     if spelled:
         out.append("- Edits in today's spelling: " + "; ".join(f"{n[:-5]} ({place(r)})" for n, r in spelled) + ".")
