@@ -19,8 +19,7 @@ fn put16(out: &mut [u8], at: usize, n: usize)
     requires { at + 2 ≤ length out.old }
     ensures { out.new ≡ placed out.old at (bytes16 n) }
 {
-    out[at] = (n % 256) as u8;
-    out[at + 1] = (n / 256 % 256) as u8;
+    out[at..at + 2].copy_from_slice(&n.to_le_bytes()[..2]);
 }
 
 // Writes a 32-bit word, low byte first.
@@ -28,10 +27,7 @@ fn put32(out: &mut [u8], at: usize, word: u32)
     requires { at + 4 ≤ length out.old }
     ensures { out.new ≡ placed out.old at (bytes32 word) }
 {
-    out[at] = (word % 256) as u8;
-    out[at + 1] = (word / 256 % 256) as u8;
-    out[at + 2] = (word / 65536 % 256) as u8;
-    out[at + 3] = (word / 16777216 % 256) as u8;
+    out[at..at + WORD_BYTES].copy_from_slice(&word.to_le_bytes());
 }
 
 // Writes the words of a list.
@@ -39,10 +35,8 @@ fn put_words(out: &mut [u8], at: usize, list: &[u32])
     requires { at + 4 * length list.now ≤ length out.old }
     ensures { out.new ≡ placed out.old at (word_bytes list.now) }
 {
-    let mut i = 0;
-    while i < list.len() {
-        put32(out, at + WORD_BYTES * i, list[i]);
-        i += 1;
+    for (i, word) in list.iter().enumerate() {
+        put32(out, at + WORD_BYTES * i, *word);
     }
 }
 
@@ -51,10 +45,8 @@ fn put_name(out: &mut [u8], at: usize, name: &[u8])
     requires { (at + 8 ≤ length out.old) × (length name.now ≤ 8) }
     ensures { out.new ≡ placed out.old at (padded name.now) }
 {
-    let n = name.len();
-    let pad = [0u8; WORD_COUNT_AT];
     slices::put(out, at, name);
-    slices::put(out, at + n, &pad[..WORD_COUNT_AT - n]);
+    out[at + name.len()..at + WORD_COUNT_AT].fill(0);
 }
 
 // Writes a signal: its name, its word count, its words.
@@ -85,12 +77,10 @@ pub fn begin(out: &mut [u8]) -> Written
 fn append_fault(sheet: &[u8], name: &[u8], list: &[u32], room: usize) -> u32
     ensures { result ≡ append_fault sheet.now name.now list.now room }
 {
-    let looked = lookups::lookup_fault(sheet, name);
-    if looked == 0 {
-        return 16;
-    }
-    if looked != 13 {
-        return looked;
+    match lookups::lookup_fault(sheet, name) {
+        0 => return 16,
+        13 => {}
+        fault => return fault,
     }
     let bad = lists::list_fault(list);
     if bad != 0 {
@@ -100,9 +90,10 @@ fn append_fault(sheet: &[u8], name: &[u8], list: &[u32], room: usize) -> u32
         return 15;
     }
     if room < sheet.len() + (WORDS_AT + WORD_BYTES * list.len()) {
-        return 7;
+        7
+    } else {
+        0
     }
-    0
 }
 
 // Appends a signal: writes the sheet with it.

@@ -3,3 +3,4 @@ pub mod Operators
 pub mod Numbering
 pub mod AppliedExact
 mod PartsMade
+pub mod Refusals

@@ -1,11 +1,11 @@
 -- Which merge or timer a code word of a kind asks for: its exact answer is that of the operator which the code word stands for.
-use Prim.Native.Nat.{ℕ, ◌%◌, ◌≤◌, ◌<◌}
+use Prim.Native.Nat.{ℕ, ◌%◌, ◌≤◌}
 use native.Mathlib.Omega.{arith}
 use mathlib.Core.Path.{◌≡◌, refl, sym, ◌∙◌}
 use mathlib.Core.Bool.{Bool, true, false, cond, ◌||◌}
-use mathlib.Core.List.{List, [], ◌∷◌}
+use mathlib.Core.List.{List}
 use lib.Dec.{eqb, ltb}
-use borrow.Author.Tests.{eq-eqb, ne_eqb, lt-ltb, le-ltb, eqb-true, eqb-false}
+use borrow.Author.Tests.{ne_eqb, le-ltb, eqb-true, eqb-false}
 use Rattle.signals.specs.Answers.{first_of}
 use Rattle.slices.specs.Bytes.{Words}
 use Rattle.signals.specs.Moment.{M}
@@ -13,7 +13,7 @@ use Rattle.signals.specs.Signal.{Signal, NOT, rising, falling, TON, TOF}
 use Rattle.signals.specs.Words.{list_fault, pair_fault}
 use Rattle.signals.proofs.Truth.{not_both_lem}
 use Rattle.operations.specs.Calls.{length_fault, exact_of_two, exact_of_delay}
-use Rattle.showing.specs.declared.Operation.TheVariants.{Connective, Rising, Falling, SetWins, ResetWins}
+use Rattle.showing.specs.declared.Operation.TheVariants.{Connective, Rising, Falling, ResetWins}
 use Rattle.showing.specs.Showing.{merged}
 use Rattle.timing.specs.Delay.{delay_of}
 use Rattle.timing.proofs.DelaySignals.{ton_delay, tof_delay}
@@ -27,42 +27,14 @@ use Rattle.merging.proofs.OneOperand.{none, pair_of_one, exact_of_one_lem, inver
 use Rattle.grammar.specs.Kinds as kinds
 use Rattle.grammar.specs.Tree.{Unary, invert, rise, fall, ton, tof, tp}
 use Rattle.applying.specs.PartCalls.{unary_of, binary_of, unary_in, binary_in, unary_fault, unary_exact, binary_exact}
-use Rattle.applying.specs.PartCalls.{judged_for, exact_for, AND_table, OR_table}
+use Rattle.applying.specs.PartCalls.{judged_for, exact_for}
 use Rattle.applying.specs.Merges.{operation_of, table_for}
 use Rattle.applying.specs.Applied.{edged, engine_of}
 
 module _ (k : ℕ) where
-  pub is_rising : k ≡ kinds.RISING → Rising ≡ operation_of k
-  unfolding operation_of
-  is_rising e = rw (eq-eqb k kinds.RISING e)
-
-  pub is_falling : (k ≡ kinds.RISING → ⊥) → k ≡ kinds.FALLING → Falling ≡ operation_of k
-  unfolding operation_of
-  is_falling a e = rw (ne_eqb k kinds.RISING a, eq-eqb k kinds.FALLING e)
-
-  pub is_connective : (k ≡ kinds.RISING → ⊥) → (k ≡ kinds.FALLING → ⊥) → k < kinds.SR → Connective ≡ operation_of k
-  unfolding operation_of
-  is_connective a b l = rw (ne_eqb k kinds.RISING a, ne_eqb k kinds.FALLING b, lt-ltb k kinds.SR l)
-
-  pub is_set_wins : (k ≡ kinds.RISING → ⊥) → (k ≡ kinds.FALLING → ⊥) → kinds.SR ≤ k → k ≡ kinds.SR → SetWins ≡ operation_of k
-  unfolding operation_of
-  is_set_wins a b l e = rw (ne_eqb k kinds.RISING a, ne_eqb k kinds.FALLING b, le-ltb k kinds.SR l, eq-eqb k kinds.SR e)
-
   pub is_reset_wins : (k ≡ kinds.RISING → ⊥) → (k ≡ kinds.FALLING → ⊥) → kinds.SR ≤ k → (k ≡ kinds.SR → ⊥) → ResetWins ≡ operation_of k
   unfolding operation_of
   is_reset_wins a b l e = rw (ne_eqb k kinds.RISING a, ne_eqb k kinds.FALLING b, le-ltb k kinds.SR l, ne_eqb k kinds.SR e)
-
-  pub inverts : k ≡ kinds.NOT → (true ∷ true ∷ []) ∷ (false ∷ false ∷ []) ∷ [] ≡ table_for k
-  unfolding table_for
-  inverts e = rw (eq-eqb k kinds.NOT e)
-
-  pub is_and : (k ≡ kinds.NOT → ⊥) → k ≡ kinds.AND → AND_table ≡ table_for k
-  unfolding table_for
-  is_and a e = rw (ne_eqb k kinds.NOT a, eq-eqb k kinds.AND e)
-
-  pub is_or : (k ≡ kinds.NOT → ⊥) → (k ≡ kinds.AND → ⊥) → OR_table ≡ table_for k
-  unfolding table_for
-  is_or a b = rw (ne_eqb k kinds.NOT a, ne_eqb k kinds.AND b)
 
 -- a merge of one operand is one with the list that is always down
 abbrev pub OfOne : ℕ → Type 0

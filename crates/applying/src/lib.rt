@@ -13,7 +13,7 @@ use code_words::CONSTANTS;
 use marks::kind;
 use showing::Operation;
 use signals::{Length, Written};
-use sources::{Memory, Source};
+use sources::{Lent, Memory, Source};
 
 const AND: [[bool; 2]; 2] = [[false, false], [false, true]];
 
@@ -30,34 +30,28 @@ const NONE: Source = Source {
 };
 
 // The merge that a kind asks for, and its table.
+#[tactic(auto, unfolding(crate::specs::Merges::operation_of))]
 fn operation_of(kind: u64) -> Operation
     ensures { result ≡ operation_of kind }
 {
-    if kind == kind::RISING {
-        return Operation::Rising;
+    match kind {
+        kind::RISING => Operation::Rising,
+        kind::FALLING => Operation::Falling,
+        kind::SR => Operation::SetWins,
+        0..kind::SR => Operation::Connective,
+        _ => Operation::ResetWins,
     }
-    if kind == kind::FALLING {
-        return Operation::Falling;
-    }
-    if kind < kind::SR {
-        return Operation::Connective;
-    }
-    if kind == kind::SR {
-        return Operation::SetWins;
-    }
-    Operation::ResetWins
 }
 
+#[tactic(auto, unfolding(crate::specs::Merges::table_for))]
 fn table_of(kind: u64) -> [[bool; 2]; 2]
     ensures { result ≡ table_for kind }
 {
-    if kind == kind::NOT {
-        return INVERT;
+    match kind {
+        kind::NOT => INVERT,
+        kind::AND => AND,
+        _ => OR,
     }
-    if kind == kind::AND {
-        return AND;
-    }
-    OR
 }
 
 // A part's answer from what its operation gives in the slot: 5, 6, or its word count. The evaluator's operations all begin.
@@ -77,17 +71,12 @@ fn merged_at(kind: u64, sheet: &[u8], work: &mut [u32], a: Source, b: Source, at
     requires { may_merge a b at (length work.old) ≡ true }
     ensures { MergePart kind sheet.now work.old a b at result work.new }
 {
-    part_answer(merging::merge_at(
-        operation_of(kind),
-        table_of(kind),
+    let lent = Lent {
         sheet,
-        &CONSTANTS,
-        &CONSTANTS,
-        work,
-        a,
-        b,
-        at,
-    ))
+        left: &CONSTANTS,
+        right: &CONSTANTS,
+    };
+    part_answer(merging::merge_at(operation_of(kind), table_of(kind), lent, work, a, b, at))
 }
 
 // The timer of a list.
@@ -98,13 +87,16 @@ fn timed_at(code: u64, sheet: &[u8], work: &mut [u32], a: Source, at: u32) -> Wr
     let ticks = (code / 16 % 4294967296) as u32;
     let d = Length(ticks);
     let kind = code % 16;
+    let lent = Lent {
+        sheet,
+        left: &CONSTANTS,
+        right: &CONSTANTS,
+    };
     if (kind == kind::TON) | (kind == kind::TOF) {
         let on_delay = kind == kind::TON;
-        return part_answer(delay_parts::delay_at(
-            on_delay, d, sheet, &CONSTANTS, &CONSTANTS, work, a, at,
-        ));
+        return part_answer(delay_parts::delay_at(on_delay, d, lent, work, a, at));
     }
-    part_answer(pulse_parts::pulse_at(d, sheet, &CONSTANTS, &CONSTANTS, work, a, at))
+    part_answer(pulse_parts::pulse_at(d, lent, work, a, at))
 }
 
 // The operation: of the first list where it has one operand, as a merge with the list that is always down or as a timer; else of both.
@@ -127,12 +119,11 @@ fn operate(code: u64, sheet: &[u8], work: &mut [u32], a: Source, b: Source, at: 
 pub fn apply(code: u64, sheet: &[u8], work: &mut [u32], a: Source, b: Source, at: u32) -> Written
     ensures { PartAt code sheet.now work.old a b at result work.new }
 {
-    if sources::apart(a, at, WORDS as u32) {
-        if sources::apart(b, at, WORDS as u32) {
-            if at as usize + WORDS <= work.len() {
-                return operate(code, sheet, work, a, b, at);
-            }
-        }
+    if sources::apart(a, at, WORDS as u32)
+        && sources::apart(b, at, WORDS as u32)
+        && at as usize + WORDS <= work.len()
+    {
+        return operate(code, sheet, work, a, b, at);
     }
     Written::Refused(5)
 }

@@ -27,6 +27,7 @@ fn told(value: bool) -> Told
 }
 
 // The value at the instant k.
+#[tactic(auto, using(crate::proofs::Telling::value_at_is))]
 pub fn value_at(list: &[u32], k: u32) -> Told
     ensures { result ≡ value_at_of list.now k }
 {
@@ -34,17 +35,14 @@ pub fn value_at(list: &[u32], k: u32) -> Told
     if fault != 0 {
         return Told::Refused(fault);
     }
-    if k == 0 {
+    if k == 0 || k > M {
         return Told::Refused(9);
     }
-    if k > M {
-        return Told::Refused(9);
-    }
-    let step = search(list, Date(k));
-    told(step.at)
+    told(search(list, Date(k)).at)
 }
 
 // The value in the gap k.
+#[tactic(auto, using(crate::proofs::Telling::value_in_is))]
 pub fn value_in(list: &[u32], k: u32) -> Told
     ensures { result ≡ value_in_of list.now k }
 {
@@ -55,6 +53,5 @@ pub fn value_in(list: &[u32], k: u32) -> Told
     if M < k {
         return Told::Refused(9);
     }
-    let step = search(list, Date(k));
-    told(step.after)
+    told(search(list, Date(k)).after)
 }

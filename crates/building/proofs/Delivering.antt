@@ -43,35 +43,6 @@ module _ (words out : List ℕ) where
   unfolding room_fault written_of output_of
   handed h after q = (rw (le-ltb (length out) (length words) h), rw (le-ltb (length out) (length words) h) q)
 
--- the tests that the code makes
-module _ (made : Made) (slot out : List ℕ) where
-  pub too_long : most_words < made.count → Delivers made slot out (Refused 5) out
-  unfolding made_fault written_of output_of
-  too_long h = (rw (lt-ltb most_words made.count h), rw (lt-ltb most_words made.count h))
-
-  module _ (h : made.count ≤ most_words) where
-    pub not_held : length slot < made.count → Delivers made slot out (Refused 5) out
-    unfolding made_fault written_of output_of
-    not_held s = (
-      rw (le-ltb most_words made.count h, lt-ltb (length slot) made.count s),
-      rw (le-ltb most_words made.count h, lt-ltb (length slot) made.count s),
-    )
-
-    module _ (s : made.count ≤ length slot) where
-      pub too_late : made.late ≡ true → Delivers made slot out (Refused 6) out
-      unfolding made_fault written_of output_of
-      too_late l = (
-        rw (le-ltb most_words made.count h, le-ltb (length slot) made.count s, l),
-        rw (le-ltb most_words made.count h, le-ltb (length slot) made.count s, l),
-      )
-
-      pub whole : made.late ≡ false → (answer : Written) (after : List ℕ) → HandsOver (take made.count slot) out answer after
-          → Delivers made slot out answer after
-      unfolding made_fault room_fault
-      whole l answer after d =
-          let long : length (take made.count slot) ≡ made.count = length-take-le made.count slot s in
-          rw (le-ltb most_words made.count h, le-ltb (length slot) made.count s, l) (rw long at d)
-
 -- a call's words matter where it has no fault
 written_alike : (fault : ℕ) (words exact : List ℕ) → (fault ≡ 0 → words ≡ exact) → written_of fault words ≡ written_of fault exact
 unfolding written_of

@@ -1,5 +1,4 @@
 -- The laws of an answer that is built in a slot.
-pub mod Emitting
 pub mod BuildingLaws
 pub mod Built
 pub mod Scanning

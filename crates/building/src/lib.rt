@@ -10,6 +10,9 @@ use signals::{Date, M, Written};
 // The most words that an answer has.
 pub const WORDS: usize = signals::WORDS;
 
+// The words of a slot in which a short answer is built: fewer are cleared for it.
+pub const SHORT: usize = 32;
+
 // The answer being built in a slot: the value after its last word, its words counted, and whether one is dated after M.
 #[derive(Clone, Copy)]
 pub struct Made {
@@ -19,29 +22,20 @@ pub struct Made {
 }
 
 // Both values equal the value before.
+#[tactic(auto, unfolding(crate::specs::Building::idle))]
 fn idle_word(before: bool, at: bool, after: bool) -> bool
     ensures { result ≡ idle before at after }
 {
-    if at == before { after == before } else { false }
-}
-
-// A count goes round at 2^32, above the words of any answer.
-fn one_more(count: u32) -> u32
-    ensures { result ≡ one_more count }
-{
-    ((count as u64 + 1) % 4294967296) as u32
+    at == before && after == before
 }
 
 // The first word of an answer.
+#[tactic(auto, using(crate::proofs::BuildingLaws::no_place), unfolding(crate::specs::Building::begun))]
 pub fn begin(slot: &mut [u32], value: bool) -> Made
     ensures { Begins value slot.old result slot.new }
 {
-    if slot.len() != 0 {
-        if value {
-            slot[0] = 1;
-        } else {
-            slot[0] = 0;
-        }
+    if !slot.is_empty() {
+        slot[0] = u32::from(value);
     }
     Made {
         value,
@@ -51,7 +45,9 @@ pub fn begin(slot: &mut [u32], value: bool) -> Made
 }
 
 // A word of the given date and values, unless it changes nothing: counted always, stored while the slot has room and none
-// is dated after M. Made is given back field by field, so that the bytes between its fields are not copied in every turn of a loop.
+// is dated after M. The count goes round at 2^32, above the words of any answer. Made is given back field by field, so that the
+// bytes between its fields are not copied in every turn of a loop.
+#[tactic(auto, unfolding(crate::specs::Building::emitted, crate::specs::Building::emitted_in, crate::specs::Building::stores))]
 pub fn emit(slot: &mut [u32], made: Made, date: Date, at: bool, after: bool) -> Made
     ensures { Emits made date.0 at after slot.old result slot.new }
 {
@@ -62,50 +58,36 @@ pub fn emit(slot: &mut [u32], made: Made, date: Date, at: bool, after: bool) -> 
             late: made.late,
         };
     }
-    let on = date.0;
-    if made.late {
+    let count = made.count.wrapping_add(1);
+    if made.late || M < date.0 {
         return Made {
             value: after,
-            count: one_more(made.count),
-            late: true,
-        };
-    }
-    if M < on {
-        return Made {
-            value: after,
-            count: one_more(made.count),
+            count,
             late: true,
         };
     }
     let place = made.count as usize;
     if place < slot.len() {
         slot[place] = words::word_of(date, at, after) as u32;
-        return Made {
-            value: after,
-            count: one_more(made.count),
-            late: false,
-        };
     }
     Made {
         value: after,
-        count: one_more(made.count),
+        count,
         late: false,
     }
 }
 
 // Words copied to the front of the output.
+#[tactic(auto, using(copying::proofs::Copying::copied_fits))]
 fn copy_words(words: &[u32], out: &mut [u32])
     requires { length words.now ≤ length out.old }
     ensures { out.new ≡ words.now ++ drop (length words.now) out.old }
 {
-    let mut i: usize = 0;
-    while i < words.len() {
-        out[i] = words[i];
-        i += 1;
-    }
+    copying::copy(words, out);
 }
 
 // A list handed to the output if that is long enough, else 7.
+#[tactic(auto, unfolding(operations::specs::Calls::room_fault, signals::specs::Answers::written_of, signals::specs::Answers::output_of))]
 pub fn hand_over(words: &[u32], out: &mut [u32]) -> Written
     ensures { HandsOver words.now out.old result out.new }
 {
@@ -117,14 +99,12 @@ pub fn hand_over(words: &[u32], out: &mut [u32]) -> Written
 }
 
 // The answer in a slot, judged (5, 6, 7) and handed over.
+#[tactic(auto, unfolding(crate::specs::Building::made_fault, signals::specs::Answers::written_of, signals::specs::Answers::output_of))]
 pub fn deliver(slot: &[u32], made: Made, out: &mut [u32]) -> Written
     ensures { Delivers made slot.now out.old result out.new }
 {
     let count = made.count as usize;
-    if WORDS < count {
-        return Written::Refused(5);
-    }
-    if slot.len() < count {
+    if WORDS < count || slot.len() < count {
         return Written::Refused(5);
     }
     if made.late {
@@ -144,15 +124,16 @@ pub enum SlotAnswer {
 }
 
 // The answer built in a slot, judged.
+#[tactic(auto, unfolding(crate::specs::Slots::made_answer))]
 pub fn finish(made: Made) -> SlotAnswer
     ensures { result ≡ made_answer made }
 {
     let count = made.count as usize;
     if WORDS < count {
-        return SlotAnswer::TooLong;
+        SlotAnswer::TooLong
+    } else if made.late {
+        SlotAnswer::TooLate
+    } else {
+        SlotAnswer::Stands(count)
     }
-    if made.late {
-        return SlotAnswer::TooLate;
-    }
-    SlotAnswer::Stands(count)
 }

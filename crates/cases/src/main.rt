@@ -3,8 +3,8 @@
 // what came out; @ stands for what is kept. tests/models/cases.py makes the lines a second time, by documents 01 and 02.
 #![tactic(auto)]
 
-use fields::{byte_at, part};
-use notation::{Ends, Space, Words, argument, arguments, list, number, place, words};
+use fields::part;
+use notation::{Ends, Space, Words, argument, arguments, list, number, words};
 use slices::{part_after, part_before};
 use std::io;
 
@@ -13,7 +13,7 @@ mod formula_calls;
 // A call on lists, with as many words of output.
 fn on_words(
     rt: &impl Print,
-    call: usize,
+    call: list_calls::Call,
     digits: &[u8],
     a: &[u32],
     b: &[u32],
@@ -21,19 +21,20 @@ fn on_words(
     room: usize,
 ) -> io::Result<()> {
     let mut out = [7u32; 401];
-    if room <= 401 {
-        list_calls::shown(rt, call, digits, a, b, c, &mut out[0..room])?;
+    if let Some(out) = out.get_mut(..room) {
+        list_calls::shown(rt, call, digits, a, b, c, out)?;
     }
     Ok(())
 }
 
 fn on_lists(
     rt: &impl Print,
-    call: usize,
+    call: list_calls::Call,
     space: &Space,
     all: &Words,
     ends: &Ends,
 ) -> io::Result<()> {
+    let room = list_calls::room_at(call).map_or(0, |i| number(space, ends, i));
     on_words(
         rt,
         call,
@@ -41,19 +42,19 @@ fn on_lists(
         list(all, ends, 0),
         list(all, ends, 1),
         list(all, ends, 2),
-        number(space, ends, list_calls::room_at(call)) as usize,
+        room as usize,
     )
 }
 
 // A call on a sheet, with as many bytes of output; how many bytes are kept after `keep` and `grow`.
 fn on_sheets(
     rt: &impl Print,
-    call: usize,
+    call: sheet_calls::Call,
     space: &Space,
     all: &Words,
     ends: &Ends,
     kept: &mut Space,
-) -> io::Result<usize> {
+) -> io::Result<Option<usize>> {
     let sheet = argument(space, ends, 0);
     let name = argument(space, ends, 1);
     let room = number(space, ends, sheet_calls::room_at(call)) as usize;
@@ -70,39 +71,48 @@ fn on_moments(rt: &impl Print, space: &Space, all: &Words, ends: &Ends) -> io::R
     )
 }
 
-// The first calls are on lists, the next on formulas and inputs of the programs, then on sheets; the last is on moments.
+// The names of the calls, in a row.
+const NAMES: &[u8] =
+    b",list_fault,value_at,value_in,equal,implies,date_plus_length,tidy,not,rising,falling,sr,rs,ton,tof,tp,connective,\
+    not_in,rising_in,falling_in,sr_in,rs_in,ton_in,tof_in,tp_in,connective_in,read,evaluate,claim,report,page,\
+    sheet_fault,lookup_fault,lookup,locate,well_named,uptime,begin,append,grow,keep,values,";
+
+// The name of a call: names joined by commas, as they stand in that row, are their first.
+fn call_name(name: &[u8]) -> &[u8] {
+    let in_the_row = NAMES.windows(name.len().saturating_add(2)).any(|row| {
+        row.starts_with(b",")
+            && row.get(1..).is_some_and(|rest| rest.starts_with(name))
+            && row.ends_with(b",")
+    });
+    if in_the_row {
+        part_before(name, b',')
+    } else {
+        name
+    }
+}
+
+// A call, `keep` for a name that is none; how many bytes are kept after it.
 fn called(
     rt: &impl Print,
-    call: usize,
+    name: &[u8],
     space: &Space,
     all: &Words,
     ends: &Ends,
     kept: &mut Space,
     n: usize,
 ) -> io::Result<usize> {
-    if call < 25 {
+    let name = call_name(name);
+    if let Some(call) = list_calls::call_of(name) {
         on_lists(rt, call, space, all, ends)?;
-        return Ok(n);
-    }
-    if call < 30 {
+    } else if let Some(call) = formula_calls::call_of(name) {
         formula_calls::shown(rt, call, space, ends)?;
-        return Ok(n);
-    }
-    if call == 40 {
+    } else if name == b"values".as_slice() {
         on_moments(rt, space, all, ends)?;
-        return Ok(n);
+    } else {
+        let call = sheet_calls::call_of(name).unwrap_or(sheet_calls::Call::Keep);
+        return Ok(on_sheets(rt, call, space, all, ends, kept)?.unwrap_or(n));
     }
-    let grown = on_sheets(rt, call, space, all, ends, kept)?;
-    Ok(if call < 38 { n } else { grown })
-}
-
-fn call_of(name: &[u8]) -> usize {
-    place(
-        b"list_fault,value_at,value_in,equal,implies,date_plus_length,tidy,not,rising,falling,sr,rs,ton,tof,tp,connective,\
-        not_in,rising_in,falling_in,sr_in,rs_in,ton_in,tof_in,tp_in,connective_in,read,evaluate,claim,report,page,\
-        sheet_fault,lookup_fault,lookup,locate,well_named,uptime,begin,append,grow,keep,values,",
-        name,
-    )
+    Ok(n)
 }
 
 // The case with its arguments; how many bytes are kept after it.
@@ -117,7 +127,7 @@ fn read(
     let mut ends = [0usize; 16];
     arguments(text, part(kept, 0, n), &mut space, &mut ends);
     let all = words(&space);
-    called(rt, call_of(name), &space, &all, &ends, kept, n)
+    called(rt, name, &space, &all, &ends, kept, n)
 }
 
 fn case(rt: &impl Print, line: &[u8], kept: &mut Space, n: usize) -> io::Result<usize> {
@@ -128,35 +138,12 @@ fn case(rt: &impl Print, line: &[u8], kept: &mut Space, n: usize) -> io::Result<
     Ok(then)
 }
 
-// Whether a case begins at i: after a line feed, and neither with one nor with #.
-fn begins(before: u8, b: u8) -> bool {
-    if before != b'\n' {
-        false
-    } else if b == b'\n' {
-        false
-    } else {
-        b != b'#'
-    }
-}
-
-fn byte_before(text: &[u8], i: usize) -> u8 {
-    if i == 0 { b'\n' } else { byte_at(text, i - 1) }
-}
-
-// The line that begins at i, where one does.
-fn line(rt: &impl Print, text: &[u8], i: usize, kept: &mut Space, n: usize) -> io::Result<usize> {
-    if begins(byte_before(text, i), byte_at(text, i)) {
-        return case(rt, part_before(part(text, i, text.len()), b'\n'), kept, n);
-    }
-    Ok(n)
-}
-
 fn lines(rt: &impl Print, text: &[u8], kept: &mut Space) -> io::Result<()> {
     let mut n: usize = 0;
-    let mut i: usize = 0;
-    while i < text.len() {
-        n = line(rt, text, i, kept, n)?;
-        i += 1;
+    for line in text.split(|b| *b == b'\n') {
+        if !line.is_empty() && !line.starts_with(b"#") {
+            n = case(rt, line, kept, n)?;
+        }
     }
     Ok(())
 }

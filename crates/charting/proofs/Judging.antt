@@ -1,12 +1,16 @@
 -- The moments judged one by one: 20 as far as they rise, 9 as far as none is outside.
-use Prim.Native.Nat.{ℕ, suc, ◌+◌, ◌-◌, ◌/◌, ◌≤◌, ◌<◌}
+use Prim.Native.Nat.{ℕ, suc, ◌+◌, ◌/◌, ◌≤◌, ◌<◌}
 use native.Mathlib.Omega.{arith}
 use native.Mathlib.Decide.{dec_le}
-use mathlib.Core.Path.{◌≡◌, refl, sym, ◌∙◌, subst}
-use mathlib.Core.Bool.{Bool, true, false, cond}
+use native.Mathlib.Numerals.{add-one}
+use mathlib.Core.Path.{◌≡◌, refl, sym, ◌∙◌}
+use mathlib.Core.Bool.{Bool, true, false, cond, ◌||◌}
 use mathlib.Core.List.{List}
 use mathlib.Core.Logic.{inl, inr}
+use lib.Dec.{eqb, ltb}
 use lib.ListN.{length, get_or}
+use borrow.Author.Tests.{eqb-true, eqb-false, ltb-true, ltb-false}
+use Rattle.std.specs.List.{IsAllAdjacentAnswer}
 use Rattle.signals.specs.Moment.{M}
 use Rattle.signals.specs.Checks.{Check, NoFault}
 use Rattle.columns.specs.Columns.{not_rising, moment_fault, moments_fault}
@@ -32,31 +36,12 @@ module _ {number fault : ℕ} {Broken : Type 0} where
   some (inl (b, e)) h = (b, e)
   some (inr (n, e)) h = absurd (h e)
 
--- the first i moments rise
-abbrev pub RisesTo : List ℕ → ℕ → Type 0
-RisesTo ms i = (j : ℕ) → suc j < i → suc j < length ms → get_or ms j 0 < get_or ms (suc j) 0
+-- the moments rise where each is below the next, and else one is not after the one before it
+pub rises_lem : (ms : List ℕ) → ((j : ℕ) (d : ℕ) → j + 1 < length ms → get_or ms j d < get_or ms (j + 1) d) → not_rising ms ≡ false
+rises_lem ms r = falls_not ms (λ (j, h, f). let lt = rw add-one at (r j 0 (omega (arith, h))) in omega (arith, f, lt))
 
-pub rises_first : (ms : List ℕ) → RisesTo ms 1
-rises_first ms j h l = absurd (omega (arith, h))
-
-pub rises_next : (ms : List ℕ) (i : ℕ) → 1 ≤ i → RisesTo ms i → get_or ms (i - 1) 0 < get_or ms i 0 → RisesTo ms (i + 1)
-rises_next ms i o r lt j h l = go (dec_le (suc (suc j)) i)
-  where
-    go : Dec (suc (suc j) ≤ i) → get_or ms j 0 < get_or ms (suc j) 0
-    go (yes le) = r j (omega (arith, le)) l
-    go (no n) =
-        let here : i ≡ suc j = omega (arith, n, h) in
-        let before : i - 1 ≡ j = omega (arith, here) in
-        subst (λ (k : ℕ). get_or ms j 0 < get_or ms k 0) here (subst (λ (k : ℕ). get_or ms k 0 < get_or ms i 0) before lt)
-
-pub not_after_lem : (ms : List ℕ) (i : ℕ) → 1 ≤ i → i < length ms → get_or ms i 0 ≤ get_or ms (i - 1) 0 → ◌≡◌ {A = ℕ} 20
-    (cond (not_rising ms) 20 0)
-not_after_lem ms i o h le =
-    let here : suc (i - 1) ≡ i = omega (arith, o) in
-    rw (falls_is ms (i - 1, rw here h, rw here le)) refl
-
-pub rises_all : (ms : List ℕ) (i : ℕ) → RisesTo ms i → length ms ≤ i → ◌≡◌ {A = ℕ} 0 (cond (not_rising ms) 20 0)
-rises_all ms i r le = rw (falls_not ms (λ (j, h, f). omega (arith, f, r j (omega (arith, h, le)) h))) refl
+pub falls_lem : (ms : List ℕ) (j : ℕ) → j + 1 < length ms → get_or ms (j + 1) 0 ≤ get_or ms j 0 → not_rising ms ≡ true
+falls_lem ms j h le = let after = rw add-one at le in falls_is ms (j, omega (arith, h), after)
 
 -- without 20 they rise, so that none is before the one before it
 pub none_falls : (ms : List ℕ) (fault : ℕ) → fault ≡ cond (not_rising ms) 20 0 → fault ≡ 0 → not_rising ms ≡ false
@@ -74,18 +59,17 @@ risen ms z i h = go (dec_le (get_or ms i 0) (get_or ms (suc i) 0))
     go (no n) = absurd (rising_down ms z (i, h, omega (arith, n)))
 
 -- 9 of one moment, by the tests of the code
-pub zero_outside : (m : ℕ) → m ≡ 0 → 9 ≡ moment_fault m
-zero_outside m z = broken (moment_judged m) (inl (omega (arith, z)))
-
-pub late_outside : (m : ℕ) → M < m / 2 → 9 ≡ moment_fault m
-late_outside m h = broken (moment_judged m) (inr (omega (arith, h)))
-
-pub inside : (m : ℕ) → ¬ (m ≡ 0) → m / 2 ≤ M → 0 ≡ moment_fault m
-inside m n le = free (moment_judged m) none
+pub moment_is : (m : ℕ) → moment_fault m ≡ cond (eqb m 0 || ltb M (m / 2)) 9 0
+moment_is m = go (eqb m 0) (ltb M (m / 2)) refl refl
   where
-    none : ¬ Outside m
-    none (inl e) = n (omega (arith, e))
-    none (inr h) = omega (arith, h, le)
+    none : ¬ (m ≡ 0) → m / 2 ≤ M → ¬ Outside m
+    none n le (inl e) = n (omega (arith, e))
+    none n le (inr h) = omega (arith, h, le)
+
+    go : (z late : Bool) → eqb m 0 ≡ z → ltb M (m / 2) ≡ late → moment_fault m ≡ cond (z || late) 9 0
+    go true late e f = sym (broken (moment_judged m) (inl (omega (arith, eqb-true m 0 e))))
+    go false true e f = sym (broken (moment_judged m) (inr (omega (arith, ltb-true M (m / 2) f))))
+    go false false e f = sym (free (moment_judged m) (none (eqb-false m 0 e) (ltb-false M (m / 2) f)))
 
 -- none of the first i moments is outside
 abbrev pub InsideTo : List ℕ → ℕ → Type 0
@@ -109,3 +93,9 @@ all_inside ms i r le = free (moments_judged ms) none
   where
     none : ¬ Breaks9 ms
     none (j, h, o) = sound (moment_judged (get_or ms j 0)) (omega arith) (r j (omega (arith, h, le))) o
+
+-- 20 by whether each moment is below the next
+pub sorted_lem : (ms : List ℕ) (r : Bool) → IsAllAdjacentAnswer (λ x y b. b ≡ ltb x y) ms r
+    → ◌≡◌ {A = ℕ} (cond r 0 20) (cond (not_rising ms) 20 0)
+sorted_lem ms true h = rw (rises_lem ms (λ j d l. ltb-true _ _ (sym (h j d l))))
+sorted_lem ms false (k, l, h) = rw (falls_lem ms k l (ltb-false _ _ (sym (h 0))))

@@ -19,52 +19,41 @@ const MOMENTS: usize = 1000;
 fn rising_fault(moments: &[u32]) -> u32
     ensures { result ≡ cond (not_rising moments.now) 20 0 }
 {
-    let mut i: usize = 1;
-    while i < moments.len() {
-        if moments[i] <= moments[i - 1] {
-            return 20;
-        }
-        i = i + 1;
+    if moments.is_sorted_by(|a, b| *a < *b) {
+        0
+    } else {
+        20
     }
-    0
 }
 
 // 9 of one moment: it is instant 0, or its date is above M.
+#[tactic(auto, using(crate::proofs::Judging::moment_is))]
 fn moment_fault(moment: u32) -> u32
     ensures { result ≡ moment_fault moment }
 {
-    if moment == 0 {
-        return 9;
-    }
-    if M < moment / 2 {
-        return 9;
-    }
-    0
+    if moment == 0 || M < moment / 2 { 9 } else { 0 }
 }
 
 // 9 of some moment.
 fn moments_fault(moments: &[u32]) -> u32
     ensures { result ≡ moments_fault moments.now }
 {
-    let mut i: usize = 0;
-    while i < moments.len() {
-        let fault = moment_fault(moments[i]);
+    for &moment in moments {
+        let fault = moment_fault(moment);
         if fault != 0 {
             return fault;
         }
-        i = i + 1;
     }
     0
 }
 
 // The word of a moment, by what passing its date finds: that of the gap is the value after the date, that of the instant the one at it.
+#[tactic(auto, unfolding(columns::specs::Numbers::is_gap_number))]
 fn word_of(moment: u32, step: Step) -> u32
     ensures { result ≡ num (cond (is_gap_number moment) step.after step.at) }
 {
-    if moment % 2 == 1 {
-        return if step.after { 1 } else { 0 };
-    }
-    if step.at { 1 } else { 0 }
+    let up = if moment % 2 == 1 { step.after } else { step.at };
+    u32::from(up)
 }
 
 // The words of rising moments, by one reader of an accepted list; how many of the list's words the last moment passes.
@@ -79,15 +68,12 @@ fn fill(list: &[u32], moments: &[u32], out: &mut [u32]) -> usize
     // how many words are dated before the moment's date: the word of that date stays ahead, since its gap may follow its instant
     let mut behind: usize = 1;
     let mut passed: usize = 0;
-    let mut i: usize = 0;
-    while i < moments.len() {
-        let moment = moments[i];
+    for (i, &moment) in moments.iter().enumerate() {
         let date = Date(moment / 2);
         behind = along(list, behind, date);
         let step = past(list, behind, date);
         out[i] = word_of(moment, step);
         passed = step.passed;
-        i = i + 1;
     }
     passed
 }

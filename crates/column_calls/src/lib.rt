@@ -2,7 +2,7 @@
 #![tactic(auto)]
 
 use answers::shown::with_words;
-use answers::{PLAIN, counted, shown, written};
+use answers::{counted, shown, written};
 use columns::Column;
 use signals::Written;
 use std::io;
@@ -12,7 +12,7 @@ fn values_in(rt: &impl Print, list: &[u32], moments: &[u32], out: &mut [u32]) ->
     match charting::values(list, moments, out) {
         Column::Filled { count, passed } => {
             shown::number(rt, count as u64)?;
-            with_words(rt, counted(PLAIN, passed as u64), out)
+            with_words(rt, counted(passed as u64), out)
         }
         Column::Refused(fault) => with_words(rt, written(Written::Refused(fault)), out),
     }
@@ -21,8 +21,8 @@ fn values_in(rt: &impl Print, list: &[u32], moments: &[u32], out: &mut [u32]) ->
 // With as many words of output, which has room for more than the most moments.
 pub fn values(rt: &impl Print, list: &[u32], moments: &[u32], room: usize) -> io::Result<()> {
     let mut out = [7u32; 1002];
-    if room <= 1002 {
-        values_in(rt, list, moments, &mut out[0..room])?;
+    if let Some(out) = out.get_mut(..room) {
+        values_in(rt, list, moments, out)?;
     }
     Ok(())
 }

@@ -12,7 +12,6 @@ use Rattle.building.specs.Building.{Begins}
 use Rattle.building.specs.declared.Made.{Made}
 use Rattle.showing.specs.Showing.{first_shown}
 use Rattle.showing.specs.declared.Operation.{Operation}
-use Rattle.showing.specs.declared.Operation.TheVariants.{Connective}
 use Rattle.showing.specs.declared.Shown.{Shown}
 use Rattle.sources.specs.Sources.{start_of}
 use Rattle.sources.specs.declared.Cursor.{Cursor}
@@ -40,8 +39,3 @@ module _ (o : Operation) (table : Table) (a b : List ℕ) (wa : Words a) (wb : W
   words_built first ef old made₀ slot₀ eb made slot w =
       subst (λ (s : State). Merges o table a b slot made s)
       (begun_is o table a b old x y gx gy (start_passed a x ex) (start_passed b y ey) first ef made₀ slot₀ eb) w
-
--- the loop of connectives
-pub joined : (o : Operation) → o ≡ Connective → (table : Table) (a b slot : List ℕ) (made : Made) (after : List ℕ)
-    → BuiltIn Connective table a b slot made after → BuiltIn o table a b slot made after
-joined o e table a b slot made after w = rw e w

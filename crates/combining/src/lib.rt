@@ -1,28 +1,48 @@
 // Connectives and latches: operations of two lists.
 #![tactic(auto)]
 
-ghost use Rattle.std.specs.Prelude.{◌≡◌, ◌≤◌, length};
+ghost use Rattle.std.specs.Prelude.{◌≡◌, true, ◌+◌, ◌≤◌, min, length};
 ghost use Rattle.signals.specs.Signal.{connective, SR, RS};
-ghost use Rattle.signals.specs.Words.{most_words};
+ghost use Rattle.signals.specs.Words.{most_words, pair_fault};
 ghost use Rattle.operations.specs.Calls.{CallOfTwo};
-ghost use Rattle.showing.specs.Showing.{merged};
+ghost use Rattle.showing.specs.Showing.{merged, date_shown};
 ghost use Rattle.showing.specs.declared.Operation.TheVariants.{Connective};
 ghost use Rattle.merging.specs.Merging.{BuiltIn};
 
-use building::{Made, WORDS};
-use reading::NEVER;
-use showing::Operation;
+use building::{Made, SHORT, WORDS};
+use reading::{NEVER, Step};
+use showing::{Operation, Shown};
 use signals::{Date, Written};
 
-// The merge of two slices, built in a slot: date by date, what the latch makes of both.
-fn latch_words(
+// What a date shows, by a connective alone or by any operation.
+fn shown_at<const CONNECTIVE: bool>(
+    operation: Operation,
+    table: [[bool; 2]; 2],
+    carried: bool,
+    p: Step,
+    q: Step,
+) -> Shown
+    requires { CONNECTIVE ≡ true → operation ≡ Connective }
+    ensures { result ≡ date_shown operation table carried p.before p.at p.after q.at q.after }
+{
+    if CONNECTIVE {
+        showing::date_shown(Operation::Connective, table, carried, p, q)
+    } else {
+        showing::date_shown(operation, table, carried, p, q)
+    }
+}
+
+// The merge of two slices, built in a slot: date by date, what the operation makes of both. A connective's loop is made for itself, and
+// carries nothing from date to date.
+fn merge_words<const CONNECTIVE: bool>(
     operation: Operation,
     table: [[bool; 2]; 2],
     a: &[u32],
     b: &[u32],
     slot: &mut [u32],
 ) -> Made
-    requires { (length a.now ≤ most_words) × (length b.now ≤ most_words) }
+    requires short { (length a.now ≤ most_words) × (length b.now ≤ most_words) }
+    requires kind { CONNECTIVE ≡ true → operation ≡ Connective }
     ensures { BuiltIn operation table a.now b.now slot.old result slot.new }
 {
     let mut x = sources::start_in(a);
@@ -34,32 +54,9 @@ fn latch_words(
     while date < NEVER {
         let u = sources::past_in(a, x, date);
         let v = sources::past_in(b, y, date);
-        let shown = showing::date_shown(operation, table, carried, u.step, v.step);
+        let shown = shown_at::<CONNECTIVE>(operation, table, carried, u.step, v.step);
         made = building::emit(slot, made, Date(date), shown.at, shown.after);
         carried = shown.carried;
-        x = u.next;
-        y = v.next;
-        date = words::earlier(x.date, y.date);
-    }
-    made
-}
-
-// The same for a connective: nothing is carried from date to date.
-fn join_words(table: [[bool; 2]; 2], a: &[u32], b: &[u32], slot: &mut [u32]) -> Made
-    requires { (length a.now ≤ most_words) × (length b.now ≤ most_words) }
-    ensures { BuiltIn Connective table a.now b.now slot.old result slot.new }
-{
-    let mut x = sources::start_in(a);
-    let mut y = sources::start_in(b);
-    let first = showing::cell_of(table, x.last % 2 == 1, y.last % 2 == 1);
-    let mut made = building::begin(slot, first);
-    let mut date = words::earlier(x.date, y.date);
-    while date < NEVER {
-        let u = sources::past_in(a, x, date);
-        let v = sources::past_in(b, y, date);
-        let value = showing::cell_of(table, u.step.at, v.step.at);
-        let after = showing::cell_of(table, u.step.after, v.step.after);
-        made = building::emit(slot, made, Date(date), value, after);
         x = u.next;
         y = v.next;
         date = words::earlier(x.date, y.date);
@@ -79,15 +76,31 @@ fn made_in(
     ensures { BuiltIn operation table a.now b.now slot.old result slot.new }
 {
     match operation {
-        Operation::Connective => join_words(table, a, b, slot),
-        _ => latch_words(operation, table, a, b, slot),
+        Operation::Connective => merge_words::<true>(operation, table, a, b, slot),
+        _ => merge_words::<false>(operation, table, a, b, slot),
     }
 }
 
-// The words of a slot in which short lists are merged: fewer are cleared for them.
-const SHORT: usize = 32;
+// The merge of two accepted lists, built in a slot that holds its answer, and delivered to an output. It has fewer words than both lists
+// together.
+fn delivered<const N: usize>(
+    operation: Operation,
+    table: [[bool; 2]; 2],
+    a: &[u32],
+    b: &[u32],
+    out: &mut [u32],
+) -> Written
+    requires accepted { pair_fault a.now b.now ≡ 0 }
+    requires held { min most_words (length a.now + length b.now) ≤ N }
+    requires small { N ≤ most_words }
+    ensures { CallOfTwo (merged operation table) a.now b.now out.old result out.new }
+{
+    let mut slot = [0u32; N];
+    let made = made_in(operation, table, a, b, &mut slot);
+    building::deliver(&slot, made, out)
+}
 
-// A merge of two lists that are judged first, its answer delivered to an output. It has fewer words than both lists together.
+// A merge of two lists that are judged first.
 fn operate(
     operation: Operation,
     table: [[bool; 2]; 2],
@@ -102,13 +115,10 @@ fn operate(
         return Written::Refused(fault);
     }
     if a.len() + b.len() <= SHORT {
-        let mut slot = [0u32; SHORT];
-        let made = made_in(operation, table, a, b, &mut slot);
-        return building::deliver(&slot, made, out);
+        delivered::<SHORT>(operation, table, a, b, out)
+    } else {
+        delivered::<WORDS>(operation, table, a, b, out)
     }
-    let mut slot = [0u32; WORDS];
-    let made = made_in(operation, table, a, b, &mut slot);
-    building::deliver(&slot, made, out)
 }
 
 // The table given where the operation reads none.

@@ -4,13 +4,13 @@
 ghost use Rattle.std.specs.Prelude.{◌≡◌, true, false};
 ghost use Rattle.signals.specs.Words.{pair_fault};
 ghost use Rattle.questions.specs.Questions.{equal_of, implies_of};
-ghost use Rattle.sources.specs.Sources.{list_at};
+ghost use Rattle.sources.specs.Lending.{list_in};
 ghost use Rattle.comparing.specs.Finding.{sought_by, Standing, MeetsFrom, end_met, EndsSo, FoundAt, start_scan};
 
 use lists::pair_fault;
 use reading::NEVER;
 use signals::{Date, End, Told, Verdict};
-use sources::{Cursor, Source, past, past_in, start, start_in};
+use sources::{Cursor, Lent, Source, past_in, start_in};
 
 // Where a scan stands: in the gap after a date, its readers past the words up to that date.
 #[derive(Clone, Copy)]
@@ -32,7 +32,7 @@ pub enum Met {
 fn sought(both: bool, failing: bool, p: bool, q: bool) -> bool
     ensures { result ≡ sought_by both failing p q }
 {
-    ((p != q) & (p | both)) == failing
+    (p != q && (p || both)) == failing
 }
 
 // The first moment at which f to g fails, or does not, from where the scan stands on: of that gap, then of each date its instant and the
@@ -40,18 +40,15 @@ fn sought(both: bool, failing: bool, p: bool, q: bool) -> bool
 fn seek(
     both: bool,
     failing: bool,
-    sheet: &[u8],
-    left: &[u32],
-    right: &[u32],
+    lent: Lent,
     work: &[u32],
     f: Source,
     g: Source,
     from: Scan,
 ) -> Met
-    requires { Standing (list_at sheet.now left.now right.now work.now f) (list_at sheet.now left.now right.now work.now g)
-        from }
-    ensures { MeetsFrom both failing (list_at sheet.now left.now right.now work.now f)
-        (list_at sheet.now left.now right.now work.now g) from result }
+    requires { Standing (list_in lent work.now f) (list_in lent work.now g) from }
+    ensures { MeetsFrom both failing (list_in lent.entry work.now f)
+        (list_in lent.entry work.now g) from result }
 {
     let mut last = from.after;
     let mut a = from.left;
@@ -68,8 +65,8 @@ fn seek(
         if NEVER <= date {
             return Met::Nothing;
         }
-        let p = past(sheet, left, right, work, f, a, Date(date));
-        let q = past(sheet, left, right, work, g, b, Date(date));
+        let p = lent.past(work, f, a, Date(date));
+        let q = lent.past(work, g, b, Date(date));
         last = date;
         a = p.next;
         b = q.next;
@@ -95,46 +92,26 @@ fn end_met(met: Met) -> End
 }
 
 // The end of the failing run that the scan has met: the same scan, on from there, for the first moment that does not fail.
-fn end_from(
-    sheet: &[u8],
-    left: &[u32],
-    right: &[u32],
-    work: &[u32],
-    f: Source,
-    g: Source,
-    from: Scan,
-) -> End
-    requires { Standing (list_at sheet.now left.now right.now work.now f) (list_at sheet.now left.now right.now work.now g)
-        from }
-    ensures { EndsSo (list_at sheet.now left.now right.now work.now f)
-        (list_at sheet.now left.now right.now work.now g) from result }
+fn end_from(lent: Lent, work: &[u32], f: Source, g: Source, from: Scan) -> End
+    requires { Standing (list_in lent work.now f) (list_in lent work.now g) from }
+    ensures { EndsSo (list_in lent.entry work.now f)
+        (list_in lent.entry work.now g) from result }
 {
-    end_met(seek(false, false, sheet, left, right, work, f, g, from))
+    end_met(seek(false, false, lent, work, f, g, from))
 }
 
 // Implication f to g of two lists where they stand, neither of them judged.
-pub fn implies_at(
-    sheet: &[u8],
-    left: &[u32],
-    right: &[u32],
-    work: &[u32],
-    f: Source,
-    g: Source,
-) -> Verdict
-    ensures { FoundAt sheet.now left.now right.now work.now f g result }
+pub fn implies_at(lent: Lent, work: &[u32], f: Source, g: Source) -> Verdict
+    ensures { let l = lent.entry in FoundAt l.sheet.now l.left.now l.right.now work.now f g result }
 {
     let from = Scan {
         after: 0,
-        left: start(sheet, left, right, work, f),
-        right: start(sheet, left, right, work, g),
+        left: lent.start(work, f),
+        right: lent.start(work, g),
     };
-    match seek(false, true, sheet, left, right, work, f, g, from) {
-        Met::Gap(at) => {
-            Verdict::FailsAfter(at.after, end_from(sheet, left, right, work, f, g, at))
-        }
-        Met::Instant(at) => {
-            Verdict::FailsAt(at.after, end_from(sheet, left, right, work, f, g, at))
-        }
+    match seek(false, true, lent, work, f, g, from) {
+        Met::Gap(at) => Verdict::FailsAfter(at.after, end_from(lent, work, f, g, at)),
+        Met::Instant(at) => Verdict::FailsAt(at.after, end_from(lent, work, f, g, at)),
         Met::Nothing => Verdict::Holds,
     }
 }
@@ -218,6 +195,6 @@ pub fn equal(a: &[u32], b: &[u32]) -> Told
     }
     match seek_pair(true, true, a, b, start_pair(a, b)) {
         Met::Nothing => Told::Yes,
-        _ => Told::No,
+        Met::Gap(_) | Met::Instant(_) => Told::No,
     }
 }

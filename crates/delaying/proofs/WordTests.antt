@@ -1,4 +1,4 @@
--- What the code makes of a pending change, of a word and of the words left, from the values that it works out.
+-- What the code makes of a word and of the words left, from the values that it works out.
 use Prim.Native.Nat.{ℕ, ◌+◌, ◌≤◌, ◌<◌}
 use native.Mathlib.Numerals.{add-one}
 use mathlib.Core.Path.{◌≡◌, sym, ◌∙◌, ap}
@@ -6,30 +6,14 @@ use mathlib.Core.Bool.{Bool, true, false}
 use mathlib.Core.List.{List, ◌∷◌}
 use lib.ListN.{length, drop, get_or, drop_of_length-le}
 use lib.Seq.{drop-cons}
-use borrow.Author.Tests.{lt-ltb, le-ltb}
 use Rattle.signals.specs.Words.{date_of, value_at, value_after}
 use Rattle.signals.specs.Passing.{held_value}
 use Rattle.reading.specs.Reading.{NEVER}
 use Rattle.building.specs.Building.{Begins, Emits}
 use Rattle.building.specs.declared.Made.{Made}
-use Rattle.timing.specs.Delay.{timer, timer_next, first_timer, on_level}
+use Rattle.timing.specs.Delay.{timer_next, first_timer, on_level}
 use Rattle.timing.specs.declared.Timer.{Timer}
 use Rattle.delaying.specs.Turns.{State, state_of, settled, followed, past_word, past_words, state_with, first_state}
-
-module _ (level : Bool) (next : ℕ) (s : Timer) (made : Made) (slot : List ℕ) where
-  pub comes : s.waiting ≡ true → s.due.0 < next → (here : Bool) → here ≡ on_level level s.at → (made' : Made) (slot' : List ℕ)
-      → Emits made s.due.0 here level slot made' slot'
-      → state_of (timer true false s.due.0 s.at) made' slot' ≡ settled level next (state_of s made slot)
-  unfolding settled
-  comes w h here e made' slot' (m, t) = rw (w, lt-ltb s.due.0 next h, m, t, e)
-
-  pub not_yet : s.waiting ≡ true → next ≤ s.due.0 → state_of s made slot ≡ settled level next (state_of s made slot)
-  unfolding settled
-  not_yet w h = rw (w, le-ltb s.due.0 next h)
-
-  pub none_waits : s.waiting ≡ false → state_of s made slot ≡ settled level next (state_of s made slot)
-  unfolding settled
-  none_waits w = rw w
 
 -- past a date
 follows : (level : Bool) (d : ℕ) (s : State) (date : ℕ) (at after a b : Bool) (s1 s2 : Timer) (x y : Bool) (made : Made) (slot : List ℕ)
@@ -60,16 +44,13 @@ begins level d l slot value e0 s e1 shown e2 made slot' (m, t) =
     by-timer ∙ ap (state_with level slot) (e1 ∙ ap (first_timer level d) e0)
 
 -- the words of a slice: one more is passed, and none is left
-module _ (level : Bool) (d : ℕ) (l : List ℕ) (i : ℕ) (s start : State)
-    (leads : past_words level d (drop i l) s ≡ past_words level d (drop 1 l) start)
-  where
-    pub leads_on : i < length l → (t : State) → t ≡ past_word level d s (get_or l i 0)
-        → past_words level d (drop (i + 1) l) t ≡ past_words level d (drop 1 l) start
-    unfolding past_words
-    leads_on h t e =
-        let ahead : drop i l ≡ get_or l i 0 ∷ drop (i + 1) l = rw add-one (drop-cons l i 0 h) in
-        ap (past_words level d (drop (i + 1) l)) e ∙ sym (ap (λ (ws : List ℕ). past_words level d ws s) ahead) ∙ leads
+module _ (level : Bool) (d : ℕ) (l : List ℕ) (i : ℕ) (s last : State) (leads : past_words level d (drop i l) s ≡ last) where
+  pub leads_on : i < length l → (t : State) → t ≡ past_word level d s (get_or l i 0) → past_words level d (drop (i + 1) l) t ≡ last
+  unfolding past_words
+  leads_on h t e =
+      let ahead : drop i l ≡ get_or l i 0 ∷ drop (i + 1) l = rw add-one (drop-cons l i 0 h) in
+      ap (past_words level d (drop (i + 1) l)) e ∙ sym (ap (λ (ws : List ℕ). past_words level d ws s) ahead) ∙ leads
 
-    pub leads_home : length l ≤ i → (t : State) → t ≡ settled level NEVER s → t ≡ past_words level d (drop 1 l) start
-    unfolding past_words
-    leads_home h t e = e ∙ sym (ap (λ (ws : List ℕ). past_words level d ws s) (drop_of_length-le l {i = i} h)) ∙ leads
+  pub leads_home : length l ≤ i → (t : State) → t ≡ settled level NEVER s → t ≡ last
+  unfolding past_words
+  leads_home h t e = e ∙ sym (ap (λ (ws : List ℕ). past_words level d ws s) (drop_of_length-le l {i = i} h)) ∙ leads

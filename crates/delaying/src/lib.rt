@@ -17,29 +17,27 @@ pub struct Going {
 
 // The pending change, where it comes before a date, put into the slot. All is given back field by field, so that the bytes between the
 // fields are not copied in every turn of the loop.
+#[tactic(auto, unfolding(crate::specs::Turns::settled))]
 pub fn settle(slot: &mut [u32], level: bool, timer: Timer, made: Made, next: Date) -> Going
     ensures { state_of result.timer result.made slot.new ≡ settled level next.0 (state_of timer made slot.old) }
 {
-    let due = timer.due;
-    if timer.waiting {
-        if due.0 < next.0 {
-            let here = timing::on_level(level, timer.at);
-            return Going {
-                timer: Timer {
-                    level: true,
-                    waiting: false,
-                    due,
-                    at: timer.at,
-                },
-                made: building::emit(slot, made, due, here, level),
-            };
-        }
+    if timer.waiting && timer.due.0 < next.0 {
+        let here = timing::on_level(level, timer.at);
+        return Going {
+            timer: Timer {
+                level: true,
+                waiting: false,
+                due: timer.due,
+                at: timer.at,
+            },
+            made: building::emit(slot, made, timer.due, here, level),
+        };
     }
     Going {
         timer: Timer {
             level: timer.level,
             waiting: timer.waiting,
-            due,
+            due: timer.due,
             at: timer.at,
         },
         made: Made {

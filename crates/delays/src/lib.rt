@@ -1,13 +1,14 @@
 // On-delay and off-delay: one engine that follows one level of its input.
 #![tactic(auto)]
 
-ghost use Rattle.std.specs.Prelude.{◌≡◌, ◌≤◌, length};
+ghost use Rattle.std.specs.Prelude.{◌≡◌, ◌*◌, ◌≤◌, min, length};
+ghost use Rattle.signals.specs.Words.{most_words, list_fault};
 ghost use Rattle.signals.specs.Signal.{TON, TOF};
 ghost use Rattle.operations.specs.Calls.{CallOfDelay};
 ghost use Rattle.timing.specs.Delay.{delay_of};
 ghost use Rattle.delaying.specs.Turns.{last_state, Ends};
 
-use building::{Made, WORDS};
+use building::{Made, SHORT, WORDS};
 use signals::{Date, Length, M, Written};
 
 // The delay of one level of a list, built in a slot of any length. The loop has the body of the one in
@@ -20,9 +21,7 @@ fn delay_words(level: bool, d: Length, f: &[u32], slot: &mut [u32]) -> Made
     let mut timer = timing::first(d, level, value);
     let shown = timing::on_level(level, timer.level);
     let mut made = building::begin(slot, shown);
-    let mut i: usize = 1;
-    while i < f.len() {
-        let word = f[i];
+    for word in &f[1..] {
         let date = Date(word / 4);
         let before = delaying::settle(slot, level, timer, made, date);
         let here = timing::on_level(level, word / 2 % 2 == 1);
@@ -32,16 +31,26 @@ fn delay_words(level: bool, d: Length, f: &[u32], slot: &mut [u32]) -> Made
         let at = timing::on_level(level, now_at.level);
         let after = timing::on_level(level, timer.level);
         made = building::emit(slot, before.made, date, at, after);
-        i += 1;
     }
     let last = delaying::settle(slot, level, timer, made, Date(reading::NEVER));
     last.made
 }
 
-// The words of a slot for the answer of a short list: fewer are cleared for it.
-const SHORT: usize = 32;
+// The delay of an accepted list by an accepted length, built in a slot that holds its answer, and delivered to an output. It has at most
+// two words for each word of the list.
+fn delivered<const N: usize>(level: bool, d: Length, f: &[u32], out: &mut [u32]) -> Written
+    requires accepted { list_fault f.now ≡ 0 }
+    requires short { d.0 ≤ M }
+    requires held { min most_words (2 * length f.now) ≤ N }
+    requires small { N ≤ most_words }
+    ensures { CallOfDelay (delay_of level d.0) d.0 f.now out.old result out.new }
+{
+    let mut slot = [0u32; N];
+    let made = delay_words(level, d, f, &mut slot);
+    building::deliver(&slot, made, out)
+}
 
-// A delay of a list that is judged first, its answer delivered to an output. It has at most two words for each word of the list.
+// A delay of a list that is judged first.
 fn delay(level: bool, d: Length, f: &[u32], out: &mut [u32]) -> Written
     ensures { CallOfDelay (delay_of level d.0) d.0 f.now out.old result out.new }
 {
@@ -49,18 +58,14 @@ fn delay(level: bool, d: Length, f: &[u32], out: &mut [u32]) -> Written
     if fault != 0 {
         return Written::Refused(fault);
     }
-    let ticks = d.0;
-    if M < ticks {
+    if M < d.0 {
         return Written::Refused(8);
     }
     if 2 * f.len() <= SHORT {
-        let mut slot = [0u32; SHORT];
-        let made = delay_words(level, d, f, &mut slot);
-        return building::deliver(&slot, made, out);
+        delivered::<SHORT>(level, d, f, out)
+    } else {
+        delivered::<WORDS>(level, d, f, out)
     }
-    let mut slot = [0u32; WORDS];
-    let made = delay_words(level, d, f, &mut slot);
-    building::deliver(&slot, made, out)
 }
 
 // TON(d,f), the on-delay: faults list, 8, 5, 6, 7.

@@ -16,11 +16,8 @@ fn turn_words(words: &[u32], out: &mut [u32])
     ensures { out.new ≡ turned_list words.now ++ drop (length words.now) out.old }
 {
     out[0] = 1 - words[0];
-    let mut i: usize = 1;
-    while i < words.len() {
-        let word = words[i];
-        out[i] = 4 * (word / 4) + (3 - word % 4);
-        i += 1;
+    for i in 1..words.len() {
+        out[i] = 4 * (words[i] / 4) + (3 - words[i] % 4);
     }
 }
 
@@ -40,10 +37,11 @@ pub fn not(a: &[u32], out: &mut [u32]) -> Written
 }
 
 // Whether a date with this value at it and this one before it has an edge to the level.
+#[tactic(auto, unfolding(crate::specs::Edging::is_edge))]
 fn is_edge(level: bool, before: bool, at: bool) -> bool
     ensures { result ≡ is_edge level before at }
 {
-    if at == level { before != level } else { false }
+    at == level && before != level
 }
 
 // The edges of a list to a level, built in a slot word by word.
@@ -53,9 +51,7 @@ fn edge_words(level: bool, a: &[u32], slot: &mut [u32]) -> Made
 {
     let mut made = building::begin(slot, false);
     let mut before = a[0] % 2 == 1;
-    let mut i: usize = 1;
-    while i < a.len() {
-        let word = a[i];
+    for &word in &a[1..] {
         made = building::emit(
             slot,
             made,
@@ -64,7 +60,6 @@ fn edge_words(level: bool, a: &[u32], slot: &mut [u32]) -> Made
             false,
         );
         before = word % 2 == 1;
-        i += 1;
     }
     made
 }

@@ -1,5 +1,5 @@
 -- A list copied word by word from where it stands, and handed over.
-use Prim.Native.Nat.{ℕ, zero, suc, ◌+◌, ◌%◌, ◌≤◌, ◌<◌}
+use Prim.Native.Nat.{ℕ, ◌+◌, ◌%◌, ◌≤◌, ◌<◌}
 use native.Mathlib.Omega.{arith}
 use mathlib.Core.Path.{◌≡◌, ◌∙◌}
 use mathlib.Core.List.{List, ◌++◌}
@@ -7,25 +7,12 @@ use lib.ListN.{length, take, drop, get_or, set}
 use borrow.Author.Tests.{lt-ltb, le-ltb}
 use Rattle.signals.specs.Answers.{written_of, output_of}
 use Rattle.signals.specs.declared.Written.TheVariants.{Count, Refused}
-use Rattle.slices.specs.Bytes.{Bytes, Words}
+use Rattle.slices.specs.Bytes.{Words}
 use Rattle.operations.specs.Calls.{room_fault}
 use Rattle.building.specs.Building.{HandsOver}
 use Rattle.building.proofs.Delivering.{copy_next}
 use Rattle.sources.specs.Sources.{next_word}
-use Rattle.sources.specs.declared.Source.{Source}
-use Rattle.sources.proofs.Sourcing.{words_at}
-use Rattle.code_words.specs.CodeWords.{constants}
-use Rattle.working.specs.Standing.{list_of}
 use Rattle.sources.proofs.SourceWords.{word_left}
-
--- the words of a list where it stands have 32 bits
-pub list_words : (sheet work : List ℕ) (s : Source) → Bytes sheet → Words work → Words (list_of sheet work s)
-list_words sheet work s b w = words_at sheet constants constants work s b constant constant w
-  where
-    constant : Words constants
-    constant zero = omega arith
-    constant (suc zero) = omega arith
-    constant (suc (suc i)) = omega arith
 
 -- the next word of a list, cut to 32 bits
 word_is : (l : List ℕ) (i word : ℕ) → Words l → i < length l → word ≡ next_word l i → word % 4294967296 ≡ get_or l i 0

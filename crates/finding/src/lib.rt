@@ -32,23 +32,22 @@ pub fn find(sheet: &[u8], count: usize, name: &[u8]) -> Place
         return Place::Refused(13);
     }
     let mut at = FIRST_AT;
-    let mut i: usize = 0;
-    while i < count {
-        if sheet.len() - at < WORDS_AT {
+    for _ in 0..count {
+        let rest = &sheet[at..];
+        if rest.len() < WORDS_AT {
             return Place::Refused(13);
         }
-        let size = signal_size(&sheet[at..]);
-        if sheet.len() - at < size {
+        let size = signal_size(rest);
+        if rest.len() < size {
             return Place::Refused(13);
         }
-        if name_fields::holds(&sheet[at..at + WORD_COUNT_AT], name) {
+        if name_fields::holds(&rest[..WORD_COUNT_AT], name) {
             return Place::At {
                 start: at + WORDS_AT,
                 count: size - WORDS_AT,
             };
         }
         at += size;
-        i += 1;
     }
     Place::Refused(13)
 }

@@ -1,10 +1,9 @@
 -- Names, signals and whole sheets written piece after piece.
-use Prim.Native.Nat.{ℕ, zero, suc, ◌+◌, ◌-◌, ◌*◌, ◌≤◌, ◌<◌}
+use Prim.Native.Nat.{ℕ, ◌+◌, ◌-◌, ◌*◌, ◌≤◌, ◌<◌}
 use native.Mathlib.Omega.{arith}
 use mathlib.Core.Path.{◌≡◌, refl, sym, ap, ◌∙◌}
-use mathlib.Core.List.{List, [], ◌∷◌, ◌++◌, append_assoc}
-use lib.ListN.{length, take, length-append, replicate, length-replicate}
-use lib.Seq.{length-take-le}
+use mathlib.Core.List.{List, [], ◌++◌, append_assoc}
+use lib.ListN.{length, length-append, replicate, length-replicate}
 use borrow.Author.Tests.{lt-ltb, le-ltb}
 use Rattle.slices.specs.Slices.{placed}
 use Rattle.slices.proofs.Placing.{then_put}
@@ -17,21 +16,6 @@ use Rattle.format.specs.Reading.{mark, entry}
 use Rattle.format.specs.Writing.{entry_bytes, entries_bytes, sheet_bytes}
 use Rattle.format.specs.Calls.{begin_fault}
 
--- eight zero bytes to pad from
-abbrev pub zeros8 : List ℕ
-zeros8 = 0 ∷ 0 ∷ 0 ∷ 0 ∷ 0 ∷ 0 ∷ 0 ∷ 0 ∷ []
-
-take_replicate : (k n : ℕ) → k ≤ n → take {A = ℕ} k (replicate n 0) ≡ replicate k 0
-take_replicate zero n h = refl
-take_replicate (suc k) zero h = absurd (omega arith)
-take_replicate (suc k) (suc n) h = ap (λ (l : List ℕ). 0 ∷ l) (take_replicate k n (omega arith))
-
-pub pad_is : (k : ℕ) → k ≤ 8 → take k zeros8 ≡ replicate k 0
-pad_is k h = take_replicate k 8 h
-
-pub length_pad : (k : ℕ) → k ≤ 8 → length (take k zeros8) ≡ k
-length_pad k h = length-take-le k zeros8 h
-
 pub length_padded : (name : List ℕ) → length name ≤ 8 → length (padded name) ≡ 8
 unfolding padded
 length_padded name h = length-append name (replicate (8 - length name) 0) ∙ rw length-replicate (omega arith)
@@ -39,14 +23,6 @@ length_padded name h = length-append name (replicate (8 - length name) 0) ∙ rw
 pub two : (n : ℕ) → length (bytes16 n) ≡ 2
 unfolding bytes16
 two n = refl
-
-pub name_put : (out o₁ o₂ : List ℕ) (at : ℕ) (name : List ℕ) → length name ≤ 8 → at + 8 ≤ length out
-    → o₁ ≡ placed out at name → o₂ ≡ placed o₁ (at + length name) (take (8 - length name) zeros8) → o₂ ≡ placed out at (padded name)
-unfolding padded
-name_put out o₁ o₂ at name n r e f =
-    then_put out o₁ o₂ at (at + length name) name (take (8 - length name) zeros8) e f refl
-    (omega (arith, length_pad (8 - length name) (omega arith)))
-    ∙ ap (λ (l : List ℕ). placed out at (name ++ l)) (pad_is (8 - length name) (omega arith))
 
 pub length_entry : (name list : List ℕ) → length name ≤ 8 → length (entry_bytes (entry name list)) ≡ 10 + 4 * length list
 unfolding entry_bytes

@@ -1,22 +1,14 @@
 -- Numbers and words written at a place of an output.
 use Prim.Native.Nat.{ℕ, ◌+◌, ◌*◌, ◌≤◌, ◌<◌}
-use native.Mathlib.Numerals.{add-one, add-two, add-three}
+use native.Mathlib.Numerals.{add-one}
 use native.Mathlib.Omega.{arith}
 use mathlib.Core.Path.{◌≡◌, refl, sym, ap, ◌∙◌}
 use mathlib.Core.List.{List, [], ◌∷◌, ◌++◌, append_assoc, append-nil}
-use lib.ListN.{length, get_or, set, take}
-use lib.Seq.{take_all, length-take-le, take-suc, sets-eq}
+use lib.ListN.{length, get_or, take}
+use lib.Seq.{length-take-le, take-suc}
 use Rattle.slices.specs.Slices.{placed}
 use Rattle.slices.proofs.Placing.{placed_more, placed_none}
 use Rattle.slices.specs.Bytes.{bytes32, word_bytes}
-
--- two and four bytes
-pub put_two : (out : List ℕ) (at a b : ℕ) → at + 2 ≤ length out → set (set out at a) (at + 1) b ≡ placed out at (a ∷ b ∷ [])
-put_two out at a b h = rw add-one (sets-eq (a ∷ b ∷ []) out at h)
-
-pub put_four : (out : List ℕ) (at a b d e : ℕ) → at + 4 ≤ length out
-    → set (set (set (set out at a) (at + 1) b) (at + 2) d) (at + 3) e ≡ placed out at (a ∷ b ∷ d ∷ e ∷ [])
-put_four out at a b d e h = simp (add-one, add-two, add-three) (sets-eq (a ∷ b ∷ d ∷ e ∷ []) out at h)
 
 -- words
 pub words_append : (xs ys : List ℕ) → word_bytes (xs ++ ys) ≡ word_bytes xs ++ word_bytes ys
@@ -61,8 +53,3 @@ module _ (out₀ : List ℕ) (at : ℕ) (list : List ℕ) (room : at + 4 * lengt
           (ap word_bytes (ap (λ (k : ℕ). take k list) (add-one i) ∙ take-suc list i 0 h)
           ∙ words_append (take i list) (get_or list i 0 ∷ [])
           ∙ ap (λ (l : List ℕ). word_bytes (take i list) ++ l) (one_word (get_or list i 0)))
-
-  pub words_all : (i : ℕ) (out : List ℕ) → i ≤ length list → length list ≤ i → out ≡ placed out₀ at (word_bytes (take i list))
-      → out ≡ placed out₀ at (word_bytes list)
-  words_all i out p q e =
-      e ∙ ap (λ (l : List ℕ). placed out₀ at (word_bytes l)) (take_all i list q)

@@ -13,9 +13,10 @@ use borrow.Author.Tests.{eqb-true, ltb-true, lt-ltb, le-ltb}
 use Rattle.names.specs.Names.{digit}
 use Rattle.grammar.specs.Reader.{State, run, next, bad, stepped, expect, put, pass_length, value_between}
 use Rattle.texts.specs.Lengths.{value, value_from, capped}
-use Rattle.marks.specs.Marks.{Mark, next_mark}
+use Rattle.marks.specs.declared.Mark.{Mark}
+use Rattle.marks.specs.Marks.{next_mark}
 use Rattle.tokens.specs.Tokens.{length_end}
-use Rattle.moves.specs.Moves.{length_ticks, is_counted, stored_at, put_code}
+use Rattle.moves.specs.Moves.{length_ticks, is_counted, stored_at, put_code, failed, length_passed, moved_to, put_words}
 use Rattle.formulas.specs.Readers.{view_of, Shows, Ready, Done}
 use Rattle.signals.proofs.Truth.{and_left}
 use Rattle.grammar.proofs.Bytes.{by_cond, never}
@@ -23,7 +24,7 @@ use Rattle.grammar.proofs.Carried.{both_ways}
 use Rattle.marks.proofs.Marking.{inside}
 use Rattle.tokens.proofs.Runs.{run_some, none_at_0}
 use Rattle.moves.proofs.Stepping.{length_bounds}
-use Rattle.formulas.proofs.MarkSteps.{bad_mark, moved_mark, expect_mark, length_mark, put_mark}
+use Rattle.formulas.proofs.MarkSteps.{expect_mark}
 
 pub view_next : (text : List ℕ) (m : Mark) (out : List ℕ) → next text (view_of m out) ≡ next_mark text m
 unfolding next next_mark
@@ -37,24 +38,24 @@ view_expect text b m out = both_ways (λ (x : Mark). view_of x out) (eqb (next_m
 length_some : (text : List ℕ) (m : Mark) → digit (next_mark text m) ≡ true → ltb 0 (m.at + run digit (drop m.at text)) ≡ true
 length_some text m e = lt-ltb 0 (m.at + run digit (drop m.at text)) (omega (arith, run_some digit text m (none_at_0 false) e))
 
-pub view_length : (text : List ℕ) (m : Mark) (out : List ℕ) → view_of (length_mark text m) out ≡ pass_length text (view_of m out)
-unfolding length_mark length_end pass_length stepped bad next next_mark
+pub view_length : (text : List ℕ) (m : Mark) (out : List ℕ) → view_of (length_passed text m) out ≡ pass_length text (view_of m out)
+unfolding length_passed length_end pass_length stepped bad next next_mark
 view_length text m out = go (eqb (next_mark text m) 48) refl (digit (next_mark text m)) refl
   where
     go : (y : Bool) → eqb (next_mark text m) 48 ≡ y → (z : Bool) → digit (next_mark text m) ≡ z →
-        view_of (length_mark text m) out ≡ pass_length text (view_of m out)
+        view_of (length_passed text m) out ≡ pass_length text (view_of m out)
     go true y z e = rw (y, lt-ltb 0 (m.at + 1) (omega arith)) refl
     go false y true e = rw (y, e, length_some text m e) refl
     go false y false e = rw (y, e) refl
 
 -- the ticks of a length are those of the bytes that it passes
-pub ticks_are : (text : List ℕ) (m : Mark) → length_ticks text m ≡ capped (value_between text m.at (length_mark text m).at)
-unfolding length_ticks length_mark value_between value value_from capped
+pub ticks_are : (text : List ℕ) (m : Mark) → length_ticks text m ≡ capped (value_between text m.at (length_passed text m).at)
+unfolding length_ticks length_passed value_between value value_from capped
 ticks_are text m = go (ltb 0 (length_end text m))
   where
     go : (z : Bool) →
         cond z (capped (value_between text m.at (length_end text m))) 0
-        ≡ capped (value_between text m.at (cond z (moved_mark m (length_end text m)) (bad_mark m)).at)
+        ≡ capped (value_between text m.at (cond z (moved_to m (length_end text m)) (failed m)).at)
     go true = refl
     go false = let none : m.at - m.at ≡ 0 = omega arith in rw none refl
 
@@ -89,11 +90,11 @@ words_put out code w n l c e = go (dec_lt n 32)
 
 put_view : (m : Mark) (w deep k : ℕ) (code out : List ℕ) → length code ≡ 32 → (m.ok ≡ true → m.parts < 1024) →
     length out ≡ m.parts → take 32 out ≡ take m.parts code →
-    Shows (put_mark m deep k) (put_code m w code) (put w deep k (view_of m out))
-unfolding put_mark put_code is_counted put
+    Shows (put_words m deep k) (put_code m w code) (put w deep k (view_of m out))
+unfolding put_words put_code is_counted put
 put_view m w deep k code out l h c e = go m.ok refl
   where
-    go : (z : Bool) → m.ok ≡ z → Shows (put_mark m deep k) (put_code m w code) (put w deep k (view_of m out))
+    go : (z : Bool) → m.ok ≡ z → Shows (put_words m deep k) (put_code m w code) (put w deep k (view_of m out))
     go true z =
         rw (z, lt-ltb m.parts 1024 (h z)) (record {
           view = refl;
@@ -103,9 +104,9 @@ put_view m w deep k code out l h c e = go m.ok refl
     go false z = rw z (record { view = refl; count = c; words = e })
 
 shows_put : {m : Mark} {code : List ℕ} {s : State ℕ} (w deep k : ℕ) → length code ≡ 32 → (m.ok ≡ true → m.parts < 1024) →
-    Shows m code s → Shows (put_mark m deep k) (put_code m w code) (put w deep k s)
+    Shows m code s → Shows (put_words m deep k) (put_code m w code) (put w deep k s)
 shows_put {m} {code} {s} w deep k l h v =
-    subst (λ (t : State ℕ). Shows (put_mark m deep k) (put_code m w code) (put w deep k t)) (sym v.view)
+    subst (λ (t : State ℕ). Shows (put_words m deep k) (put_code m w code) (put w deep k t)) (sym v.view)
     (put_view m w deep k code s.out l h v.count v.words)
 
 -- how far a step goes
@@ -129,8 +130,8 @@ pub record Passed (text : List ℕ) (m r : Mark) : Type 0 where
   pub on : m.at ≤ r.at
   pub within : r.at ≤ length text
 
-pub passed : (text : List ℕ) (m : Mark) → m.at ≤ length text → Passed text m (length_mark text m)
-unfolding length_mark
+pub passed : (text : List ℕ) (m : Mark) → m.at ≤ length text → Passed text m (length_passed text m)
+unfolding length_passed
 passed text m h =
     by_cond (Passed text m) (ltb 0 (length_end text m))
     (λ e.
@@ -143,8 +144,8 @@ pub record Put (m r : Mark) : Type 0 where
   pub most : r.parts ≤ m.parts + 1
   pub bad : m.ok ≡ false → r.parts ≡ m.parts
 
-pub put_is : (m : Mark) (deep k : ℕ) → Put m (put_mark m deep k)
-unfolding put_mark is_counted
+pub put_is : (m : Mark) (deep k : ℕ) → Put m (put_words m deep k)
+unfolding put_words is_counted
 put_is m deep k =
     by_cond (Put m) (is_counted m)
     (λ e. record { at = refl; most = omega arith; bad = λ h. never (sym h ∙ and_left m.ok (ltb m.parts 1024) e) })
@@ -190,7 +191,7 @@ module _ {text old : List ℕ} {m : Mark} {G : ℕ → State ℕ → State ℕ} 
       subst (λ (l : List ℕ). Done G level text m old l r) (sym e) (subst (λ (y : Mark). Done G level text m old mid y) (sym f) d)
 
   pub moving_by : (k : ℕ) → Done G level text m old mid x → x.at + k ≤ length text →
-      Done (λ n s. stepped k (G n s)) level text m old mid (moved_mark x (x.at + k))
+      Done (λ n s. stepped k (G n s)) level text m old mid (moved_to x (x.at + k))
   unfolding stepped
   moving_by k d h =
       record {
@@ -202,7 +203,7 @@ module _ {text old : List ℕ} {m : Mark} {G : ℕ → State ℕ → State ℕ} 
       }
 
   pub moving : Done G level text m old mid x → x.at < length text →
-      Done (λ n s. stepped 1 (G n s)) level text m old mid (moved_mark x (x.at + 1))
+      Done (λ n s. stepped 1 (G n s)) level text m old mid (moved_to x (x.at + 1))
   moving d h = moving_by 1 d (omega arith)
 
   pub expecting : (b : ℕ) → 0 < b → Done G level text m old mid x →
@@ -217,7 +218,7 @@ module _ {text old : List ℕ} {m : Mark} {G : ℕ → State ℕ → State ℕ} 
         few = omega (arith, d.few, e.parts, e.on);
       }
 
-  pub passing : Done G level text m old mid x → Done (λ n s. pass_length text (G n s)) level text m old mid (length_mark text x)
+  pub passing : Done G level text m old mid x → Done (λ n s. pass_length text (G n s)) level text m old mid (length_passed text x)
   passing d =
       let e = passed text x d.within in
       record {
@@ -247,7 +248,7 @@ module _ {text old : List ℕ} {m : Mark} {G : ℕ → State ℕ → State ℕ} 
 
   pub putting : {deep0 : ℕ} (w deep k : ℕ) → Ready text old m deep0 → Done G level text m old mid x →
       (x.ok ≡ true → x.parts + m.at + 1 ≤ m.parts + x.at) →
-      Done (λ n s. put w deep k (G n s)) level text m old (put_code x w mid) (put_mark x deep k)
+      Done (λ n s. put w deep k (G n s)) level text m old (put_code x w mid) (put_words x deep k)
   putting w deep k g d h =
       let p = put_is x deep k in
       record {
@@ -258,7 +259,7 @@ module _ {text old : List ℕ} {m : Mark} {G : ℕ → State ℕ → State ℕ} 
         few = go x.ok refl;
       }
     where
-      go : (z : Bool) → x.ok ≡ z → (put_mark x deep k).parts + m.at ≤ m.parts + (put_mark x deep k).at
+      go : (z : Bool) → x.ok ≡ z → (put_words x deep k).parts + m.at ≤ m.parts + (put_words x deep k).at
       go true z = let p = put_is x deep k in omega (arith, p.at, p.most, h z)
       go false z = let p = put_is x deep k in omega (arith, p.at, p.bad z, d.few)
 

@@ -11,16 +11,16 @@ use borrow.Author.Tests.{eqb-true, lt-ltb, le-ltb}
 use Rattle.names.specs.Names.{letter, name_byte}
 use Rattle.grammar.specs.Reader.{run, bad, stepped, put, astray, leaf_at}
 use Rattle.grammar.specs.Formula.{coded, name_word}
-use Rattle.marks.specs.Marks.{Mark, mark_of, next_mark}
+use Rattle.marks.specs.declared.Mark.{Mark}
+use Rattle.marks.specs.Marks.{next_mark}
 use Rattle.openings.specs.Opening.{reach_mark}
 use Rattle.tokens.specs.Tokens.{leaf_end, leaf_word}
 use Rattle.marks.proofs.Marking.{inside}
 use Rattle.tokens.proofs.Runs.{letter_name, run_some, run_most, none_at_0}
 use Rattle.moves.proofs.Stepping.{stray_fits}
-use Rattle.moves.specs.Moves.{strayed, put_code, leaf_words, leaf_code}
+use Rattle.moves.specs.Moves.{strayed, put_code, leaf_words, leaf_code, moved_to, put_words}
 use Rattle.formulas.specs.Readers.{view_of, Ready, Done}
 use Rattle.grammar.proofs.Bytes.{by_cond}
-use Rattle.formulas.proofs.MarkSteps.{moved_mark, put_mark, stray_mark, moved_leaves, stray_leaves, put_leaves}
 use Rattle.formulas.proofs.Doing.{view_next, kept, starting, moving_by, putting, becoming, turned}
 
 abbrev pub LeafRead : List ℕ → ℕ → Mark → List ℕ → List ℕ → Mark → Type 0
@@ -105,28 +105,28 @@ module _ (text old : List ℕ) (m : Mark) (deep : ℕ) (g : Ready text old m dee
     ends : Leaf text m (leaf_end text m)
     ends = leaf_bounds text m g.within h
 
-    past : Done (λ n s. stepped (leaf_end text m - m.at) s) 0 text m old old (moved_mark m (leaf_end text m))
+    past : Done (λ n s. stepped (leaf_end text m - m.at) s) 0 text m old old (moved_to m (leaf_end text m))
     past =
         let e : leaf_end text m ≡ m.at + (leaf_end text m - m.at) = omega (arith, ends.some) in
-        turned refl (ap (moved_mark m) e) (moving_by (leaf_end text m - m.at) (starting 0 g) (omega (arith, ends.some, ends.within)))
+        turned refl (ap (moved_to m) e) (moving_by (leaf_end text m - m.at) (starting 0 g) (omega (arith, ends.some, ends.within)))
 
-    strict : (moved_mark m (leaf_end text m)).ok ≡ true →
-        (moved_mark m (leaf_end text m)).parts + m.at + 1 ≤ m.parts + (moved_mark m (leaf_end text m)).at
+    strict : (moved_to m (leaf_end text m)).ok ≡ true →
+        (moved_to m (leaf_end text m)).parts + m.at + 1 ≤ m.parts + (moved_to m (leaf_end text m)).at
     strict ok = omega (arith, ends.some)
 
     leaf_path : (w : ℕ) → w ≡ leaf_word (next_mark text m) (min m.at 1024) (min (leaf_end text m) 1024) → (x r : Mark) (new : List ℕ) →
-        x ≡ moved_mark m (leaf_end text m) → r ≡ put_mark x deep 0 → new ≡ put_code x w old → LeafRead text deep m old new r
+        x ≡ moved_to m (leaf_end text m) → r ≡ put_words x deep 0 → new ≡ put_code x w old → LeafRead text deep m old new r
     leaf_path w e x r new q qr qn =
         let from : min m.at 1024 ≡ m.at = omega (arith, g.within, g.short) in
         let to : min (leaf_end text m) 1024 ≡ leaf_end text m = omega (arith, ends.within, g.short) in
         let e : w ≡ leaf_word (next_mark text m) m.at (leaf_end text m) = rw (from, to) at e in
         let d = putting w deep 0 g past strict in
-        turned (qn ∙ ap (λ (y : Mark). put_code y w old) q) (qr ∙ ap (λ (y : Mark). put_mark y deep 0) q)
+        turned (qn ∙ ap (λ (y : Mark). put_code y w old) q) (qr ∙ ap (λ (y : Mark). put_words y deep 0) q)
         (becoming d (λ n out.
         leaf_put text m deep out h ∙ ap (λ (v : ℕ). put v deep 0 (stepped (leaf_end text m - m.at) (view_of m out))) (sym e)))
 
-  bad_path : leaf_end text m ≤ 0 → (r : Mark) → r ≡ stray_mark text m → LeafRead text deep m old old r
-  unfolding astray reach_mark stepped bad
+  bad_path : leaf_end text m ≤ 0 → (r : Mark) → r ≡ strayed text m → LeafRead text deep m old old r
+  unfolding astray strayed reach_mark stepped bad
   bad_path h r q =
       turned refl q
       (becoming {G = λ n s. astray text s} (record {
@@ -139,20 +139,16 @@ module _ (text old : List ℕ) (m : Mark) (deep : ℕ) (g : Ready text old m dee
       (λ n out. leaf_none text m deep out h))
 
 -- what `leaf` leaves
-pub leaf_leaves : (m : List ℕ) {text old new r : List ℕ} {deep : ℕ} → length m ≡ 5 → Ready text old (mark_of m) deep →
-    (r ≡ leaf_words text m deep) × (new ≡ leaf_code text m old) → (length r ≡ 5) × LeafRead text deep (mark_of m) old new (mark_of r)
+pub leaf_leaves : {m : Mark} {text old new : List ℕ} {r : Mark} {deep : ℕ} → Ready text old m deep →
+    (r ≡ leaf_words text m deep) × (new ≡ leaf_code text m old) → LeafRead text deep m old new r
 unfolding leaf_words leaf_code
-leaf_leaves m {text} {old} {new} {r} {deep} h g q = go (dec_lt 0 (leaf_end text (mark_of m)))
+leaf_leaves {m} {text} {old} {new} {r} {deep} g q = go (dec_lt 0 (leaf_end text m))
   where
-    go : Dec (0 < leaf_end text (mark_of m)) → (length r ≡ 5) × LeafRead text deep (mark_of m) old new (mark_of r)
+    go : Dec (0 < leaf_end text m) → LeafRead text deep m old new r
     go (yes some) =
-        let e = lt-ltb 0 (leaf_end text (mark_of m)) some in
-        let x = moved_leaves m (leaf_end text (mark_of m)) h in
-        let p = put_leaves _ deep 0 x.0 (rw e at q.0) in
-        (p.0, leaf_path text old (mark_of m) deep g some _ refl _ _ _ x.1 p.1 (rw e at q.1))
+        let e = lt-ltb 0 (leaf_end text m) some in
+        leaf_path text old m deep g some _ refl (moved_to m (leaf_end text m)) r new refl (rw e at q.0) (rw e at q.1)
     go (no none) =
-        let k : leaf_end text (mark_of m) ≤ 0 = omega (arith, none) in
-        let e = le-ltb 0 (leaf_end text (mark_of m)) k in
-        let p = stray_leaves text m h in
-        let rq : r ≡ strayed text m = rw e at q.0 in
-        (ap length rq ∙ p.0, turned (rw e at q.1) refl (bad_path text old (mark_of m) deep g k (mark_of r) (ap mark_of rq ∙ p.1)))
+        let k : leaf_end text m ≤ 0 = omega (arith, none) in
+        let e = le-ltb 0 (leaf_end text m) k in
+        turned (rw e at q.1) refl (bad_path text old m deep g k r (rw e at q.0))

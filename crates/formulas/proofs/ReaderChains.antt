@@ -9,11 +9,11 @@ use lib.ListN.{length}
 use borrow.Author.Tests.{eq-eqb}
 use Rattle.grammar.specs.Reader.{State, stepped, put}
 use Rattle.grammar.specs.Formula.{coded}
-use Rattle.marks.specs.Marks.{Mark, next_mark}
-use Rattle.moves.specs.Moves.{put_code}
+use Rattle.marks.specs.declared.Mark.{Mark}
+use Rattle.marks.specs.Marks.{next_mark}
+use Rattle.moves.specs.Moves.{put_code, put_words}
 use Rattle.formulas.specs.Readers.{view_of, Ready, Done}
 use Rattle.grammar.proofs.Branches.{Chain}
-use Rattle.formulas.proofs.MarkSteps.{put_mark}
 use Rattle.formulas.proofs.Doing.{view_next, put_is, ready_on, starting, turned, calling, putting, finishing}
 use Rattle.formulas.proofs.ReaderPaths.{Step, before, one_on, past, own_byte}
 
@@ -49,7 +49,7 @@ module _ {text : List ℕ} {deep byte kind level : ℕ} {operand rest whole : �
     read = calling (past k 0) p (omega (arith, one_on k, before k, C.below))
 
     -- and the operator put out, to z
-    module _ {mid2 : List ℕ} {z : Mark} (w : (z ≡ put_mark y deep 0) × (mid2 ≡ put_code y kind mid)) where
+    module _ {mid2 : List ℕ} {z : Mark} (w : (z ≡ put_words y deep 0) × (mid2 ≡ put_code y kind mid)) where
       joined : Done (λ n s. put kind deep 0 (operand n (stepped 1 s))) 0 text m old mid2 z
       joined = turned w.1 w.0 (putting kind deep 0 k.ready read (own_byte k p))
 

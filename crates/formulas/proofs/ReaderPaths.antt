@@ -13,15 +13,16 @@ use Rattle.grammar.specs.Reader.{factor_at}
 use Rattle.grammar.specs.Reader.{latch_at, timer_at}
 use Rattle.grammar.specs.Formula.{coded, timer_word}
 use Rattle.texts.specs.Lengths.{capped}
-use Rattle.marks.specs.Marks.{Mark, next_mark}
+use Rattle.marks.specs.declared.Mark.{Mark}
+use Rattle.marks.specs.Marks.{next_mark}
 use Rattle.grammar.specs.Kinds as kinds
 use Rattle.openings.specs.Opening.{BRACKET, open_kind, open_bytes}
-use Rattle.moves.specs.Moves.{length_ticks, put_code}
+use Rattle.moves.specs.Moves.{length_ticks, put_code, length_passed, moved_to, put_words}
 use Rattle.formulas.specs.Readers.{view_of, Ready, Done, SumRead, FactorRead, LatchRead, TimerRead}
 use Rattle.marks.proofs.Marking.{inside}
 use Rattle.openings.proofs.Openings.{block_mark, Opens, opens, prefix_above}
 use Rattle.grammar.proofs.Branches.{BlockNext, latch_is, timer_is}
-use Rattle.formulas.proofs.MarkSteps.{moved_mark, expect_mark, length_mark, put_mark}
+use Rattle.formulas.proofs.MarkSteps.{expect_mark}
 use Rattle.formulas.proofs.LeafPaths.{LeafRead}
 use Rattle.formulas.proofs.Doing.{view_next, view_length, ready_deeper, starting, turned, moving, moving_by, expecting, passing}
 use Rattle.formulas.proofs.Doing.{calling, putting, closing, finishing, ticks_are}
@@ -32,11 +33,11 @@ pub record Step (text old : List ℕ) (m : Mark) (deep level t b : ℕ) (x : Mar
   pub falls : 5 * (length text - m.at) + deep + level ≡ t
   pub next : next_mark text m ≡ b
   pub some : 0 < b
-  pub moved : x ≡ moved_mark m (m.at + 1)
+  pub moved : x ≡ moved_to m (m.at + 1)
 
 pub step : {text old : List ℕ} {m : Mark} {deep level t b : ℕ} {x : Mark} →
     (5 * (length text - m.at) + deep + level ≡ t) × Ready text old m deep →
-    next_mark text m ≡ b → 0 < b → x ≡ moved_mark m (m.at + 1) → Step text old m deep level t b x
+    next_mark text m ≡ b → 0 < b → x ≡ moved_to m (m.at + 1) → Step text old m deep level t b x
 step p e pos q = record { ready = p.1; falls = p.0; next = e; some = pos; moved = q }
 
 module _ {text old : List ℕ} {m : Mark} {deep level t b : ℕ} {x : Mark} (k : Step text old m deep level t b x) where
@@ -64,7 +65,7 @@ module _ {text old : List ℕ} {m : Mark} {deep t b : ℕ} {x : Mark} (k : Step 
   deeper l p = calling (past k 1) p (omega (arith, one_on k, before k))
 
   pub prefix_path : {mid new : List ℕ} {y r : Mark} (kind : ℕ) → kind ≡ prefix_kind b → 0 < kind → FactorRead text (deep + 1) x old mid y →
-      (r ≡ put_mark y deep 0) × (new ≡ put_code y kind mid) → FactorRead text deep m old new r
+      (r ≡ put_words y deep 0) × (new ≡ put_code y kind mid) → FactorRead text deep m old new r
   unfolding factor_at
   prefix_path kind pk pos p w =
       finishing (turned w.1 w.0 (putting kind deep 0 k.ready (deeper (omega arith) p) (own_byte k p)))
@@ -87,14 +88,14 @@ pub record Opening (text old : List ℕ) (m : Mark) (deep t first : ℕ) (x : Ma
   pub ready : Ready text old m deep
   pub falls : 5 * (length text - m.at) + deep + 2 ≡ t
   pub kind : first ≡ open_kind text m
-  pub moved : x ≡ moved_mark m (m.at + open_bytes first)
+  pub moved : x ≡ moved_to m (m.at + open_bytes first)
 
 module _ {text old : List ℕ} {m : Mark} {deep t first : ℕ} {x : Mark} (k : Opening text old m deep t first x) where
   says : Opens text m first
   says = subst (Opens text m) (sym k.kind) (opens text m)
 
-  to : (n : ℕ) → open_bytes first ≡ n → x ≡ moved_mark m (m.at + n)
-  to n e = k.moved ∙ ap (λ (j : ℕ). moved_mark m (m.at + j)) e
+  to : (n : ℕ) → open_bytes first ≡ n → x ≡ moved_to m (m.at + n)
+  to n e = k.moved ∙ ap (λ (j : ℕ). moved_to m (m.at + j)) e
 
   pub prefix_step : (first ≡ 0 → ⊥) → first < kinds.TON → Step text old m deep 2 t (next_mark text m) x
   prefix_step some low =
@@ -102,7 +103,7 @@ module _ {text old : List ℕ} {m : Mark} {deep t first : ℕ} {x : Mark} (k : O
       step (k.falls, k.ready) refl (prefix_above (next_mark text m) first (says.prefix pos low) pos) (to 1 (says.one pos low))
 
   pub opened_prefix : {mid new : List ℕ} {y r : Mark} → (first ≡ 0 → ⊥) → first < kinds.TON → FactorRead text (deep + 1) x old mid y →
-      (r ≡ put_mark y deep 0) × (new ≡ put_code y first mid) → FactorRead text deep m old new r
+      (r ≡ put_words y deep 0) × (new ≡ put_code y first mid) → FactorRead text deep m old new r
   opened_prefix some low p w =
       let pos = positive first some in prefix_path (prefix_step some low) first (sym (says.prefix pos low)) pos p w
 
@@ -113,7 +114,7 @@ module _ {text old : List ℕ} {m : Mark} {deep t first : ℕ} {x : Mark} (k : O
   -- no opening
   stays : first ≡ 0 → x ≡ m
   unfolding open_bytes
-  stays e = to 0 (ap open_bytes e) ∙ ap (moved_mark m) (add-zero m.at)
+  stays e = to 0 (ap open_bytes e) ∙ ap (moved_to m) (add-zero m.at)
 
   pub leaf_needs : first ≡ 0 → Ready text old x deep
   leaf_needs e = subst (λ (y : Mark). Ready text old y deep) (sym (stays e)) k.ready
@@ -179,13 +180,13 @@ module _ {text old : List ℕ} {m : Mark} (deep : ℕ) (g : Ready text old m (de
           mid2 y3
       closed = turned refl q3 (expecting 41 (omega arith) both)
 
-      pub latch_path : {new : List ℕ} {r : Mark} (kind : ℕ) → new ≡ put_code y3 kind mid2 → r ≡ put_mark y3 deep 0 →
+      pub latch_path : {new : List ℕ} {r : Mark} (kind : ℕ) → new ≡ put_code y3 kind mid2 → r ≡ put_words y3 deep 0 →
           LatchRead text kind deep m old new r
       unfolding latch_at
       latch_path kind q w = finishing (turned q w (putting kind deep 0 g closed (closing both q3))) (λ n out. refl)
 
   -- length,sum) after TON(, TOF( or TP(
-  module _ {p : Mark} (qp : p ≡ length_mark text m) {y2 : Mark} (q2 : y2 ≡ expect_mark text 44 p) where
+  module _ {p : Mark} (qp : p ≡ length_passed text m) {y2 : Mark} (q2 : y2 ≡ expect_mark text 44 p) where
     pub measured : Done (λ n s. pass_length text s) 4 text m old old p
     measured = turned refl qp (passing (starting 4 g))
 
@@ -203,7 +204,7 @@ module _ {text old : List ℕ} {m : Mark} (deep : ℕ) (g : Ready text old m (de
       to_at out = ap (λ (j : Mark). j.at) qp ∙ ap (λ (j : State ℕ). j.at) (view_length text m out)
 
       pub timer_path : {new : List ℕ} {r : Mark} (kind n : ℕ) → n ≡ length_ticks text m →
-          new ≡ put_code y3 (n * 16 + kind) mid → r ≡ put_mark y3 deep n → TimerRead text kind deep m old new r
+          new ≡ put_code y3 (n * 16 + kind) mid → r ≡ put_words y3 deep n → TimerRead text kind deep m old new r
       unfolding timer_at timed timer_word
       timer_path kind n e q w =
           let e : n ≡ capped (value_between text m.at p.at) =

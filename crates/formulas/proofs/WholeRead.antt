@@ -22,7 +22,8 @@ use Rattle.texts.specs.Lengths.{capped}
 use Rattle.grammar.specs.Formula.{spelled, coded, accepted, parts_of, depth_of, longest_of, formula_fault, stop_of, stop_place}
 use Rattle.grammar.specs.PartWords.{part_of}
 use Rattle.grammar.specs.Formula.{code_of, code_after}
-use Rattle.marks.specs.Marks.{Mark, mark_of, mark_fault, lent}
+use Rattle.marks.specs.declared.Mark.{Mark}
+use Rattle.marks.specs.Marks.{mark_fault, lent}
 use Rattle.formulas.specs.Calls.{CallOfRead, CallOfJudge}
 use Rattle.formulas.specs.Readers.{Shows, Ready, SumRead, Begun}
 use Rattle.grammar.proofs.Coding.{coded_run, cut_part}
@@ -46,13 +47,9 @@ laid text blank page e b h =
       rw (q, p) (take-append_seam text (drop (length text) blank)),
     )
 
--- at the first byte, the words of the mark, and a page
-abbrev pub begin : List ℕ
-begin = 1 ∷ 0 ∷ 0 ∷ 0 ∷ 0 ∷ []
-
-pub begun : (page : List ℕ) (bytes : ℕ) {words : List ℕ} → length words ≡ 32 → Begun page bytes words begin 0
-unfolding mark_of
-begun page bytes {words} w = (refl, ready_first (lent page bytes) words (omega (arith, lent_most page bytes)) w)
+-- at the first byte of a page
+pub begun : (page : List ℕ) (bytes : ℕ) {words : List ℕ} → length words ≡ 32 → Begun page bytes words first 0
+begun page bytes {words} w = ready_first (lent page bytes) words (omega (arith, lent_most page bytes)) w
 
 pub lent_all : (page : List ℕ) (bytes : ℕ) → length page ≡ 1024 → bytes ≤ 1024 → length (lent page bytes) ≡ bytes
 unfolding lent

@@ -2,7 +2,8 @@
 use Rattle.std.specs.Prelude.{ℕ, ◌+◌, ◌*◌, ◌-◌, ◌≤◌, ◌≡◌, List, length, take}
 use Rattle.grammar.specs.Formula.{coded}
 use Rattle.grammar.specs.Reader.{State, sum_at, sums_at, product_at, products_at, factor_at, latch_at, timer_at}
-use Rattle.marks.specs.Marks.{Mark, mark_of, lent}
+use Rattle.marks.specs.declared.Mark.{Mark}
+use Rattle.marks.specs.Marks.{lent}
 
 -- the state of a reader that is at a mark and has put these words out
 abbrev pub view_of : Mark → List ℕ → State ℕ
@@ -52,9 +53,9 @@ LatchRead text kind deep m old new r = Done (λ n. latch_at coded text n kind de
 abbrev pub TimerRead : List ℕ → ℕ → ℕ → Mark → List ℕ → List ℕ → Mark → Type 0
 TimerRead text kind deep m old new r = Done (λ n. timer_at coded text n kind deep) 5 text m old new r
 
--- the same where the text and the marks are lent, the marks as five words
-abbrev pub Begun : List ℕ → ℕ → List ℕ → List ℕ → ℕ → Type 0
-Begun page bytes code m deep = (length m ≡ 5) × (Ready (lent page bytes) code (mark_of m) deep)
+-- the same where the text is lent
+abbrev pub Begun : List ℕ → ℕ → List ℕ → Mark → ℕ → Type 0
+Begun page bytes code m deep = Ready (lent page bytes) code m deep
 
-abbrev pub Left : (Mark → List ℕ → List ℕ → Mark → Type 0) → List ℕ → List ℕ → List ℕ → List ℕ → Type 0
-Left R m old new r = (length r ≡ 5) × (R (mark_of m) old new (mark_of r))
+abbrev pub Left : (Mark → List ℕ → List ℕ → Mark → Type 0) → Mark → List ℕ → List ℕ → Mark → Type 0
+Left R m old new r = R m old new r

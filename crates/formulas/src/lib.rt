@@ -9,7 +9,7 @@ ghost use Rattle.marks.specs.Marks.{lent};
 ghost use Rattle.formulas.specs.Calls.{CallOfRead, CallOfJudge};
 
 use grammar::Stop;
-use marks::{AT, OK, PARTS, fault_of};
+use marks::{Mark, fault_of};
 use signals::Written;
 use slices::put;
 
@@ -21,11 +21,7 @@ fn copy(words: &[u64], count: usize, code: &mut [u64; 32])
     requires { (count ≤ length words.now) × (count ≤ 32) }
     ensures { code.new ≡ sets code.old 0 (take count words.now) }
 {
-    let mut i = 0;
-    while i < count {
-        code[i] = words[i];
-        i += 1;
-    }
+    copying::copy(&words[..count], code);
 }
 
 // Reads the text that is the first bytes of a page, 1 to 1,024.
@@ -34,13 +30,18 @@ fn judge_page(page: &[u8; 1024], bytes: usize, code: &mut [u64; 32]) -> Stop
     ensures { CallOfJudge (lent page.now bytes) code.old result code.new }
 {
     let mut words = [0u64; 32];
-    let mut m = [0usize; 5];
-    m[OK] = 1;
+    let mut m = Mark {
+        ok: true,
+        at: 0,
+        parts: 0,
+        deepest: 0,
+        longest: 0,
+    };
     reader::sum(page, bytes, &mut words, &mut m, 0);
     let fault = fault_of(&m, bytes);
-    let place = m[AT];
+    let place = m.at;
     if fault == 0 {
-        let parts = m[PARTS];
+        let parts = m.parts;
         copy(&words, parts, code);
         return Stop {
             fault: 0,
@@ -61,14 +62,7 @@ pub fn judge(text: &[u8], code: &mut [u64; 32]) -> Stop
     ensures { CallOfJudge text.now code.old result code.new }
 {
     let bytes = text.len();
-    if bytes == 0 {
-        return Stop {
-            fault: 10,
-            place: 0,
-            parts: 0,
-        };
-    }
-    if MOST_BYTES < bytes {
+    if bytes == 0 || MOST_BYTES < bytes {
         return Stop {
             fault: 10,
             place: 0,
@@ -86,7 +80,8 @@ pub fn read(text: &[u8], code: &mut [u64; 32]) -> Written
 {
     let stop = judge(text, code);
     if stop.fault == 0 {
-        return Written::Count(stop.parts);
+        Written::Count(stop.parts)
+    } else {
+        Written::Refused(stop.fault)
     }
-    Written::Refused(stop.fault)
 }

@@ -4,18 +4,12 @@ ghost use Rattle.marks.specs.Marks.{lent};
 ghost use Rattle.formulas.specs.Readers.{Begun, Left, SumRead, SumsRead, ProductRead, ProductsRead};
 ghost use Rattle.formulas.specs.Readers.{FactorRead, LatchRead, TimerRead};
 
-use marks::kind;
+use marks::{Mark, kind};
 use moves::{begin, expect, leaf, pass, pass_length, put};
 
 // sum = product {"+" product}
 #[cycle(factor_latch_product_products_sum_sums_timer)]
-pub(crate) fn sum(
-    text: &[u8; 1024],
-    bytes: usize,
-    code: &mut [u64; 32],
-    m: &mut [usize; 5],
-    deep: usize,
-)
+pub(crate) fn sum(text: &[u8; 1024], bytes: usize, code: &mut [u64; 32], m: &mut Mark, deep: usize)
     requires { Begun text.now bytes code.old m.old deep }
     ensures { Left (SumRead (lent text.now bytes) deep) m.old
         code.old code.new m.new }
@@ -26,7 +20,7 @@ pub(crate) fn sum(
 
 // {"+" product}
 #[cycle(factor_latch_product_products_sum_sums_timer)]
-fn sums(text: &[u8; 1024], bytes: usize, code: &mut [u64; 32], m: &mut [usize; 5], deep: usize)
+fn sums(text: &[u8; 1024], bytes: usize, code: &mut [u64; 32], m: &mut Mark, deep: usize)
     requires { Begun text.now bytes code.old m.old deep }
     ensures { Left (SumsRead (lent text.now bytes) deep) m.old
         code.old code.new m.new }
@@ -40,7 +34,7 @@ fn sums(text: &[u8; 1024], bytes: usize, code: &mut [u64; 32], m: &mut [usize; 5
 
 // product = factor {"." factor}
 #[cycle(factor_latch_product_products_sum_sums_timer)]
-fn product(text: &[u8; 1024], bytes: usize, code: &mut [u64; 32], m: &mut [usize; 5], deep: usize)
+fn product(text: &[u8; 1024], bytes: usize, code: &mut [u64; 32], m: &mut Mark, deep: usize)
     requires { Begun text.now bytes code.old m.old deep }
     ensures { Left (ProductRead (lent text.now bytes) deep) m.old
         code.old code.new m.new }
@@ -51,7 +45,7 @@ fn product(text: &[u8; 1024], bytes: usize, code: &mut [u64; 32], m: &mut [usize
 
 // {"." factor}
 #[cycle(factor_latch_product_products_sum_sums_timer)]
-fn products(text: &[u8; 1024], bytes: usize, code: &mut [u64; 32], m: &mut [usize; 5], deep: usize)
+fn products(text: &[u8; 1024], bytes: usize, code: &mut [u64; 32], m: &mut Mark, deep: usize)
     requires { Begun text.now bytes code.old m.old deep }
     ensures { Left (ProductsRead (lent text.now bytes) deep) m.old
         code.old code.new m.new }
@@ -65,7 +59,7 @@ fn products(text: &[u8; 1024], bytes: usize, code: &mut [u64; 32], m: &mut [usiz
 
 // factor = "!" factor, "^" factor, "~" factor, "(" sum ")", "0", "1", name, or a block
 #[cycle(factor_latch_product_products_sum_sums_timer)]
-fn factor(text: &[u8; 1024], bytes: usize, code: &mut [u64; 32], m: &mut [usize; 5], deep: usize)
+fn factor(text: &[u8; 1024], bytes: usize, code: &mut [u64; 32], m: &mut Mark, deep: usize)
     requires { Begun text.now bytes code.old m.old deep }
     ensures { Left (FactorRead (lent text.now bytes) deep) m.old
         code.old code.new m.new }
@@ -98,7 +92,7 @@ fn latch(
     text: &[u8; 1024],
     bytes: usize,
     code: &mut [u64; 32],
-    m: &mut [usize; 5],
+    m: &mut Mark,
     part: u64,
     deep: usize,
 )
@@ -119,7 +113,7 @@ fn timer(
     text: &[u8; 1024],
     bytes: usize,
     code: &mut [u64; 32],
-    m: &mut [usize; 5],
+    m: &mut Mark,
     part: u64,
     deep: usize,
 )

@@ -1,27 +1,15 @@
 -- Storing a list's elements one after the other.
-use Prim.Native.Nat.{ℕ, suc, ◌+◌, ◌≤◌, ◌<◌}
-use native.Mathlib.Nat.{add-zero, zero-add}
-use native.Mathlib.Numerals.{add-one}
+use Prim.Native.Nat.{ℕ, ◌≤◌}
+use native.Mathlib.Nat.{zero-add}
 use native.Mathlib.Omega.{arith}
-use mathlib.Core.Path.{◌≡◌, refl, sym, ap, ◌∙◌}
-use mathlib.Core.List.{List, [], ◌∷◌, ◌++◌}
-use lib.ListN.{length, take, drop, get_or, set}
+use mathlib.Core.Path.{◌≡◌, refl, ◌∙◌}
+use mathlib.Core.List.{List, ◌++◌}
+use lib.ListN.{length, drop}
 use lib.Dec.{eqb}
-use lib.Seq.{sets, sets-eq, take-suc, length-take-le, length-sets}
+use lib.Seq.{sets, sets-eq, length-sets}
 use borrow.Author.Tests.{eq-eqb}
 use Rattle.grammar.specs.Formula.{formula_fault, code_of, code_after}
 use Rattle.grammar.proofs.Bytes.{by_cond}
-
-sets_more : (vs l : List ℕ) (i : ℕ) (w : ℕ) → sets l i (vs ++ (w ∷ [])) ≡ set (sets l i vs) (i + length vs) w
-sets_more [] l i w = rw (add-zero i) refl
-sets_more (v ∷ vs) l i w = sets_more vs (set l i v) (suc i) w ∙ ap (λ (k : ℕ). set (sets (set l i v) (suc i) vs) k w) (omega arith)
-
-pub sets_next : (words l : List ℕ) (i : ℕ) → i < length words →
-    set (sets l 0 (take i words)) i (get_or words i 0) ≡ sets l 0 (take (i + 1) words)
-sets_next words l i h =
-    let e : 0 + length (take i words) ≡ i = rw (length-take-le i words (omega arith)) (omega arith) in
-    sym (rw (add-one i, take-suc words i 0 h) (sets_more (take i words) l 0 (get_or words i 0)
-    ∙ ap (λ (k : ℕ). set (sets l 0 (take i words)) k (get_or words i 0)) e))
 
 -- where there is room for them, they take the place of as many at the front
 pub sets_front : (words l : List ℕ) → length words ≤ length l → sets l 0 words ≡ words ++ drop (length words) l

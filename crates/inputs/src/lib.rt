@@ -19,11 +19,7 @@ pub fn buffer() -> [u8; BYTES]
 fn first(input: &[u8; BYTES], n: usize) -> &[u8]
     ensures { PartOfInput counted input.now n result.now }
 {
-    let text: &[u8] = input;
-    if n < text.len() {
-        return &text[..n];
-    }
-    text
+    &input[..n.min(BYTES)]
 }
 
 // The first line of the first n bytes of an input.

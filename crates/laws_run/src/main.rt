@@ -8,7 +8,6 @@ mod sides;
 
 use crate::judged::judge;
 use crate::sides::sides;
-use fields::{byte_at, part};
 use random_calls::kept;
 use random_formulas::cells::{Cells, NAMES, SEED, TALLY, whole};
 use random_sheets::drawn::{ordinary_times, sheet, signals};
@@ -29,11 +28,9 @@ fn applied(cells: &mut Cells, way: usize, from: &[u8], to: &[u8]) {
 }
 
 fn both_ways(cells: &mut Cells, left: &[u8], right: &[u8]) {
-    let mut i: usize = 0;
-    while i < 50 {
+    for _ in 0..50 {
         applied(cells, 1, left, right);
         applied(cells, 2, right, left);
-        i += 1;
     }
 }
 
@@ -70,37 +67,17 @@ fn law(
     told(rt, cells, number)
 }
 
-// The law whose line begins at i, where one does; how many laws then.
-fn law_at(
-    rt: &impl Print,
-    cells: &mut Cells,
-    text: &[u8],
-    i: usize,
-    before: u64,
-) -> io::Result<u64> {
-    if 0 < i {
-        if byte_at(text, i - 1) != b'\n' {
-            return Ok(before);
-        }
-    }
-    let line = part_before(part(text, i, text.len()), b'\n');
-    let number = before % 64 + 1;
-    law(
-        rt,
-        cells,
-        number,
-        part_before(line, b'='),
-        part_after(line, b'='),
-    )?;
-    Ok(number)
-}
-
+// Each line is a law.
 fn run(rt: &impl Print, cells: &mut Cells, text: &[u8]) -> io::Result<()> {
-    let mut number: u64 = 0;
-    let mut i: usize = 0;
-    while i < text.len() {
-        number = law_at(rt, cells, text, i, number)?;
-        i += 1;
+    for (i, line) in text.split_inclusive(|b| *b == b'\n').enumerate() {
+        let sides = part_before(line, b'\n');
+        law(
+            rt,
+            cells,
+            (i % 64) as u64 + 1,
+            part_before(sides, b'='),
+            part_after(sides, b'='),
+        )?;
     }
     Ok(())
 }

@@ -17,12 +17,10 @@ fn letter_at(q: usize) -> usize {
 }
 
 fn letters_drawn(cells: &mut Cells) {
-    let mut q: usize = 0;
-    while q < 6 {
+    for q in 0..6 {
         let least = roll(cells, 3) % 3 + 1;
         let n = grow(cells, letter_at(q) % 2048 + 1, least as usize);
         set(cells, letter_at(q), n as u64);
-        q += 1;
     }
 }
 
@@ -36,75 +34,68 @@ fn put(cells: &mut Cells, n: usize, word: u64) -> usize {
 // Puts so many parts from a place on after n parts; how many then.
 fn put_tree(cells: &mut Cells, n: usize, from: usize, parts: usize) -> usize {
     let mut to = n;
-    let mut i: usize = 0;
-    while i < parts {
+    for i in 0..parts {
         to = put(cells, to, at(cells, from % 4096 + i % 256));
-        i += 1;
     }
     to
 }
 
 // The length that the words at the start of a text stand for: the larger, the smaller, d+e, e, d.
 fn length(first: u8, second: u8, fifth: u8, d: u64, e: u64) -> u64 {
-    let less = d < e;
-    if first == b't' {
-        if (fifth == b'l') == less { e } else { d }
-    } else if second == b'+' {
-        d % 8 + e % 8
-    } else if first == b'e' {
-        e
-    } else {
-        d
+    match (first, second, fifth) {
+        (b't', _, b'l') => d.max(e),
+        (b't', _, _) => d.min(e),
+        (_, b'+', _) => d % 8 + e % 8,
+        (b'e', _, _) => e,
+        _ => d,
     }
 }
 
-// Whether a length begins (1) or goes on (2) after a byte and the one before it.
-fn inside(state: u8, before: u8, b: u8) -> u8 {
-    if b == b',' {
-        0
-    } else if 0 < state {
-        2
-    } else if b != b'(' {
-        0
-    } else if before == b'N' {
-        1
-    } else if before == b'F' {
-        1
-    } else {
-        0
+// Where a byte stands: in no length's words, at their start, or in their rest.
+#[derive(Clone, Copy, PartialEq, Eq, Debug)]
+enum State {
+    Outside,
+    Start,
+    Rest,
+}
+
+// Where the byte stands that comes after a byte and the one before it.
+fn after(state: State, before: u8, b: u8) -> State {
+    match (state, before, b) {
+        (_, _, b',') => State::Outside,
+        (State::Start | State::Rest, _, _) => State::Rest,
+        (State::Outside, b'N' | b'F', b'(') => State::Start,
+        _ => State::Outside,
     }
 }
 
 // How many bytes a byte gives: none of the rest of a length's words.
-fn width(state: u8, b: u8) -> usize {
-    if state == 2 {
-        if b == b',' { 1 } else { 0 }
-    } else {
-        1
-    }
+fn width(state: State, b: u8) -> usize {
+    usize::from(state != State::Rest || b == b',')
 }
 
 // The byte at i of a side, or the length that begins there.
-fn sign(side: &[u8], i: usize, state: u8, d: u64, e: u64) -> u8 {
+fn sign(side: &[u8], i: usize, state: State, d: u64, e: u64) -> u8 {
     let k = i % 65536;
     let b = byte_at(side, k);
     let long = length(b, byte_at(side, k + 1), byte_at(side, k + 4), d, e) % 10;
-    if state == 1 { 48 + long as u8 } else { b }
+    if state == State::Start {
+        b'0' + long as u8
+    } else {
+        b
+    }
 }
 
 // A side with lengths for their words; how many bytes.
 fn with_lengths(side: &[u8], d: u64, e: u64, out: &mut [u8; 64]) -> usize {
     let mut n: usize = 0;
-    let mut state: u8 = 0;
+    let mut state = State::Outside;
     let mut before: u8 = 0;
-    let mut i: usize = 0;
-    while i < side.len() {
-        let b = byte_at(side, i);
+    for (i, b) in side.iter().enumerate() {
         out[n % 64] = sign(side, i, state, d, e);
-        n = n % 64 + width(state, b) % 2;
-        state = inside(state, before, b);
-        before = b;
-        i += 1;
+        n = n % 64 + width(state, *b) % 2;
+        state = after(state, before, *b);
+        before = *b;
     }
     n
 }
@@ -131,27 +122,20 @@ fn put_part(cells: &mut Cells, n: usize, text: &[u8], word: u64) -> usize {
 
 fn put_parts(cells: &mut Cells, n: usize, text: &[u8], code: &[u64; 32], count: usize) -> usize {
     let mut to = n;
-    let mut i: usize = 0;
-    while i < count {
-        to = put_part(cells, to, text, code[i % 32]);
-        i += 1;
+    for word in code.iter().take(count) {
+        to = put_part(cells, to, text, *word);
     }
     to
-}
-
-fn count_of(answer: Written) -> usize {
-    match answer {
-        Written::Count(count) => count,
-        Written::Refused(fault) => 0,
-    }
 }
 
 // Puts the parts of a formula of so many bytes after n parts; how many then.
 fn put_formula(cells: &mut Cells, n: usize, side: &[u8; 64], bytes: usize) -> usize {
     let text = part(side, 0, bytes);
     let mut code = [0u64; 32];
-    let count = count_of(formulas::read(text, &mut code));
-    put_parts(cells, n, text, &code, count)
+    match formulas::read(text, &mut code) {
+        Written::Count(count) => put_parts(cells, n, text, &code, count),
+        Written::Refused(_) => n,
+    }
 }
 
 fn put_side(cells: &mut Cells, n: usize, side: &[u8]) -> usize {
@@ -174,14 +158,11 @@ fn side_written(cells: &mut Cells, slot: usize, n: usize, leaf: usize, side: &[u
 
 // The last leaf up to a random place; the first part is one.
 fn leaf_of(cells: &mut Cells, n: usize) -> usize {
-    let mut i = (roll(cells, n as u64) % 256) as usize;
-    while 0 < i {
-        if operands(at(cells, TREES + i % 256) % 16) == 0 {
-            return i;
-        }
-        i -= 1;
-    }
-    0
+    let last = (roll(cells, n as u64) % 256) as usize;
+    (0..last + 1)
+        .rev()
+        .find(|i| operands(at(cells, TREES + i % 256) % 16) == 0)
+        .unwrap_or(0)
 }
 
 // Draws the letters and the tree around; how many parts it has.

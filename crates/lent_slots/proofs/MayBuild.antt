@@ -1,11 +1,11 @@
--- What an engine in a slot of the work area answers, by the tests that are made before it begins.
-use Prim.Native.Nat.{ℕ, ◌+◌, ◌≤◌, ◌<◌}
+-- What an engine in a slot of the work area answers, by whether it begins.
+use Prim.Native.Nat.{ℕ, ◌+◌, ◌≤◌}
 use mathlib.Core.Path.{◌≡◌, refl, sym, ◌∙◌}
 use mathlib.Core.Bool.{Bool, true, false, ◌&&◌}
 use mathlib.Core.List.{List}
 use lib.Dec.{leb}
 use lib.ListN.{length}
-use borrow.Author.Tests.{lt-leb, le-leb, leb-true}
+use borrow.Author.Tests.{leb-true}
 use Rattle.signals.specs.Moment.{M}
 use Rattle.signals.specs.Words.{most_words}
 use Rattle.signals.proofs.Truth.{true_false, and_left, and_right}
@@ -18,10 +18,6 @@ use Rattle.sources.specs.declared.Source.{Source}
 use Rattle.lent_slots.specs.Lent.{Engine, EndsIn, may_build, BuiltAt}
 
 module _ (d : ℕ) (f : Source) (at room : ℕ) where
-  pub too_long : M < d → false ≡ may_build d f at room
-  unfolding may_build
-  too_long h = rw (lt-leb d M h)
-
   pub may_all : may_build d f at room ≡ true → (d ≤ M) × (at + most_words ≤ room) × (apart_from f at most_words ≡ true)
   unfolding may_build
   may_all e =
@@ -30,15 +26,6 @@ module _ (d : ℕ) (f : Source) (at room : ℕ) where
         leb-true (at + most_words) room (and_left (leb (at + most_words) room) (apart_from f at most_words) fits),
         and_right (leb (at + most_words) room) (apart_from f at most_words) fits,
       )
-
-  module _ (h : d ≤ M) where
-    pub no_room : room < at + most_words → false ≡ may_build d f at room
-    unfolding may_build
-    no_room r = rw (le-leb d M h, lt-leb (at + most_words) room r)
-
-    pub apart_or_not : at + most_words ≤ room → apart_from f at most_words ≡ may_build d f at room
-    unfolding may_build
-    apart_or_not r = rw (le-leb d M h, le-leb (at + most_words) room r)
 
 -- the whole call, by whether it begins
 module _ (engine : Engine) (d : ℕ) (sheet left right work : List ℕ) (f : Source) (at : ℕ) (begins : Bool)

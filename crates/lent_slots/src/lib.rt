@@ -9,15 +9,9 @@ use signals::{Length, M};
 use sources::Source;
 
 // The length is at most M, and the slot of 256 words is in the work area, apart from the operand.
+#[tactic(auto, unfolding(crate::specs::Lent::may_build))]
 pub fn begins(d: Length, f: Source, at: u32, room: usize) -> bool
     ensures { result ≡ may_build d.0 f at room }
 {
-    let length = d.0;
-    if M < length {
-        return false;
-    }
-    if room < at as usize + WORDS {
-        return false;
-    }
-    sources::apart(f, at, WORDS as u32)
+    d.0 <= M && at as usize + WORDS <= room && sources::apart(f, at, WORDS as u32)
 }

@@ -2,29 +2,74 @@
 #![tactic(auto)]
 
 use answers::shown::with_words;
-use answers::{Answer, slot, told, written};
+use answers::{Answer, number, slot, sum, told, verdict, written};
 use building::SlotAnswer;
 use fields::byte_at;
 use notation::head;
 use showing::Operation;
-use signals::{Date, Length, Told, Written};
-use sources::{Memory, Source};
+use signals::{Date, Length};
+use sources::{Lent, Memory, Source};
 use std::io;
 
-fn question(call: usize, a: &[u32], b: &[u32], k: u32) -> Told {
-    match call {
-        1 => asking::value_at(a, k),
-        2 => asking::value_in(a, k),
-        _ => comparing::equal(a, b),
-    }
+// The calls.
+#[derive(Clone, Copy, PartialEq, Eq, Debug)]
+pub enum Call {
+    ListFault,
+    ValueAt,
+    ValueIn,
+    Equal,
+    Implies,
+    DatePlusLength,
+    Tidy,
+    Not,
+    Rising,
+    Falling,
+    Sr,
+    Rs,
+    Ton,
+    Tof,
+    Tp,
+    Connective,
+    NotIn,
+    RisingIn,
+    FallingIn,
+    SrIn,
+    RsIn,
+    TonIn,
+    TofIn,
+    TpIn,
+    ConnectiveIn,
 }
 
-fn answer(call: usize, a: &[u32], b: &[u32], d: u32, k: u32) -> Answer {
-    match call {
-        0 => answers::number(lists::list_fault(a)),
-        4 => answers::verdict(comparing::implies(a, b)),
-        5 => answers::sum(words::date_plus_length(Date(d), Length(k))),
-        _ => told(question(call, a, b, k)),
+// The call of a name.
+pub fn call_of(name: &[u8]) -> Option<Call> {
+    match name {
+        b"list_fault" => Some(Call::ListFault),
+        b"value_at" => Some(Call::ValueAt),
+        b"value_in" => Some(Call::ValueIn),
+        b"equal" => Some(Call::Equal),
+        b"implies" => Some(Call::Implies),
+        b"date_plus_length" => Some(Call::DatePlusLength),
+        b"tidy" => Some(Call::Tidy),
+        b"not" => Some(Call::Not),
+        b"rising" => Some(Call::Rising),
+        b"falling" => Some(Call::Falling),
+        b"sr" => Some(Call::Sr),
+        b"rs" => Some(Call::Rs),
+        b"ton" => Some(Call::Ton),
+        b"tof" => Some(Call::Tof),
+        b"tp" => Some(Call::Tp),
+        b"connective" => Some(Call::Connective),
+        b"not_in" => Some(Call::NotIn),
+        b"rising_in" => Some(Call::RisingIn),
+        b"falling_in" => Some(Call::FallingIn),
+        b"sr_in" => Some(Call::SrIn),
+        b"rs_in" => Some(Call::RsIn),
+        b"ton_in" => Some(Call::TonIn),
+        b"tof_in" => Some(Call::TofIn),
+        b"tp_in" => Some(Call::TpIn),
+        b"connective_in" => Some(Call::ConnectiveIn),
+        _ => None,
     }
 }
 
@@ -34,29 +79,6 @@ fn table(digits: &[u8]) -> [[bool; 2]; 2] {
         [byte_at(digits, 0) == b'1', byte_at(digits, 1) == b'1'],
         [byte_at(digits, 2) == b'1', byte_at(digits, 3) == b'1'],
     ]
-}
-
-fn operation(
-    call: usize,
-    t: [[bool; 2]; 2],
-    d: u32,
-    a: &[u32],
-    b: &[u32],
-    c: &[u32],
-    out: &mut [u32],
-) -> Written {
-    match call {
-        6 => tidying::tidy(a, out),
-        7 => edges::not(a, out),
-        8 => edges::rising(a, out),
-        9 => edges::falling(a, out),
-        10 => combining::sr(a, b, out),
-        11 => combining::rs(a, b, out),
-        12 => delays::ton(Length(d), b, out),
-        13 => delays::tof(Length(d), b, out),
-        14 => pulses::tp(Length(d), b, out),
-        _ => combining::connective(t, b, c, out),
-    }
 }
 
 // A whole list, lent as the one on the left or on the right.
@@ -78,60 +100,74 @@ fn merge_in(
     let none = [0u8; 1];
     let first = whole(Memory::Left, a);
     let second = whole(Memory::Right, b);
-    merging::merge_at(operation, t, &none[..0], a, b, out, first, second, 0)
+    let lent = Lent {
+        sheet: &none[..0],
+        left: a,
+        right: b,
+    };
+    merging::merge_at(operation, t, lent, out, first, second, 0)
 }
 
 fn delay_in(level: bool, d: u32, a: &[u32], out: &mut [u32]) -> SlotAnswer {
     let none = [0u8; 1];
     let list = whole(Memory::Left, a);
-    delay_parts::delay_at(level, Length(d), &none[..0], a, a, out, list, 0)
+    let lent = Lent {
+        sheet: &none[..0],
+        left: a,
+        right: a,
+    };
+    delay_parts::delay_at(level, Length(d), lent, out, list, 0)
 }
 
 fn pulse_in(d: u32, a: &[u32], out: &mut [u32]) -> SlotAnswer {
     let none = [0u8; 1];
     let list = whole(Memory::Left, a);
-    pulse_parts::pulse_at(Length(d), &none[..0], a, a, out, list, 0)
+    let lent = Lent {
+        sheet: &none[..0],
+        left: a,
+        right: a,
+    };
+    pulse_parts::pulse_at(Length(d), lent, out, list, 0)
 }
 
-fn operation_in(
-    call: usize,
-    t: [[bool; 2]; 2],
-    d: u32,
-    a: &[u32],
-    b: &[u32],
-    c: &[u32],
-    out: &mut [u32],
-) -> SlotAnswer {
+fn of_call(call: Call, digits: &[u8], a: &[u32], b: &[u32], c: &[u32], out: &mut [u32]) -> Answer {
+    let d = head(a);
+    let k = head(b);
+    let t = table(digits);
     let none = [0u32; 1];
     let invert = [[true, true], [false, false]];
     match call {
-        16 => merge_in(Operation::Connective, invert, a, &none, out),
-        17 => merge_in(Operation::Rising, invert, a, &none, out),
-        18 => merge_in(Operation::Falling, invert, a, &none, out),
-        19 => merge_in(Operation::SetWins, invert, a, b, out),
-        20 => merge_in(Operation::ResetWins, invert, a, b, out),
-        21 => delay_in(true, d, b, out),
-        22 => delay_in(false, d, b, out),
-        23 => pulse_in(d, b, out),
-        _ => merge_in(Operation::Connective, t, b, c, out),
+        Call::ListFault => number(lists::list_fault(a)),
+        Call::ValueAt => told(asking::value_at(a, k)),
+        Call::ValueIn => told(asking::value_in(a, k)),
+        Call::Equal => told(comparing::equal(a, b)),
+        Call::Implies => verdict(comparing::implies(a, b)),
+        Call::DatePlusLength => sum(words::date_plus_length(Date(d), Length(k))),
+        Call::Tidy => written(tidying::tidy(a, out)),
+        Call::Not => written(edges::not(a, out)),
+        Call::Rising => written(edges::rising(a, out)),
+        Call::Falling => written(edges::falling(a, out)),
+        Call::Sr => written(combining::sr(a, b, out)),
+        Call::Rs => written(combining::rs(a, b, out)),
+        Call::Ton => written(delays::ton(Length(d), b, out)),
+        Call::Tof => written(delays::tof(Length(d), b, out)),
+        Call::Tp => written(pulses::tp(Length(d), b, out)),
+        Call::Connective => written(combining::connective(t, b, c, out)),
+        Call::NotIn => slot(merge_in(Operation::Connective, invert, a, &none, out)),
+        Call::RisingIn => slot(merge_in(Operation::Rising, invert, a, &none, out)),
+        Call::FallingIn => slot(merge_in(Operation::Falling, invert, a, &none, out)),
+        Call::SrIn => slot(merge_in(Operation::SetWins, invert, a, b, out)),
+        Call::RsIn => slot(merge_in(Operation::ResetWins, invert, a, b, out)),
+        Call::TonIn => slot(delay_in(true, d, b, out)),
+        Call::TofIn => slot(delay_in(false, d, b, out)),
+        Call::TpIn => slot(pulse_in(d, b, out)),
+        Call::ConnectiveIn => slot(merge_in(Operation::Connective, t, b, c, out)),
     }
-}
-
-fn of_call(call: usize, digits: &[u8], a: &[u32], b: &[u32], c: &[u32], out: &mut [u32]) -> Answer {
-    let d = head(a);
-    if call < 6 {
-        return answer(call, a, b, d, head(b));
-    }
-    let t = table(digits);
-    if call < 16 {
-        return written(operation(call, t, d, a, b, c, out));
-    }
-    slot(operation_in(call, t, d, a, b, c, out))
 }
 
 pub fn shown(
     rt: &impl Print,
-    call: usize,
+    call: Call,
     digits: &[u8],
     a: &[u32],
     b: &[u32],
@@ -141,12 +177,23 @@ pub fn shown(
     with_words(rt, of_call(call, digits, a, b, c, out), out)
 }
 
-// Which argument is the length of the output; none of the calls that have no output.
-pub fn room_at(call: usize) -> usize {
+// Which argument is the length of the output, where the call has one.
+pub fn room_at(call: Call) -> Option<usize> {
     match call {
-        0 | 1 | 2 | 3 | 4 | 5 => 8,
-        6 | 7 | 8 | 9 | 16 | 17 | 18 => 1,
-        15 | 24 => 3,
-        _ => 2,
+        Call::ListFault
+        | Call::ValueAt
+        | Call::ValueIn
+        | Call::Equal
+        | Call::Implies
+        | Call::DatePlusLength => None,
+        Call::Tidy
+        | Call::Not
+        | Call::Rising
+        | Call::Falling
+        | Call::NotIn
+        | Call::RisingIn
+        | Call::FallingIn => Some(1),
+        Call::Connective | Call::ConnectiveIn => Some(3),
+        _ => Some(2),
     }
 }

@@ -13,15 +13,9 @@ pub fn locate_judged(sheet: &[u8], name: &[u8]) -> Place
     ensures { result ≡ place_judged sheet.now name.now }
 {
     let count = slices::read16(sheet, sheets::COUNT_AT);
-    let place = finding::find(sheet, count, name);
-    match place {
-        Place::At { start: _, count: _ } => place,
-        Place::Refused(_) => {
-            if names::well_named(name) {
-                return Place::Refused(13);
-            }
-            Place::Refused(16)
-        }
+    match finding::find(sheet, count, name) {
+        place @ Place::At { .. } => place,
+        Place::Refused(_) => Place::Refused(if names::well_named(name) { 13 } else { 16 }),
     }
 }
 
@@ -29,11 +23,10 @@ pub fn locate_judged(sheet: &[u8], name: &[u8]) -> Place
 pub fn locate(sheet: &[u8], name: &[u8]) -> Place
     ensures { result ≡ place_of sheet.now name.now }
 {
-    let fault = sheets::sheet_fault(sheet);
-    if fault != 0 {
-        return Place::Refused(fault);
+    match sheets::sheet_fault(sheet) {
+        0 => locate_judged(sheet, name),
+        fault => Place::Refused(fault),
     }
-    locate_judged(sheet, name)
 }
 
 // The part of the sheet that is the words of the signal with this name, empty when refused.
@@ -41,14 +34,8 @@ pub fn lookup<'a>(sheet: &'a [u8], name: &[u8]) -> &'a [u8]
     ensures { LookedUp sheet.entry name.now result }
 {
     match locate(sheet, name) {
-        Place::At { start, count } => {
-            let end = start + count;
-            &sheet[start..end]
-        }
-        Place::Refused(_) => {
-            let front = 0;
-            &sheet[front..front]
-        }
+        Place::At { start, count } => &sheet[start..start + count],
+        Place::Refused(_) => &sheet[..0],
     }
 }
 
@@ -57,7 +44,7 @@ pub fn lookup_fault(sheet: &[u8], name: &[u8]) -> u32
     ensures { result ≡ lookup_fault sheet.now name.now }
 {
     match locate(sheet, name) {
-        Place::At { start: _, count: _ } => 0,
+        Place::At { .. } => 0,
         Place::Refused(fault) => fault,
     }
 }

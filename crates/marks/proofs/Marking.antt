@@ -1,13 +1,14 @@
 -- Facts on marks and on texts that are lent.
-use Prim.Native.Nat.{ℕ, ◌+◌, ◌≤◌, ◌<◌, min}
+use Prim.Native.Nat.{ℕ, ◌+◌, ◌-◌, ◌≤◌, ◌<◌, min}
 use native.Mathlib.Omega.{arith}
 use native.Mathlib.Decide.{dec_lt}
-use mathlib.Core.Path.{◌≡◌, refl, sym, ◌∙◌}
+use mathlib.Core.Path.{◌≡◌, refl, sym, ap, ◌∙◌}
 use mathlib.Core.Bool.{Bool, true, false}
 use mathlib.Core.List.{List}
-use lib.ListN.{length, get_or, drop, get_or-eq_default, length-take}
-use lib.Seq.{get_or-drop, get_or-take}
-use Rattle.marks.specs.Marks.{Mark, lent, next_mark}
+use lib.ListN.{length, get_or, take, drop, drop_of_length-le, get_or-eq_default, length-take}
+use Rattle.std.proofs.lemmas.List.{drop-take}
+use Rattle.marks.specs.declared.Mark.{Mark}
+use Rattle.marks.specs.Marks.{lent, next_mark}
 
 -- a byte above 0 is next: all is well and the end is not reached
 pub record Inside (text : List ℕ) (m : Mark) : Type 0 where
@@ -26,21 +27,22 @@ inside text m b e pos = go m.ok refl
     go false z = let q : 0 ≡ b = rw z at e in absurd (omega arith)
     go true z = inside_at text m b z (rw z at e) pos (dec_lt m.at (length text))
 
--- a text that is lent ends where it says, and has the page's bytes
+-- a text that is lent ends where it says
 pub lent_most : (page : List ℕ) (bytes : ℕ) → length (lent page bytes) ≤ min bytes 1024
 unfolding lent
 lent_most page bytes = let e = length-take (min bytes 1024) page in omega arith
 
-pub lent_byte : (page : List ℕ) (bytes i : ℕ) → i < min bytes 1024 → get_or (lent page bytes) i 0 ≡ get_or page i 0
+-- the bytes of a lent text from a place on
+pub lent_rest : (page : List ℕ) (bytes at : ℕ) →
+    take (min bytes 1024 - min at (min bytes 1024)) (drop (min at (min bytes 1024)) page) ≡ drop at (lent page bytes)
 unfolding lent
-lent_byte page bytes i h = get_or-take (min bytes 1024) page i 0 h
-
-pub lent_end : (page : List ℕ) (bytes i : ℕ) → min bytes 1024 ≤ i → get_or (lent page bytes) i 0 ≡ 0
-lent_end page bytes i h = get_or-eq_default (lent page bytes) 0 (omega (arith, lent_most page bytes))
-
-pub lent_after : (page : List ℕ) (bytes at k : ℕ) → at + k < min bytes 1024 → get_or page (at + k) 0 ≡ get_or
-    (drop at (lent page bytes)) k 0
-lent_after page bytes at k h = sym (get_or-drop at (lent page bytes) k 0 ∙ lent_byte page bytes (at + k) h)
-
-pub lent_past : (page : List ℕ) (bytes at k : ℕ) → min bytes 1024 ≤ at + k → 0 ≡ get_or (drop at (lent page bytes)) k 0
-lent_past page bytes at k h = sym (get_or-drop at (lent page bytes) k 0 ∙ lent_end page bytes (at + k) h)
+lent_rest page bytes at = go (min bytes 1024) (dec_lt (min bytes 1024) at)
+  where
+    go : (n : ℕ) → Dec (n < at) → take (n - min at n) (drop (min at n) page) ≡ drop at (take n page)
+    go n (yes h) =
+        let a : n - min at n ≡ 0 = omega arith in
+        rw (a, drop_of_length-le (take n page) {i = at} (omega (arith, length-take n page))) refl
+    go n (no h) =
+        let a : min at n ≡ at = omega (arith, h) in
+        let e : n ≡ at + (n - at) = omega (arith, h) in
+        rw a (sym (drop-take at (n - at) page) ∙ ap (λ (k : ℕ). drop at (take k page)) (sym e))

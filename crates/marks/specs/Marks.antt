@@ -1,18 +1,7 @@
--- Mirrored: Where the reader of a formula is, as five words, and the next byte of a text that is lent.
-use Rattle.std.specs.Prelude.{ℕ, min, Bool, cond, List, ltb, eqb, get_or, take}
+-- Mirrored: Where the reader of a formula is, and the next byte of a text that is lent.
+use Rattle.std.specs.Prelude.{ℕ, min, cond, List, ltb, get_or, take}
 use Rattle.signals.specs.Moment.{M}
-
--- whether all is well, the bytes passed, the parts put out, and the largest depth and length of a part
-pub record Mark : Type 0 where
-  pub ok : Bool
-  pub at : ℕ
-  pub parts : ℕ
-  pub deepest : ℕ
-  pub longest : ℕ
-
--- the mark that five words hold
-unfoldable pub mark_of : List ℕ → Mark
-mark_of m = record { ok = eqb (get_or m 0 0) 1; at = get_or m 1 0; parts = get_or m 2 0; deepest = get_or m 3 0; longest = get_or m 4 0 }
+use Rattle.marks.specs.declared.Mark.{Mark}
 
 -- the text that a page lends: its first bytes, at most 1,024
 unfoldable pub lent : List ℕ → ℕ → List ℕ

@@ -9,16 +9,14 @@ use building::{Made, SlotAnswer, WORDS};
 use reading::NEVER;
 use showing::Operation;
 use signals::Date;
-use sources::Source;
+use sources::{Lent, Source};
 
 // The merge of two lists, built in the slot that begins at a place of the work area and has so many words: date by date, what the
 // operation makes of both. The next words are read before the answer's is stored.
 fn merge(
     operation: Operation,
     table: [[bool; 2]; 2],
-    sheet: &[u8],
-    left: &[u32],
-    right: &[u32],
+    lent: Lent,
     work: &mut [u32],
     a: Source,
     b: Source,
@@ -26,20 +24,19 @@ fn merge(
     room: usize,
 ) -> Made
     requires { MayMerge a b at room (length work.old) }
-    ensures { BuiltAt operation table sheet.now left.now right.now work.old a b at room result
-        work.new }
+    ensures { let l = lent.entry in BuiltAt operation table l.sheet.now l.left.now l.right.now work.old a b at room result work.new }
 {
     let end = at + room;
-    let mut x = sources::start(sheet, left, right, work, a);
-    let mut y = sources::start(sheet, left, right, work, b);
+    let mut x = lent.start(work, a);
+    let mut y = lent.start(work, b);
     let first = showing::first_shown(operation, table, x.last % 2 == 1, y.last % 2 == 1);
     let mut made = building::begin(&mut work[at..end], first.after);
     let mut carried = first.carried;
     let mut date = words::earlier(x.date, y.date);
     while date < NEVER {
         let on = Date(date);
-        let u = sources::past(sheet, left, right, work, a, x, on);
-        let v = sources::past(sheet, left, right, work, b, y, on);
+        let u = lent.past(work, a, x, on);
+        let v = lent.past(work, b, y, on);
         let shown = showing::date_shown(operation, table, carried, u.step, v.step);
         made = building::emit(&mut work[at..end], made, on, shown.at, shown.after);
         carried = shown.carried;
@@ -53,9 +50,7 @@ fn merge(
 // The same for a connective: nothing is carried from date to date.
 fn join(
     table: [[bool; 2]; 2],
-    sheet: &[u8],
-    left: &[u32],
-    right: &[u32],
+    lent: Lent,
     work: &mut [u32],
     a: Source,
     b: Source,
@@ -63,19 +58,18 @@ fn join(
     room: usize,
 ) -> Made
     requires { MayMerge a b at room (length work.old) }
-    ensures { BuiltAt Connective table sheet.now left.now right.now work.old a b at room result
-        work.new }
+    ensures { let l = lent.entry in BuiltAt Connective table l.sheet.now l.left.now l.right.now work.old a b at room result work.new }
 {
     let end = at + room;
-    let mut x = sources::start(sheet, left, right, work, a);
-    let mut y = sources::start(sheet, left, right, work, b);
+    let mut x = lent.start(work, a);
+    let mut y = lent.start(work, b);
     let first = showing::cell_of(table, x.last % 2 == 1, y.last % 2 == 1);
     let mut made = building::begin(&mut work[at..end], first);
     let mut date = words::earlier(x.date, y.date);
     while date < NEVER {
         let on = Date(date);
-        let u = sources::past(sheet, left, right, work, a, x, on);
-        let v = sources::past(sheet, left, right, work, b, y, on);
+        let u = lent.past(work, a, x, on);
+        let v = lent.past(work, b, y, on);
         let value = showing::cell_of(table, u.step.at, v.step.at);
         let after = showing::cell_of(table, u.step.after, v.step.after);
         made = building::emit(&mut work[at..end], made, on, value, after);
@@ -90,9 +84,7 @@ fn join(
 fn made_at(
     operation: Operation,
     table: [[bool; 2]; 2],
-    sheet: &[u8],
-    left: &[u32],
-    right: &[u32],
+    lent: Lent,
     work: &mut [u32],
     a: Source,
     b: Source,
@@ -100,12 +92,11 @@ fn made_at(
     room: usize,
 ) -> Made
     requires { MayMerge a b at room (length work.old) }
-    ensures { BuiltAt operation table sheet.now left.now right.now work.old a b at room result
-        work.new }
+    ensures { let l = lent.entry in BuiltAt operation table l.sheet.now l.left.now l.right.now work.old a b at room result work.new }
 {
     match operation {
-        Operation::Connective => join(table, sheet, left, right, work, a, b, at, room),
-        _ => merge(operation, table, sheet, left, right, work, a, b, at, room),
+        Operation::Connective => join(table, lent, work, a, b, at, room),
+        _ => merge(operation, table, lent, work, a, b, at, room),
     }
 }
 
@@ -114,27 +105,20 @@ fn made_at(
 pub fn merge_at(
     operation: Operation,
     table: [[bool; 2]; 2],
-    sheet: &[u8],
-    left: &[u32],
-    right: &[u32],
+    lent: Lent,
     work: &mut [u32],
     a: Source,
     b: Source,
     at: u32,
 ) -> SlotAnswer
-    ensures { MergedAt operation table sheet.now left.now right.now work.old a b at result
-        work.new }
+    ensures { let l = lent.entry in MergedAt operation table l.sheet.now l.left.now l.right.now work.old a b at result work.new }
 {
     let from = at as usize;
-    if sources::apart(a, at, WORDS as u32) {
-        if sources::apart(b, at, WORDS as u32) {
-            if from + WORDS <= work.len() {
-                let made = made_at(
-                    operation, table, sheet, left, right, work, a, b, from, WORDS,
-                );
-                return building::finish(made);
-            }
-        }
+    if sources::apart(a, at, WORDS as u32)
+        && sources::apart(b, at, WORDS as u32)
+        && from + WORDS <= work.len()
+    {
+        return building::finish(made_at(operation, table, lent, work, a, b, from, WORDS));
     }
     SlotAnswer::NotBegun
 }

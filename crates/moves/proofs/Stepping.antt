@@ -1,21 +1,21 @@
 -- The paths through the reader's steps, over plain values.
-use Prim.Native.Nat.{ℕ, zero, suc, ◌+◌, ◌-◌, ◌≤◌, ◌<◌, min, max}
+use Prim.Native.Nat.{ℕ, zero, suc, ◌+◌, ◌-◌, ◌≤◌, ◌<◌, min}
 use native.Mathlib.Omega.{arith}
 use mathlib.Core.Path.{◌≡◌, refl, sym, ap, ◌∙◌}
 use mathlib.Core.Bool.{Bool, true, false}
 use mathlib.Core.List.{List, [], ◌∷◌}
 use lib.Dec.{leb, eqb}
-use lib.ListN.{length, get_or, set, take, drop, length-drop, length-take}
-use lib.Seq.{take-take, get_or-set_other}
+use lib.ListN.{length, take, drop, length-drop, length-take}
+use lib.Seq.{take-take}
 use borrow.Author.Tests.{eqb-true, leb-false, lt-ltb}
 use Rattle.names.specs.Names.{letter, digit, name_byte}
 use Rattle.texts.specs.Lengths.{capped}
 use Rattle.grammar.specs.Reader.{run, value_between}
-use Rattle.marks.specs.Marks.{Mark, mark_of, lent, next_mark}
+use Rattle.marks.specs.declared.Mark.{Mark}
+use Rattle.marks.specs.Marks.{lent, next_mark}
 use Rattle.openings.specs.Opening.{reach_mark}
-use Rattle.tokens.specs.Tokens.{length_end, number_at, leaf_end, leaf_word}
-use Rattle.moves.specs.Moves.{failed, moved_to, is_next, passed, expected, length_passed, length_ticks, put_words, put_code}
-use Rattle.moves.specs.Moves.{leaf_words, leaf_code}
+use Rattle.tokens.specs.Tokens.{length_end, number_at, leaf_end}
+use Rattle.moves.specs.Moves.{moved_to, length_passed, length_ticks}
 use Rattle.grammar.proofs.Bytes.{by_cond}
 use Rattle.marks.proofs.Marking.{inside, lent_most}
 use Rattle.openings.proofs.Reaching.{reach_fits}
@@ -52,37 +52,19 @@ lent_front : (page : List ℕ) (bytes : ℕ) → length (lent page bytes) ≤ le
 unfolding lent
 lent_front page bytes = omega (arith, length-take (min bytes 1024) page)
 
-module _ (page : List ℕ) (bytes : ℕ) (m : List ℕ) (end : ℕ) (e : end ≡ length_end (lent page bytes) (mark_of m)) (some : 0 < end) where
-  number_lent : number_at page (mark_of m).at (min end 1024 - (mark_of m).at) ≡ value_between (lent page bytes) (mark_of m).at end
+module _ (page : List ℕ) (bytes : ℕ) (m : Mark) (end : ℕ) (e : end ≡ length_end (lent page bytes) m) (some : 0 < end) where
+  number_lent : number_at page m.at (min end 1024 - m.at) ≡ value_between (lent page bytes) m.at end
   number_lent =
-      let b = length_bounds (lent page bytes) (mark_of m) (omega (arith, e)) in
+      let b = length_bounds (lent page bytes) m (omega (arith, e)) in
       let q : min end 1024 ≡ end = omega (arith, e, b.1, lent_most page bytes) in
-      rw q (number_between page (mark_of m).at end (omega (arith, e, b.0)) (omega (arith, e, b.1, lent_front page bytes))
-      ∙ sym (value_front page bytes (mark_of m).at end (omega (arith, e, b.0)) (omega (arith, e, b.1, lent_most page bytes))))
+      rw q (number_between page m.at end (omega (arith, e, b.0)) (omega (arith, e, b.1, lent_front page bytes))
+      ∙ sym (value_front page bytes m.at end (omega (arith, e, b.0)) (omega (arith, e, b.1, lent_most page bytes))))
 
   -- a length that is next is passed
-  pub length_is : {r : List ℕ} {n : ℕ} → r ≡ moved_to m end → n ≡ capped (number_at page (mark_of m).at (min end 1024 - (mark_of m).at)) →
-      (r ≡ length_passed (lent page bytes) m) × (n ≡ length_ticks (lent page bytes) (mark_of m))
+  pub length_is : {r : Mark} {n : ℕ} → r ≡ moved_to m end → n ≡ capped (number_at page m.at (min end 1024 - m.at)) →
+      (r ≡ length_passed (lent page bytes) m) × (n ≡ length_ticks (lent page bytes) m)
   unfolding length_passed length_ticks
   length_is p q = rw (← e, lt-ltb 0 end some) (p, q ∙ ap capped number_lent)
-
--- a byte that is passed if it is next
-module _ (text : List ℕ) (b : ℕ) (m : List ℕ) {r : List ℕ} {z : Bool} (p : r ≡ passed text b m) (q : z ≡ is_next text b (mark_of m)) where
-  pub expect_is : z ≡ true → r ≡ expected text b m
-  unfolding passed expected
-  expect_is t = rw (p, sym q ∙ t) refl
-
-  pub expect_not : {l : List ℕ} → z ≡ false → l ≡ failed r → l ≡ expected text b m
-  unfolding passed expected
-  expect_not t f = rw (f, p, sym q ∙ t) refl
-
--- a constant or name that is next is passed, and its part put out
-pub leaf_is : (text m : List ℕ) (end word deep : ℕ) (old : List ℕ) {x r new : List ℕ} → end ≡ leaf_end text (mark_of m) → 0 < end →
-    word ≡ leaf_word (next_mark text (mark_of m)) (min (mark_of m).at 1024) (min end 1024) →
-    x ≡ moved_to m end → r ≡ put_words x deep 0 → new ≡ put_code (mark_of x) word old →
-    (r ≡ leaf_words text m deep) × (new ≡ leaf_code text m old)
-unfolding leaf_words leaf_code
-leaf_is text m end word deep old e some w x r new = rw (← e, lt-ltb 0 end some) (rw (r, x) refl, rw (new, x, w) refl)
 
 -- where neither constant nor name is next, what is there of a factor ends in the text: a name that is too long has its 8 bytes
 pub stray_fits : (text : List ℕ) (m : Mark) → leaf_end text m ≤ 0 → reach_mark text m ≤ length text - m.at
@@ -104,15 +86,3 @@ stray_fits text m h =
         absurd (omega (arith, run_some name_byte text m (none_at_0 true) (letter_name (next_mark text m) low)))
     name low false e false f false g =
         omega (arith, leb-false (run name_byte (drop m.at text)) 8 g, run_most name_byte (drop m.at text))
-
--- the largest depth and length, each read after the words before it were stored
-pub stored : (l : List ℕ) (n deep ticks d t : ℕ) → d ≡ max (get_or (set l 2 n) 3 0) deep → t ≡ max (get_or (set (set l 2 n) 3 d) 4 0)
-    ticks →
-    set (set (set l 2 n) 3 d) 4 t ≡ set (set (set l 2 n) 3 (max (get_or l 3 0) deep)) 4 (max (get_or l 4 0) ticks)
-stored l n deep ticks d t qd qt =
-    let third = get_or-set_other l 2 3 n 0 (λ e. absurd (omega arith)) in
-    let fourth = get_or-set_other (set l 2 n) 3 4 d 0 (λ e. absurd (omega arith)) ∙ get_or-set_other l 2 4 n 0
-    (λ e. absurd (omega arith)) in
-    let d-is : d ≡ max (get_or l 3 0) deep = rw third at qd in
-    let t-is : t ≡ max (get_or l 4 0) ticks = rw fourth at qt in
-    rw (t-is, d-is) refl

@@ -1,51 +1,43 @@
--- One turn of the comparison of a name with a name field: what is left of the name, and of the field before its first zero byte.
-use Prim.Native.Nat.{ℕ, ◌+◌, ◌≤◌, ◌<◌}
-use mathlib.Core.Path.{◌≡◌, refl, sym, ◌∙◌}
-use mathlib.Core.Bool.{Bool, true, false, cond}
+-- The tests of names and name fields in std's words.
+use Prim.Native.Nat.{ℕ}
+use native.Mathlib.Omega.{arith}
+use mathlib.Core.Path.{◌≡◌, refl, ap}
+use mathlib.Core.Bool.{Bool, true, false, cond, not, ◌&&◌}
 use mathlib.Core.List.{List, [], ◌∷◌}
 use lib.Dec.{eqb}
-use lib.ListN.{length, get_or, drop}
-use borrow.Author.Tests.{eq-eqb, ne_eqb}
+use lib.ListN.{length, get_or}
+use Rattle.std.specs.Cmp.Lexicographic.{pointwise}
+use Rattle.std.specs.List.{list_all, list_any, slice_range, starts_with}
+use Rattle.slices.proofs.Steps.{part_rest}
 use Rattle.slices.specs.Slices.{before}
-use Rattle.slices.proofs.Steps.{drop_step, drop_end}
-use Rattle.format.specs.Names.{same, unpadded}
+use Rattle.names.specs.Names.{well_named}
+use Rattle.format.specs.Names.{same, zeros, unpadded, field_fits}
 
--- bytes that differ, whether the field's is zero or not
-differing : (x y : ℕ) (xs ys : List ℕ) → (x ≡ y → ⊥) → same (unpadded (x ∷ xs)) (y ∷ ys) ≡ false
+pub same_is : (a b : List ℕ) → pointwise eqb a b ≡ same a b
+unfolding same
+same_is [] [] = refl
+same_is [] (y ∷ b) = refl
+same_is (x ∷ a) [] = refl
+same_is (x ∷ a) (y ∷ b) = ap (λ (t : Bool). eqb x y && t) (same_is a b)
+
+pub zeros_is : (s : List ℕ) → list_all (λ b. eqb b 0) s ≡ zeros s
+unfolding zeros
+zeros_is [] = refl
+zeros_is (b ∷ s) = ap (λ (t : Bool). eqb b 0 && t) (zeros_is s)
+
+-- a field holds a name: it begins with the name, which has no zero byte, and then ends or has one
+pub holds_is : (f n : List ℕ)
+    → same (unpadded f) n ≡ (starts_with eqb f n && (eqb (get_or f (length n) 0) 0 && not (list_any (λ y. eqb y 0) n)))
 unfolding same before
-differing x y xs ys h = go (eqb x 0)
+holds_is [] [] = refl
+holds_is [] (y ∷ n) = refl
+holds_is (x ∷ f) [] = go (eqb x 0)
   where
-    go : (t : Bool) → same (cond t [] (x ∷ before 0 xs)) (y ∷ ys) ≡ false
+    go : (t : Bool) → same (cond t [] (x ∷ before 0 f)) [] ≡ (t && true)
     go true = refl
-    go false = rw (ne_eqb x y h)
+    go false = refl
+holds_is (x ∷ f) (y ∷ n) = grind (arith, holds_is f n)
 
-module _ (f n : List ℕ) (i : ℕ) where
-  pub hold_short : length f ≤ i → i < length n → same (unpadded (drop i f)) (drop i n) ≡ false
-  unfolding same before
-  hold_short p q = rw (drop_end f i p, drop_step n i q)
-
-  pub hold_differ : i < length f → i < length n → (get_or f i 0 ≡ get_or n i 0 → ⊥) → same (unpadded (drop i f)) (drop i n) ≡ false
-  hold_differ p q h = rw (drop_step f i p, drop_step n i q) (differing (get_or f i 0) (get_or n i 0) (drop (i + 1) f) (drop (i + 1) n) h)
-
-  pub hold_zero : i < length f → i < length n → get_or f i 0 ≡ get_or n i 0 → get_or n i 0 ≡ 0
-      → same (unpadded (drop i f)) (drop i n) ≡ false
-  unfolding same before
-  hold_zero p q e z = rw (drop_step f i p, drop_step n i q, eq-eqb (get_or f i 0) 0 (e ∙ z))
-
-  pub hold_agree : i < length f → i < length n → get_or f i 0 ≡ get_or n i 0 → (get_or n i 0 ≡ 0 → ⊥)
-      → same (unpadded (drop i f)) (drop i n) ≡ same (unpadded (drop (i + 1) f)) (drop (i + 1) n)
-  unfolding same before
-  hold_agree p q e z =
-      rw (drop_step f i p, drop_step n i q, ne_eqb (get_or f i 0) 0 (λ o. z (sym e ∙ o)), eq-eqb (get_or f i 0) (get_or n i 0) e)
-
-  pub hold_end : length f ≤ i → length n ≤ i → same (unpadded (drop i f)) (drop i n) ≡ true
-  unfolding same before
-  hold_end p q = rw (drop_end f i p, drop_end n i q)
-
-  pub hold_rest : i < length f → length n ≤ i → eqb (get_or f i 0) 0 ≡ same (unpadded (drop i f)) (drop i n)
-  unfolding same before
-  hold_rest p q = rw (drop_step f i p, drop_end n i q) (go (eqb (get_or f i 0) 0))
-    where
-      go : (t : Bool) → t ≡ same (cond t [] (get_or f i 0 ∷ before 0 (drop (i + 1) f))) []
-      go true = refl
-      go false = refl
+pub fits_is : (f : List ℕ) → field_fits f ≡ (well_named (unpadded f) && zeros (slice_range f (length (unpadded f)) (length f)))
+unfolding field_fits
+fits_is f = rw (part_rest f (length (unpadded f)))

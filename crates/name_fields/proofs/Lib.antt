@@ -1,2 +1,2 @@
--- Laws of names in name fields.
+-- The tests of names and name fields in std's words.
 pub mod Holding

@@ -1,6 +1,7 @@
 -- What begins a factor, by its kind: which bytes are next, and how many.
-use Prim.Native.Nat.{ℕ, zero, suc, ◌+◌, ◌≤◌, ◌<◌}
+use Prim.Native.Nat.{ℕ, zero, suc, ◌+◌, ◌≤◌, ◌<◌, max}
 use native.Mathlib.Omega.{arith}
+use native.Mathlib.Decide.{dec_lt}
 use mathlib.Core.Path.{◌≡◌, refl, sym, ap, ◌∙◌, subst}
 use mathlib.Core.Bool.{true, false, cond, ◌||◌}
 use mathlib.Core.List.{List, [], ◌∷◌}
@@ -10,7 +11,8 @@ use borrow.Author.Tests.{eqb-true, ltb-true, ltb-false, eq-eqb, ne_eqb, lt-ltb, 
 use Rattle.names.specs.Names.{all_of}
 use Rattle.grammar.specs.Reader.{prefix_kind, starts, block_kind, block_bytes}
 use Rattle.grammar.specs.Kinds as kinds
-use Rattle.marks.specs.Marks.{Mark, next_mark}
+use Rattle.marks.specs.declared.Mark.{Mark}
+use Rattle.marks.specs.Marks.{next_mark}
 use Rattle.openings.specs.Opening.{BRACKET, open_kind, open_bytes}
 use Rattle.grammar.proofs.Bytes.{by_cond, by_block}
 use Rattle.grammar.proofs.Standing.{front}
@@ -156,3 +158,11 @@ module _ (text : List ℕ) (m : Mark) where
       (λ f.
       let p = ltb-false 0 (prefix_kind (next_mark text m)) e in
       of_block (block_mark text m) (omega arith, f, refl) (blocks text m)))
+
+  -- what is next ends in the text; where nothing is, the place stays
+  pub open_fits : m.at + open_bytes (open_kind text m) ≤ max m.at (length text)
+  open_fits = go (dec_lt 0 (open_kind text m))
+    where
+      go : Dec (0 < open_kind text m) → m.at + open_bytes (open_kind text m) ≤ max m.at (length text)
+      go (yes h) = omega (arith, opens.within h)
+      go (no h) = omega (arith, none_bytes (open_kind text m) (omega (arith, h)))

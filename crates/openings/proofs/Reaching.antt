@@ -1,5 +1,5 @@
 -- What is there of a factor ends in the text.
-use Prim.Native.Nat.{ℕ, ◌≤◌, ◌<◌}
+use Prim.Native.Nat.{ℕ, ◌+◌, ◌≤◌, ◌<◌, max}
 use native.Mathlib.Omega.{arith}
 use native.Mathlib.Decide.{dec_lt}
 use mathlib.Core.Path.{◌≡◌, refl}
@@ -10,7 +10,8 @@ use lib.ListN.{length, get_or, drop, drop_of_length-le}
 use borrow.Author.Tests.{ltb-true, ne_eqb}
 use Rattle.names.specs.Names.{all_of, letter}
 use Rattle.grammar.specs.Reader.{shared, word_reach, reach, SR_WORD, RS_WORD, TON_WORD, TOF_WORD, TP_WORD}
-use Rattle.marks.specs.Marks.{Mark, next_mark}
+use Rattle.marks.specs.declared.Mark.{Mark}
+use Rattle.marks.specs.Marks.{next_mark}
 use Rattle.openings.specs.Opening.{reach_mark}
 use Rattle.signals.proofs.Truth.{and_left, and_right}
 use Rattle.grammar.proofs.Bytes.{by_cond}
@@ -84,3 +85,10 @@ reach_inside text m pos = go (dec_lt m.at (length text))
     go (no h) =
         let past : drop m.at text ≡ [] = drop_of_length-le text {i = m.at} (omega (arith, h)) in
         absurd (omega (arith, nothing_past text m past))
+
+pub reach_past : (text : List ℕ) (m : Mark) → m.at + reach_mark text m ≤ max m.at (length text + 8)
+reach_past text m = go (dec_lt 0 (reach_mark text m))
+  where
+    go : Dec (0 < reach_mark text m) → m.at + reach_mark text m ≤ max m.at (length text + 8)
+    go (yes h) = omega (arith, reach_inside text m h, reach_most text m)
+    go (no h) = omega (arith, h)

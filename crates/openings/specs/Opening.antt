@@ -2,7 +2,8 @@
 use Rattle.std.specs.Prelude.{ℕ, cond, List, ltb, eqb, drop}
 use Rattle.grammar.specs.Kinds as kinds
 use Rattle.grammar.specs.Reader.{prefix_kind, block_kind, block_bytes, reach}
-use Rattle.marks.specs.Marks.{Mark, next_mark}
+use Rattle.marks.specs.declared.Mark.{Mark}
+use Rattle.marks.specs.Marks.{next_mark}
 
 -- an open bracket: no kind of a part
 abbrev pub BRACKET : ℕ

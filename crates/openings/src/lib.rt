@@ -2,156 +2,98 @@
 // stands, how much is there of one.
 #![tactic(auto)]
 
-ghost use Rattle.std.specs.Prelude.{cond, ◌≡◌, get_or, drop};
-ghost use Rattle.grammar.specs.Reader.{prefix_kind, starts, shared, word_reach, block_kind};
-ghost use Rattle.marks.specs.Marks.{mark_of, lent, next_mark};
+ghost use Rattle.std.specs.Prelude.{◌≡◌, ◌==◌, drop, length, take_while, zip};
+ghost use Rattle.grammar.specs.Reader.{prefix_kind, word_reach, block_kind};
+ghost use Rattle.marks.specs.Marks.{lent};
 ghost use Rattle.openings.specs.Opening.{open_kind, open_bytes, reach_mark};
 
-use marks::{AT, OK, kind, larger, next};
+use marks::{Mark, kind, next, rest};
 
 // The kind of !, ^ and ~; 0 for any other byte.
+#[tactic(auto, unfolding(grammar::specs::Reader::prefix_kind))]
 fn prefix_kind(b: u8) -> u64
     ensures { result ≡ prefix_kind b }
 {
-    if b == b'!' {
-        return kind::NOT;
+    match b {
+        b'!' => kind::NOT,
+        b'^' => kind::RISING,
+        b'~' => kind::FALLING,
+        _ => 0,
     }
-    if b == b'^' {
-        return kind::RISING;
-    }
-    if b == b'~' {
-        return kind::FALLING;
-    }
-    0
 }
 
-// The byte so many after the place; 0 past the end.
-fn byte_after(text: &[u8; 1024], bytes: usize, at: usize, k: usize) -> u8
-    ensures { result ≡ get_or (drop at (lent text.now bytes)) k 0 }
+// How many bytes of the word stand at the front.
+fn shared_bytes(bytes: &[u8], word: &[u8]) -> usize
+    ensures { result ≡ length (take_while (λ x. x.0 == x.1) (zip bytes.now word.now)) }
 {
-    if bytes <= at {
-        return 0;
-    }
-    if bytes - at <= k {
-        return 0;
-    }
-    let place = at + k;
-    if place < 1024 {
-        return text[place];
-    }
-    0
+    bytes.iter().zip(word).take_while(|(a, b)| a == b).count()
 }
 
-// How many bytes of the word stand at the place.
-fn shared_bytes(text: &[u8; 1024], bytes: usize, at: usize, word: &[u8]) -> usize
-    ensures { result ≡ shared word.now (drop at (lent text.now bytes)) }
+// The kind of the block whose word and bracket are at the front; 0 where none are.
+#[tactic(auto, unfolding(grammar::specs::Reader::block_kind))]
+fn block_kind(bytes: &[u8]) -> u64
+    ensures { result ≡ block_kind bytes.now }
 {
-    let mut i = 0;
-    while i < word.len() {
-        if byte_after(text, bytes, at, i) == word[i] {
-            i += 1;
-        } else {
-            return i;
-        }
+    if bytes.starts_with(b"SR(") {
+        kind::SR
+    } else if bytes.starts_with(b"RS(") {
+        kind::RS
+    } else if bytes.starts_with(b"TON(") {
+        kind::TON
+    } else if bytes.starts_with(b"TOF(") {
+        kind::TOF
+    } else if bytes.starts_with(b"TP(") {
+        kind::TP
+    } else {
+        0
     }
-    i
-}
-
-// Whether the word stands at the place.
-fn stands(text: &[u8; 1024], bytes: usize, at: usize, word: &[u8]) -> bool
-    ensures { result ≡ starts word.now (drop at (lent text.now bytes)) }
-{
-    shared_bytes(text, bytes, at, word) == word.len()
-}
-
-// The kind of the block whose word and bracket are next, of which `first` is the first byte; 0 where none are.
-fn block_kind(text: &[u8; 1024], bytes: usize, m: &[usize; 5], first: u8) -> u64
-    requires { next_mark (lent text.now bytes) (mark_of m.now) ≡ first }
-    ensures { result ≡ cond (mark_of m.now).ok
-        (block_kind (drop (mark_of m.now).at (lent text.now bytes))) 0 }
-{
-    let at = m[AT];
-    if first == b'S' {
-        if stands(text, bytes, at, b"SR(") {
-            return kind::SR;
-        }
-        return 0;
-    }
-    if first == b'R' {
-        if stands(text, bytes, at, b"RS(") {
-            return kind::RS;
-        }
-        return 0;
-    }
-    if first == b'T' {
-        if stands(text, bytes, at, b"TON(") {
-            return kind::TON;
-        }
-        if stands(text, bytes, at, b"TOF(") {
-            return kind::TOF;
-        }
-        if stands(text, bytes, at, b"TP(") {
-            return kind::TP;
-        }
-    }
-    0
 }
 
 // The kind of what is next and begins a factor: !, ^, ~, an open bracket, or a block's word and bracket; 0 where none is.
-pub fn opening(text: &[u8; 1024], bytes: usize, m: &[usize; 5]) -> u64
-    ensures { result ≡ open_kind (lent text.now bytes) (mark_of m.now) }
+pub fn opening(text: &[u8; 1024], bytes: usize, m: &Mark) -> u64
+    ensures { result ≡ open_kind (lent text.now bytes) m.now }
 {
-    let b = next(text, bytes, m);
-    let prefix = prefix_kind(b);
-    if 0 < prefix {
-        return prefix;
+    match next(text, bytes, m) {
+        b'(' => kind::BRACKET,
+        b'A'..=b'Z' => block_kind(rest(text, bytes, m.at)),
+        b => prefix_kind(b),
     }
-    if b == b'(' {
-        return kind::BRACKET;
-    }
-    block_kind(text, bytes, m, b)
 }
 
 // How many bytes such an opening has.
+#[tactic(auto, unfolding(crate::specs::Opening::open_bytes, grammar::specs::Reader::block_bytes))]
 pub fn opening_bytes(first: u64) -> usize
     ensures { result ≡ open_bytes first }
 {
-    if first == 0 {
-        return 0;
+    match first {
+        0 => 0,
+        1..=kind::FALLING | kind::BRACKET => 1,
+        kind::TON | kind::TOF => 4,
+        _ => 3,
     }
-    if first < kind::TON {
-        return 1;
-    }
-    if first == kind::BRACKET {
-        return 1;
-    }
-    if (first == kind::TON) | (first == kind::TOF) {
-        return 4;
-    }
-    3
 }
 
 // How many bytes are there of a block's word and bracket.
-fn word_reach(text: &[u8; 1024], bytes: usize, at: usize) -> usize
-    ensures { result ≡ word_reach (drop at (lent text.now bytes)) }
+fn word_reach(bytes: &[u8]) -> usize
+    ensures { result ≡ word_reach bytes.now }
 {
-    let p = shared_bytes(text, bytes, at, b"TP(");
-    let f = larger(shared_bytes(text, bytes, at, b"TOF("), p);
-    let n = larger(shared_bytes(text, bytes, at, b"TON("), f);
-    let r = larger(shared_bytes(text, bytes, at, b"RS("), n);
-    larger(shared_bytes(text, bytes, at, b"SR("), r)
+    shared_bytes(bytes, b"SR(")
+        .max(shared_bytes(bytes, b"RS("))
+        .max(shared_bytes(bytes, b"TON("))
+        .max(shared_bytes(bytes, b"TOF("))
+        .max(shared_bytes(bytes, b"TP("))
 }
 
 // Where no factor stands at the mark, how many bytes are there of one: 8 of a name that is too long, else those of a block's word and
 // bracket.
-pub fn reach(text: &[u8; 1024], bytes: usize, m: &[usize; 5]) -> usize
-    ensures { result ≡ reach_mark (lent text.now bytes) (mark_of m.now) }
+pub fn reach(text: &[u8; 1024], bytes: usize, m: &Mark) -> usize
+    ensures { result ≡ reach_mark (lent text.now bytes) m.now }
 {
-    if m[OK] == 1 {
-        if names::is_letter(next(text, bytes, m)) {
-            return names::LONGEST;
-        }
-        return word_reach(text, bytes, m[AT]);
+    if !m.ok {
+        0
+    } else if names::is_letter(next(text, bytes, m)) {
+        names::LONGEST
+    } else {
+        word_reach(rest(text, bytes, m.at))
     }
-    0
 }

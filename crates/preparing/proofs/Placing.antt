@@ -1,12 +1,9 @@
 -- Placing names in the first code words one by one.
-use Prim.Native.Nat.{ℕ, zero, suc, ◌+◌, ◌/◌, ◌%◌, ◌<◌}
+use Prim.Native.Nat.{ℕ, zero, suc, ◌+◌, ◌<◌}
 use native.Mathlib.Omega.{arith}
 use native.Mathlib.Numerals.{add-one}
 use mathlib.Core.Path.{◌≡◌, refl, sym, ◌∙◌, ap}
-use mathlib.Core.Bool.{Bool, true, not, ◌&&◌, and_assoc, and-true}
-use lib.Dec.{ltb, eqb}
-use borrow.Author.Tests.{lt-ltb, eq-eqb, ne_eqb}
-use Rattle.grammar.specs.Kinds as kinds
+use mathlib.Core.Bool.{Bool, true, ◌&&◌, and_assoc, and-true}
 use mathlib.Core.List.{List, [], ◌∷◌, ◌++◌, map}
 use lib.ListN.{length, take, drop, get_or, set}
 use Rattle.machine.specs.Machine.{word_found, all_found}
@@ -49,16 +46,3 @@ module _ (f : ℕ → ℕ) (l codes : List ℕ) (all : Bool) (i : ℕ) (e : code
 
   pub turn_all : (next : Bool) → next ≡ (all && word_found word) → next ≡ all_found (map f (take (i + 1) l))
   turn_all next n = n ∙ rw (a, read, add-one) (found_next f l i h)
-
--- one word's name
-pub found_some : (before : Bool) (w : ℕ) → before ≡ true → w % 16 ≡ kinds.NAME → ltb 0 (w / 16 % 512) ≡ (before && word_found w)
-unfolding word_found
-found_some before w b e = rw (b, eq-eqb (w % 16) kinds.NAME e) (go (w / 16 % 512))
-  where
-    go : (n : ℕ) → ltb 0 n ≡ not (eqb n 0)
-    go zero = refl
-    go (suc n) = rw (lt-ltb 0 (suc n) (omega arith), ne_eqb (suc n) 0 (λ z. absurd (omega arith)))
-
-pub found_other : (before : Bool) (w : ℕ) → before ≡ true → (w % 16 ≡ kinds.NAME → ⊥) → true ≡ (before && word_found w)
-unfolding word_found
-found_other before w b x = rw (b, ne_eqb (w % 16) kinds.NAME x)

@@ -35,16 +35,11 @@ fn placed(sheet: &[u8], text: &[u8], code: u64) -> u64
 }
 
 // The names before are found, and so is that of this code word, if it is one.
+#[tactic(auto, unfolding(machine::specs::Machine::word_found))]
 fn found(before: bool, word: u64) -> bool
     ensures { result ≡ (before && word_found word) }
 {
-    if before {
-        if word % 16 == kind::NAME {
-            return 0 < word / 16 % 512;
-        }
-        return true;
-    }
-    false
+    before && !(word % 16 == kind::NAME && word / 16 % 512 == 0)
 }
 
 // The places of the names put into the first code words; whether all are found.
@@ -55,12 +50,9 @@ fn place_names(sheet: &[u8], text: &[u8], codes: &mut [u64], n: usize) -> bool
         × (result ≡ all_found (map (placed_word sheet.now text.now) (take n codes.old))) }
 {
     let mut all = true;
-    let mut i: usize = 0;
-    while i < n {
-        let word = placed(sheet, text, codes[i]);
-        codes[i] = word;
-        all = found(all, word);
-        i += 1;
+    for code in &mut codes[..n] {
+        *code = placed(sheet, text, *code);
+        all = found(all, *code);
     }
     all
 }
@@ -70,8 +62,7 @@ fn place_names(sheet: &[u8], text: &[u8], codes: &mut [u64], n: usize) -> bool
 pub fn prepare(sheet: &[u8], text: &[u8], codes: &mut [u64; 32]) -> Written
     ensures { PreparesFor sheet.now text.now codes.old result codes.new }
 {
-    let answer = formulas::read(text, codes);
-    match answer {
+    match formulas::read(text, codes) {
         Written::Count(n) => {
             if place_names(sheet, text, codes, n) {
                 Written::Count(n)

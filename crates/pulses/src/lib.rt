@@ -1,14 +1,14 @@
 // The pulse timer TP of a list.
 #![tactic(auto)]
 
-ghost use Rattle.std.specs.Prelude.{◌≡◌, ◌≤◌, length};
+ghost use Rattle.std.specs.Prelude.{◌≡◌, ◌*◌, ◌≤◌, min, length};
 ghost use Rattle.signals.specs.Signal.{TP};
-ghost use Rattle.signals.specs.Words.{most_words};
+ghost use Rattle.signals.specs.Words.{most_words, list_fault};
 ghost use Rattle.operations.specs.Calls.{CallOfDelay};
 ghost use Rattle.lent_slots.specs.Lent.{ended_by};
 ghost use Rattle.pulsing.specs.Turns.{pulse_engine};
 
-use building::{Made, WORDS};
+use building::{Made, SHORT, WORDS};
 use reading::NEVER;
 use signals::{Date, Length, M, Written};
 
@@ -32,10 +32,21 @@ fn pulse_words(d: Length, f: &[u32], slot: &mut [u32]) -> Made
     building::emit(slot, made, due, false, false)
 }
 
-// The words of a slot for the answer of a short list: fewer are cleared for it.
-const SHORT: usize = 32;
+// The pulses of an accepted list for an accepted length, built in a slot that holds the answer, and delivered to an output. It has fewer
+// than two words for each word of the list.
+fn delivered<const N: usize>(d: Length, f: &[u32], out: &mut [u32]) -> Written
+    requires accepted { list_fault f.now ≡ 0 }
+    requires short { d.0 ≤ M }
+    requires held { min most_words (2 * length f.now) ≤ N }
+    requires small { N ≤ most_words }
+    ensures { CallOfDelay (TP d.0) d.0 f.now out.old result out.new }
+{
+    let mut slot = [0u32; N];
+    let made = pulse_words(d, f, &mut slot);
+    building::deliver(&slot, made, out)
+}
 
-// TP(d,f), the pulse timer: faults list, 8, 5, 6, 7. Its answer has fewer than two words for each word of the list.
+// TP(d,f), the pulse timer: faults list, 8, 5, 6, 7.
 pub fn tp(d: Length, f: &[u32], out: &mut [u32]) -> Written
     ensures { CallOfDelay (TP d.0) d.0 f.now out.old result out.new }
 {
@@ -43,16 +54,12 @@ pub fn tp(d: Length, f: &[u32], out: &mut [u32]) -> Written
     if fault != 0 {
         return Written::Refused(fault);
     }
-    let ticks = d.0;
-    if M < ticks {
+    if M < d.0 {
         return Written::Refused(8);
     }
     if 2 * f.len() <= SHORT {
-        let mut slot = [0u32; SHORT];
-        let made = pulse_words(d, f, &mut slot);
-        return building::deliver(&slot, made, out);
+        delivered::<SHORT>(d, f, out)
+    } else {
+        delivered::<WORDS>(d, f, out)
     }
-    let mut slot = [0u32; WORDS];
-    let made = pulse_words(d, f, &mut slot);
-    building::deliver(&slot, made, out)
 }

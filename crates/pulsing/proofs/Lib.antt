@@ -1,4 +1,4 @@
--- A pulse timer built word by word is the exact answer of an accepted list; what its code makes of a date, and its loops of a word.
+-- A pulse timer built word by word is the exact answer of an accepted list; what its code puts into the slot; its loops of a word.
 pub mod Ticks
 pub mod PulsedExact
 pub mod FewWords

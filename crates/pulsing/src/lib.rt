@@ -25,19 +25,15 @@ fn end_of(date: Date, d: Length) -> Date
 }
 
 // A date starts a pulse, by the input's values before it and at it: the input rises, and the last pulse has ended.
+#[tactic(auto, unfolding(crate::specs::Turns::starts_at))]
 fn starts(before: bool, at: bool, due: Date, date: Date) -> bool
     ensures { result ≡ starts_at before at due.0 date.0 }
 {
-    if at {
-        if before {
-            return false;
-        }
-        return due.0 <= date.0;
-    }
-    false
+    at && !before && due.0 <= date.0
 }
 
 // The end of the last pulse, where it comes before a date: one that starts there joins it.
+#[tactic(auto, unfolding(crate::specs::Turns::closed))]
 fn close(slot: &mut [u32], due: Date, next: Date, made: Made) -> Made
     ensures { ended_by result slot.new ≡ closed due.0 next.0 (ended_by made slot.old) }
 {
@@ -48,6 +44,7 @@ fn close(slot: &mut [u32], due: Date, next: Date, made: Made) -> Made
 }
 
 // A pulse starts at a date, none at all where its length is 0.
+#[tactic(auto, unfolding(crate::specs::Turns::started_at))]
 fn start(slot: &mut [u32], d: Length, due: Date, date: Date, made: Made) -> Made
     ensures { ended_by result slot.new ≡ started_at d.0 due.0 date.0 (ended_by made slot.old) }
 {
@@ -57,6 +54,7 @@ fn start(slot: &mut [u32], d: Length, due: Date, date: Date, made: Made) -> Made
 }
 
 // Past a date, with the values of the input before it and at it.
+#[tactic(auto, unfolding(crate::specs::Turns::past_date))]
 pub fn pass(
     slot: &mut [u32],
     d: Length,

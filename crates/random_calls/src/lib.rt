@@ -12,11 +12,7 @@ pub fn kept(cells: &mut Cells, slot: usize) {
     let n = (cells[BYTES] % 4097) as usize;
     set(cells, LENGTHS + slot % 4, n as u64);
     let start = SLOTS + slot % 4 * 4096;
-    let mut i: usize = 0;
-    while i < n {
-        set(cells, start + i, at(cells, TEXT + i));
-        i += 1;
-    }
+    cells.copy_within(TEXT..TEXT + n, start);
 }
 
 fn length(cells: &Cells, slot: usize) -> usize {
@@ -28,10 +24,8 @@ fn held(cells: &Cells, slot: usize) -> [u8; 4096] {
     let n = length(cells, slot) % 4097;
     let start = SLOTS + slot % 4 * 4096;
     let mut bytes = [0u8; 4096];
-    let mut i: usize = 0;
-    while i < n {
-        bytes[i] = (at(cells, start + i) % 256) as u8;
-        i += 1;
+    for (b, cell) in bytes.iter_mut().zip(&cells[start..start + n]) {
+        *b = (*cell % 256) as u8;
     }
     bytes
 }
@@ -40,15 +34,15 @@ fn held(cells: &Cells, slot: usize) -> [u8; 4096] {
 fn written_number(answer: Written) -> u64 {
     match answer {
         Written::Count(n) => n as u64,
-        Written::Refused(fault) => fault as u64 + 1000,
+        Written::Refused(fault) => u64::from(fault) + 1000,
     }
 }
 
 // 4 * k + 1 where the instant k is the last to fail, 4 * k + 2 where the gap before it is, 3 where the run never ends.
 fn end_number(end: End) -> u64 {
     match end {
-        End::At(k) => k as u64 % 1073741824 * 4 + 1,
-        End::Before(k) => k as u64 % 1073741824 * 4 + 2,
+        End::At(k) => u64::from(k) % 1073741824 * 4 + 1,
+        End::Before(k) => u64::from(k) % 1073741824 * 4 + 2,
         End::Never => 3,
     }
 }
@@ -61,9 +55,9 @@ fn failing(first: u64, end: End) -> u64 {
 fn verdict_number(answer: Verdict) -> u64 {
     match answer {
         Verdict::Holds => 0,
-        Verdict::FailsAt(k, end) => failing(k as u64 * 4 + 1, end),
-        Verdict::FailsAfter(k, end) => failing(k as u64 * 4 + 2, end),
-        Verdict::Refused(fault) => fault as u64 * 4 + 3,
+        Verdict::FailsAt(k, end) => failing(u64::from(k) * 4 + 1, end),
+        Verdict::FailsAfter(k, end) => failing(u64::from(k) * 4 + 2, end),
+        Verdict::Refused(fault) => u64::from(fault) * 4 + 3,
     }
 }
 
@@ -101,11 +95,5 @@ pub fn old(i: usize) -> u32 {
 pub fn old_words() -> [u32; WORDS]
     ensures { 256 ≡ length result }
 {
-    let mut words = [0u32; WORDS];
-    let mut i: usize = 0;
-    while i < WORDS {
-        words[i] = old(i);
-        i += 1;
-    }
-    words
+    std::array::from_fn(old)
 }

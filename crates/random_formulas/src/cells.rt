@@ -50,12 +50,12 @@ pub fn whole() -> Cells {
 }
 
 pub fn at(cells: &Cells, i: usize) -> u64 {
-    if i < 77824 { cells[i] } else { 0 }
+    cells.get(i).copied().unwrap_or(0)
 }
 
 pub fn set(cells: &mut Cells, i: usize, v: u64) {
-    if i < 77824 {
-        cells[i] = v;
+    if let Some(cell) = cells.get_mut(i) {
+        *cell = v;
     }
 }
 
@@ -77,7 +77,7 @@ pub fn drawn(seed: u64, n: u64) -> Draw {
     let next = seed % 2147483647 * 48271 % 2147483647;
     Draw {
         seed: next,
-        value: if n == 0 { 0 } else { next / 16 % n },
+        value: (next / 16).checked_rem(n).unwrap_or(0),
     }
 }
 

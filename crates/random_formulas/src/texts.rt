@@ -4,19 +4,11 @@ use crate::cells::{BYTES, Cells, DEEPEST, DEPTH, START, TASK, TASKS, TEXT, at, r
 use crate::trees::{left_of, measure};
 use fields::{byte_at, part};
 
-fn smaller(a: u64, b: u64) -> u64 {
-    if a < b { a } else { b }
-}
-
-fn larger(a: u64, b: u64) -> u64 {
-    if a < b { b } else { a }
-}
-
 // One task more, none for 0.
 fn push(cells: &mut Cells, task: u64) {
     let n = cells[TASKS] % 512;
     set(cells, TASK + n as usize, task);
-    cells[TASKS] = n + smaller(task, 1) % 2;
+    cells[TASKS] = n + task.min(1);
 }
 
 fn pop(cells: &mut Cells) -> u64 {
@@ -34,34 +26,32 @@ pub fn write_some(cells: &mut Cells, b: u64, some: u64) {
 
 // One byte more.
 pub fn write(cells: &mut Cells, b: u8) {
-    write_some(cells, b as u64, 1);
+    write_some(cells, u64::from(b), 1);
 }
 
 pub fn write_bytes(cells: &mut Cells, s: &[u8]) {
-    let mut i: usize = 0;
-    while i < s.len() {
-        write(cells, s[i]);
-        i += 1;
+    for b in s {
+        write(cells, *b);
     }
 }
 
 // The part here, so much deeper, counts for the greatest depth; its operands are so much deeper again.
 fn deepen(cells: &mut Cells, outer: u64, inner: u64) {
     let here = cells[DEPTH] % 4096 + outer % 2;
-    cells[DEEPEST] = larger(cells[DEEPEST], here);
+    cells[DEEPEST] = cells[DEEPEST].max(here);
     cells[DEPTH] = here + inner % 2;
 }
 
 // The bytes that begin a part of a kind: of a timer and a latch all up to the bracket.
 fn write_sign(cells: &mut Cells, kind: u64) {
     let k = (kind % 13) as usize;
-    let width = byte_at(b"\x01\x01\x00\x01\x01\x01\x04\x04\x03\x00\x00\x03\x03", k);
+    let width = usize::from(byte_at(b"\x01\x01\x00\x01\x01\x01\x04\x04\x03\x00\x00\x03\x03", k));
     write_bytes(
         cells,
         part(
             b"0   1       !   ^   ~   TON(TOF(TP(         SR( RS( ",
             k * 4,
-            k * 4 + width as usize,
+            k * 4 + width,
         ),
     );
 }
@@ -78,16 +68,11 @@ fn value_from(kind: u64, value: u64) -> usize {
 }
 
 fn value_width(kind: u64, value: u64) -> usize {
-    if kind == 2 {
-        1
-    } else if kind < 6 {
-        0
-    } else if 8 < kind {
-        0
-    } else if value < 10 {
-        2
-    } else {
-        11
+    match kind {
+        2 => 1,
+        6..=8 if value < 10 => 2,
+        6..=8 => 11,
+        _ => 0,
     }
 }
 
@@ -105,80 +90,39 @@ fn part_task(place: usize, level: u64) -> u64 {
     1024 + 4 * (place % 256) as u64 + level % 4
 }
 
-// The tasks of a part's operands, the last to be done first.
-#[derive(Clone, Copy)]
-struct Operands {
-    first: u64,
-    second: u64,
-    third: u64,
-    fourth: u64,
-}
-
-fn four(first: u64, second: u64, third: u64, fourth: u64) -> Operands {
-    Operands {
-        first,
-        second,
-        third,
-        fourth,
-    }
-}
-
-// The right operand ends just before i; that of a chain is a level up, and the operator stands between the two.
-fn tasks_of(kind: u64, left: usize, i: usize) -> Operands {
+// The tasks of a part's operands, the last to be done first, 0 for none. The right operand ends just before i; that of a chain is a level
+// up, and the operator stands between the two.
+fn tasks_of(kind: u64, left: usize, i: usize) -> [u64; 4] {
     let right = i % 256 + 255;
-    if kind < 3 {
-        return four(0, 0, 0, 0);
+    match kind {
+        0..=2 => [0; 4],
+        3..=5 => [256, part_task(right, 2), 0, 0],
+        6..=8 => [41, part_task(right, 0), 0, 0],
+        9 => [part_task(right, 2), 46, part_task(left, 1), 0],
+        10 => [part_task(right, 1), 43, part_task(left, 0), 0],
+        _ => [41, part_task(right, 0), 44, part_task(left, 0)],
     }
-    if kind < 6 {
-        return four(256, part_task(right, 2), 0, 0);
-    }
-    if kind < 9 {
-        return four(41, part_task(right, 0), 0, 0);
-    }
-    if kind < 11 {
-        let level = kind % 2;
-        let sign = 43 + kind % 2 * 3;
-        return four(part_task(right, level + 1), sign, part_task(left, level), 0);
-    }
-    four(41, part_task(right, 0), 44, part_task(left, 0))
-}
-
-fn push_all(cells: &mut Cells, tasks: Operands) {
-    push(cells, tasks.first);
-    push(cells, tasks.second);
-    push(cells, tasks.third);
-    push(cells, tasks.fourth);
 }
 
 fn level_of(kind: u64) -> u64 {
-    if kind == 10 {
-        0
-    } else if kind == 9 {
-        1
-    } else {
-        2
+    match kind {
+        9 => 1,
+        10 => 0,
+        _ => 2,
     }
 }
 
 // How much deeper the operands of a kind stand.
 fn inner(kind: u64) -> u64 {
-    if kind < 3 {
-        0
-    } else if level_of(kind) < 2 {
-        0
-    } else {
-        1
+    match kind {
+        0..=2 | 9 | 10 => 0,
+        _ => 1,
     }
 }
 
 // How many brackets are opened: one where the grouping needs it or it is drawn.
 fn brackets(drawn: u64, has: u64, level: u64) -> u64 {
-    if drawn != 0 {
-        if level <= has {
-            return 0;
-        }
-    }
-    1
+    u64::from(drawn == 0 || has < level)
 }
 
 fn word_of(cells: &Cells, i: usize) -> u64 {
@@ -200,28 +144,23 @@ fn placed(cells: &mut Cells, i: usize, level: u64) {
     let open = brackets(roll(cells, 12), level_of(word % 16), level);
     begun(cells, open, word % 16, word / 16);
     let left = left_of(cells, i);
-    push_all(cells, tasks_of(word % 16, left, i));
-}
-
-fn less(n: u64) -> u64 {
-    let depth = n % 4096;
-    if depth == 0 { 0 } else { depth - 1 }
+    for task in tasks_of(word % 16, left, i) {
+        push(cells, task);
+    }
 }
 
 // The depth after a task that is no part.
 fn depth_after(n: u64, task: u64) -> u64 {
-    if task == 41 {
-        less(n)
-    } else if task < 256 {
+    if task < 256 && task != 41 {
         n
     } else {
-        less(n)
+        (n % 4096).saturating_sub(1)
     }
 }
 
 fn task(cells: &mut Cells, task: u64) {
     if task < 1024 {
-        write_some(cells, task, if task < 256 { 1 } else { 0 });
+        write_some(cells, task, u64::from(task < 256));
         cells[DEPTH] = depth_after(cells[DEPTH], task);
         return;
     }
@@ -236,23 +175,18 @@ pub fn cleared(cells: &mut Cells) {
 }
 
 fn tasks(cells: &mut Cells) {
-    let mut turn: usize = 0;
-    while turn < 4096 {
+    for _ in 0..4096 {
         if cells[TASKS] == 0 {
             return;
         }
         let next = pop(cells);
         task(cells, next);
-        turn += 1;
     }
 }
 
 // The task of the last of n parts, none of none.
 fn last_task(n: usize) -> u64 {
-    if n == 0 {
-        return 0;
-    }
-    part_task(n - 1, 0)
+    if n == 0 { 0 } else { part_task(n - 1, 0) }
 }
 
 // Writes the tree of n parts from a place on; the cells then have the number of bytes and the greatest depth.

@@ -3,12 +3,10 @@
 use crate::cells::{Cells, Draw, NAMES, SEED, SIZES, at, drawn, set};
 
 pub fn operands(kind: u64) -> u64 {
-    if kind < 3 {
-        0
-    } else if kind < 9 {
-        1
-    } else {
-        2
+    match kind {
+        0..=2 => 0,
+        3..=8 => 1,
+        _ => 2,
     }
 }
 
@@ -60,15 +58,11 @@ fn next_part(seed: u64, names: u64, waiting: u64, full: bool) -> Draw {
         return binary(seed);
     }
     let k = drawn(seed, 10);
-    if k.value < 3 {
-        return unary(k.seed);
+    match k.value {
+        0..=2 => unary(k.seed),
+        6.. if 1 < waiting => binary(k.seed),
+        _ => leaf(k.seed, names),
     }
-    if 5 < k.value {
-        if 1 < waiting {
-            return binary(k.seed);
-        }
-    }
-    leaf(k.seed, names)
 }
 
 fn waiting_after(waiting: u64, word: u64) -> u64 {
@@ -80,23 +74,17 @@ fn waiting_after(waiting: u64, word: u64) -> u64 {
 pub fn grow(cells: &mut Cells, from: usize, least: usize) -> usize {
     let names = cells[NAMES];
     let mut waiting: u64 = 0;
-    let mut n: usize = 0;
-    while n < 120 {
+    for n in 0..120 {
         let full = least <= n;
-        if grown(waiting, full) {
+        if full && waiting == 1 {
             return n;
         }
         let next = next_part(cells[SEED], names, waiting, full);
         cells[SEED] = next.seed;
         set(cells, from % 4096 + n, next.value);
         waiting = waiting_after(waiting, next.value);
-        n += 1;
     }
-    n
-}
-
-fn grown(waiting: u64, full: bool) -> bool {
-    if full { waiting == 1 } else { false }
+    120
 }
 
 fn size(cells: &Cells, i: usize) -> u64 {
@@ -123,10 +111,8 @@ fn size_at(cells: &Cells, word: u64, i: usize) -> u64 {
 
 // How many parts each part of the tree from a place on has, itself counted.
 pub fn measure(cells: &mut Cells, from: usize, n: usize) {
-    let mut i: usize = 0;
-    while i < n {
+    for i in 0..n {
         let size = size_at(cells, at(cells, from % 4096 + i % 256), i);
         set(cells, SIZES + i % 256, size);
-        i += 1;
     }
 }

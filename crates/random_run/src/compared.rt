@@ -10,38 +10,24 @@ use random_formulas::texts::cleared;
 use random_sheets::drawn::{far_times, long_times, ordinary_times, sheet, signals};
 use random_sheets::rows::{date_of, dates, word_at, words};
 use signals::WORDS;
-use stepping::{FAILS, FINE, first, first_of, stepped};
-
-fn wide(word: u32) -> u64 {
-    word as u64
-}
+use stepping::{Test, first, first_of, stepped};
 
 fn expected_word(cells: &Cells, count: usize, i: usize) -> u64 {
     if i < count {
-        return word_at(cells, i);
+        word_at(cells, i)
+    } else {
+        u64::from(old(i))
     }
-    old(i) as u64
 }
 
 // The output is the words written, so many, then the old ones.
 fn same_output(cells: &Cells, out: &[u32], count: usize) -> bool {
-    let mut i: usize = 0;
-    while i < out.len() {
-        if wide(out[i]) != expected_word(cells, count, i) {
-            return false;
-        }
-        i += 1;
-    }
-    true
+    out.iter().enumerate().all(|(i, word)| u64::from(*word) == expected_word(cells, count, i))
 }
 
 // How many mismatches: none where all is the same.
 fn wrong(number: bool, output: bool) -> u64 {
-    if number {
-        if output { 0 } else { 1 }
-    } else {
-        1
-    }
+    u64::from(!(number && output))
 }
 
 // Counts the kind, and the mismatches.
@@ -112,12 +98,12 @@ fn formula_call(cells: &mut Cells, f: usize, work: &mut [u32]) {
 // The verdict of the first failing moment, the end being none, and how its run ends.
 fn verdict_of(fault: u64, moment: usize, end: usize, date: u64, run: u64) -> u64 {
     if fault != 0 {
-        return fault % 20 * 4 + 3;
+        fault % 20 * 4 + 3
+    } else if moment == end {
+        0
+    } else {
+        run % 4294967296 * 4294967296 + date % 1073741824 * 4 + 2 - (moment % 2) as u64
     }
-    if moment == end {
-        return 0;
-    }
-    run % 4294967296 * 4294967296 + date % 1073741824 * 4 + 2 - (moment % 2) as u64
 }
 
 fn date_at(cells: &Cells, moment: usize) -> u64 {
@@ -126,17 +112,18 @@ fn date_at(cells: &Cells, moment: usize) -> u64 {
 
 // How the run ends that goes on at a moment: by the first moment from there on that does not fail.
 fn run_from(cells: &Cells, moment: usize, end: usize) -> u64 {
-    let fine = first(cells, FINE, 0, moment, end);
+    let fine = first(cells, Test::Fine, moment, end);
     if fine == end {
-        return 3;
+        3
+    } else {
+        date_at(cells, fine) % 1073741824 * 4 + 1 + (fine % 2) as u64
     }
-    date_at(cells, fine) % 1073741824 * 4 + 1 + (fine % 2) as u64
 }
 
 // The verdict expected, moment by moment, up to the last column's gap.
 fn expected_verdict(cells: &Cells) -> u64 {
     let end = (dates(cells) % 417 * 2 + 831) % 832;
-    let moment = first(cells, FAILS, 0, 0, end);
+    let moment = first(cells, Test::Fails, 0, end);
     let run = run_from(cells, moment, end);
     verdict_of(
         fault_of(cells, 1, 2),
@@ -160,16 +147,12 @@ fn calls(cells: &mut Cells, work: &mut [u32]) {
     judge_claim(cells, answer);
 }
 
-fn scarce(r: u64) -> u64 {
-    if r == 0 { 1 } else { 0 }
-}
-
 // With a whole work area, at times with one word less.
 fn with_work(cells: &mut Cells) {
     let mut work = [0u32; WORK_WORDS];
-    let short = scarce(roll(cells, 50)) % 2;
-    cells[NOTES + 3] = short * 18;
-    let enough = WORK_WORDS - short as usize;
+    let short = roll(cells, 50) == 0;
+    cells[NOTES + 3] = u64::from(short) * 18;
+    let enough = WORK_WORDS - usize::from(short);
     calls(cells, &mut work[0..enough]);
 }
 

@@ -2,7 +2,7 @@
 use random_formulas::cells::{BYTES, Cells, DEEPEST, Draw, SEED, TEXT, TREE, drawn, roll, set};
 use random_formulas::texts::{write_some, written};
 use random_formulas::trees::grow;
-use stepping::{LONG, STRANGE, first};
+use stepping::{Test, first};
 
 // How many parts at least: mostly few.
 fn least(seed: u64) -> Draw {
@@ -33,9 +33,7 @@ fn tree_fault_of(bytes: u64, long: bool, n: usize, depth: u64, strange: bool) ->
         10
     } else if long {
         8
-    } else if 32 < n {
-        12
-    } else if 16 < depth {
+    } else if 32 < n || 16 < depth {
         12
     } else if strange {
         13
@@ -47,32 +45,24 @@ fn tree_fault_of(bytes: u64, long: bool, n: usize, depth: u64, strange: bool) ->
 fn tree_fault(cells: &Cells, n: usize) -> u64 {
     tree_fault_of(
         cells[BYTES],
-        first(cells, LONG, 0, 0, n) < n,
+        first(cells, Test::Long, 0, n) < n,
         n,
         cells[DEEPEST],
-        first(cells, STRANGE, 0, 0, n) < n,
+        first(cells, Test::Strange, 0, n) < n,
     )
 }
 
 // The byte that no formula ends with, of the drawn number; how many of it.
 fn stray(r: u64) -> u64 {
-    if r == 2 {
-        43
-    } else if r == 3 {
-        41
-    } else {
-        32
+    match r {
+        2 => 43,
+        3 => 41,
+        _ => 32,
     }
 }
 
 fn strays(r: u64) -> u64 {
-    if r < 2 {
-        0
-    } else if 4 < r {
-        0
-    } else {
-        1
-    }
+    u64::from(2 <= r && r <= 4)
 }
 
 fn spoiled_bytes(r: u64, n: u64) -> u64 {
@@ -80,12 +70,10 @@ fn spoiled_bytes(r: u64, n: u64) -> u64 {
 }
 
 fn spoiled_fault(r: u64, fault: u64) -> u64 {
-    if r < 2 {
-        10
-    } else if 4 < r {
-        fault
-    } else {
-        11
+    match r {
+        0 | 1 => 10,
+        2..=4 => 11,
+        _ => fault,
     }
 }
 
@@ -119,7 +107,7 @@ fn spoiled_byte(fault: u64) -> u64 {
 }
 
 fn more_bytes(fault: u64) -> u64 {
-    if fault == 15 { 1 } else { 0 }
+    u64::from(fault == 15)
 }
 
 // Spoils the sheet written so that it has the fault: by a byte more, or by another in its place: version 2, the name A, the first word 2.

@@ -11,10 +11,8 @@ use std::io;
 
 fn rounds(cells: &mut Cells, many: usize) {
     cells[SEED] = 20261115;
-    let mut i: usize = 0;
-    while i < many {
+    for _ in 0..many {
         round(cells);
-        i += 1;
     }
 }
 
@@ -33,10 +31,8 @@ fn told_fault(rt: &impl Print, cells: &Cells, fault: usize) -> io::Result<()> {
 }
 
 fn told_faults(rt: &impl Print, cells: &Cells) -> io::Result<()> {
-    let mut fault: usize = 5;
-    while fault < 19 {
+    for fault in 5..19 {
         told_fault(rt, cells, fault)?;
-        fault += 1;
     }
     Ok(())
 }

@@ -28,22 +28,14 @@ pub fn long_times(cells: &mut Cells) {
 
 // What was drawn for a column, 12 where no signal changes.
 fn kept_or(drawn: u64, k: u64, first: u64, last: u64) -> u64 {
-    if k < first {
-        12
-    } else if last < k {
-        12
-    } else {
-        drawn
-    }
+    if k < first || last < k { 12 } else { drawn }
 }
 
 // The same of a row at long times: those of row 61 change at most of the even dates.
 fn spaced(drawn: u64, row: usize, k: usize) -> u64 {
     if row != 61 {
         drawn
-    } else if k % 2 == 1 {
-        12
-    } else if drawn < 10 {
+    } else if k % 2 == 0 && drawn < 10 {
         0
     } else {
         12
@@ -53,17 +45,21 @@ fn spaced(drawn: u64, row: usize, k: usize) -> u64 {
 // The value at a column, v having stood before.
 fn value_at(drawn: u64, last: u64, v: bool) -> bool {
     if last == 330 {
-        return (drawn < 7) != v;
+        (drawn < 7) != v
+    } else if drawn < 4 {
+        drawn % 2 == 1
+    } else {
+        v
     }
-    if drawn < 4 { drawn % 2 == 1 } else { v }
 }
 
 // The value after it.
 fn value_after(drawn: u64, last: u64, v: bool) -> bool {
-    if last == 330 {
-        return v;
+    if last != 330 && drawn < 4 {
+        drawn / 2 == 1
+    } else {
+        v
     }
-    if drawn < 4 { drawn / 2 == 1 } else { v }
 }
 
 // The values at a column and after it, v having stood before; the value after it.
@@ -86,10 +82,8 @@ fn signal(cells: &mut Cells, row: usize) {
     let mut v = roll(cells, 2) == 0;
     store(cells, row, 0, v);
     let end = dates(cells);
-    let mut k: usize = 1;
-    while k < end {
+    for k in 1..end {
         v = tick(cells, row, k, v);
-        k += 1;
     }
 }
 
@@ -119,9 +113,7 @@ pub fn sheet(cells: &mut Cells, many: usize) {
     cleared(cells);
     write_bytes(cells, b"SGL\x01\x00\x00\x00");
     cells[TEXT + 5] = (many % 4) as u64;
-    let mut i: usize = 0;
-    while i < many {
+    for i in 0..many {
         entry(cells, i);
-        i += 1;
     }
 }

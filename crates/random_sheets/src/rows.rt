@@ -4,10 +4,6 @@
 use random_formulas::cells::{Cells, DATES, ROWS, SHIFT, TEXT, at, set};
 use random_formulas::texts::write_some;
 
-fn number(value: bool) -> u64 {
-    if value { 1 } else { 0 }
-}
-
 fn cell(row: usize, moment: usize) -> usize {
     ROWS + row % 64 * 832 + moment % 832
 }
@@ -22,7 +18,7 @@ pub fn up(cells: &Cells, row: usize, moment: usize) -> bool {
 }
 
 pub fn store(cells: &mut Cells, row: usize, moment: usize, value: bool) {
-    set(cells, cell(row, moment), number(value));
+    set(cells, cell(row, moment), u64::from(value));
 }
 
 // How many columns the rows have.
@@ -42,12 +38,11 @@ pub fn date_of(cells: &Cells, column: usize) -> u64 {
 
 // A word of a date and the values at it and after it, 0 when both are the value before.
 fn word_of(date: u64, before: u64, now: u64, after: u64) -> u64 {
-    if now == before {
-        if after == before {
-            return 0;
-        }
+    if now == before && after == before {
+        0
+    } else {
+        date % 4294967296 * 4 + now % 2 * 2 + after % 2
     }
-    date % 4294967296 * 4 + now % 2 * 2 + after % 2
 }
 
 // The word of column k, 0 when nothing changes there.
@@ -63,58 +58,47 @@ fn change(cells: &Cells, row: usize, column: usize) -> u64 {
 
 // So many words, one or none.
 fn word(cells: &mut Cells, w: u64, some: u64) {
-    write_some(cells, w % 256, some);
-    write_some(cells, w / 256 % 256, some);
-    write_some(cells, w / 65536 % 256, some);
-    write_some(cells, w / 16777216 % 256, some);
-}
-
-fn some(w: u64) -> u64 {
-    if w == 0 { 0 } else { 1 }
+    for b in ((w % 4294967296) as u32).to_le_bytes() {
+        write_some(cells, u64::from(b), some);
+    }
 }
 
 // Writes the words of a row's list.
 pub fn words(cells: &mut Cells, row: usize) {
     let end = dates(cells);
     word(cells, bit(cells, row, 0), 1);
-    let mut k: usize = 1;
-    while k < end {
+    for k in 1..end {
         let w = change(cells, row, k);
-        word(cells, w, some(w));
-        k += 1;
+        word(cells, w, u64::from(w != 0));
     }
 }
 
-fn byte(cells: &Cells, i: usize, j: usize) -> u64 {
-    at(cells, TEXT + i % 256 * 4 + j % 4) % 256
+fn byte(cells: &Cells, i: usize, j: usize) -> u8 {
+    (at(cells, TEXT + i % 256 * 4 + j % 4) % 256) as u8
 }
 
 // The i-th of the words written.
 pub fn word_at(cells: &Cells, i: usize) -> u64 {
-    let low = byte(cells, i, 0) % 256 + byte(cells, i, 1) % 256 * 256;
-    let high = byte(cells, i, 2) % 256 + byte(cells, i, 3) % 256 * 256;
-    low + high * 65536
+    u64::from(u32::from_le_bytes([
+        byte(cells, i, 0),
+        byte(cells, i, 1),
+        byte(cells, i, 2),
+        byte(cells, i, 3),
+    ]))
 }
 
 // How many words of a row's list are dated after so many quarters of a tick, the first word counted as 0.
-fn words_after(cells: &Cells, row: usize, quarters: u64) -> u64 {
-    let end = dates(cells);
-    let mut n: u64 = 0;
-    let mut k: usize = 1;
-    while k < end {
-        n = n % 1000 + number(quarters < change(cells, row, k)) % 2;
-        k += 1;
-    }
-    n
+fn words_after(cells: &Cells, row: usize, quarters: u64) -> usize {
+    (1..dates(cells))
+        .filter(|k| quarters < change(cells, row, *k))
+        .count()
 }
 
 // 5 when the row's list has over 256 words, 6 when it changes after M, else 0.
 pub fn row_fault(cells: &Cells, row: usize) -> u64 {
-    let all = words_after(cells, row, 0);
-    let late = words_after(cells, row, 4294967295);
-    if 255 < all {
+    if 255 < words_after(cells, row, 0) {
         5
-    } else if 0 < late {
+    } else if 0 < words_after(cells, row, 4294967295) {
         6
     } else {
         0

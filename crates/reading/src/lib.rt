@@ -20,33 +20,22 @@ pub struct Step {
     pub passed: usize,
 }
 
-fn one_less(n: usize) -> usize
-    ensures { result ≡ n - 1 }
-{
-    if n == 0 { 0 } else { n - 1 }
-}
-
 // The value after the words passed.
+#[tactic(auto, unfolding(signals::specs::Passing::held_value, signals::specs::Words::value_after))]
 fn held_value_at(words: &[u32], passed: usize) -> bool
     ensures { result ≡ held_value words.now passed }
 {
-    let last = one_less(passed);
-    if last < words.len() {
-        words[last] % 2 == 1
-    } else {
-        false
-    }
+    words
+        .get(passed.saturating_sub(1))
+        .is_some_and(|w| w % 2 == 1)
 }
 
 // The date of the next word.
+#[tactic(auto, unfolding(crate::specs::Reading::next_date, signals::specs::Words::date_of))]
 fn next_date_at(words: &[u32], passed: usize) -> Date
     ensures { result.0 ≡ next_date words.now passed }
 {
-    if passed < words.len() {
-        Date(words[passed] / 4)
-    } else {
-        Date(NEVER)
-    }
+    Date(words.get(passed).map_or(NEVER, |w| w / 4))
 }
 
 // A date without a word: the value held goes on.
@@ -62,23 +51,20 @@ fn held_on(before: bool, passed: usize) -> Step
 }
 
 // Past a date: a word of that date is passed. The value before it is read where it is given, so that it costs nothing where a caller
-// leaves it aside.
+// leaves it aside; and at each of the other two, so that it is not tested again to be there where a word is left.
 fn past_at(words: &[u32], passed: usize, date: Date) -> Step
     ensures { result ≡ step_past words.now passed date.0 }
 {
-    if passed < words.len() {
-        let w = words[passed];
-        if w / 4 == date.0 {
-            return Step {
-                before: held_value_at(words, passed),
-                at: w / 2 % 2 == 1,
-                after: w % 2 == 1,
-                passed: passed + 1,
-            };
-        }
-        return held_on(held_value_at(words, passed), passed);
+    match words.get(passed) {
+        Some(w) if w / 4 == date.0 => Step {
+            before: held_value_at(words, passed),
+            at: w / 2 % 2 == 1,
+            after: w % 2 == 1,
+            passed: passed + 1,
+        },
+        Some(_) => held_on(held_value_at(words, passed), passed),
+        None => held_on(held_value_at(words, passed), passed),
     }
-    held_on(held_value_at(words, passed), passed)
 }
 
 // A reader goes along a list's words and knows how many it has passed.

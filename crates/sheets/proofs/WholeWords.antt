@@ -1,22 +1,17 @@
--- A word by its four bytes, the first word as the one before the second, and a word that changes nothing.
+-- The first word as the one before the second, and a word that changes nothing.
 use Prim.Native.Nat.{ℕ, zero, suc, ◌+◌, ◌-◌, ◌*◌, ◌/◌, ◌%◌, ◌≤◌, ◌<◌}
 use native.Mathlib.Omega.{arith}
 use mathlib.Core.Path.{◌≡◌, refl, sym, ◌∙◌}
 use mathlib.Core.Bool.{true, false}
 use mathlib.Core.List.{List}
 use lib.Dec.{eqb}
-use lib.ListN.{length, get_or, drop}
+use lib.ListN.{length, drop}
 use borrow.Author.Tests.{eq-eqb, ne_eqb}
 use Rattle.signals.specs.Words.{changes_nothing}
 use Rattle.words.proofs.Unchanged.{both_up, both_down}
 use Rattle.slices.specs.Bytes.{low32}
-use Rattle.slices.proofs.Numbers.{low32_halves, low16_at}
 use Rattle.format.specs.Reading.{later_words_fault, sheet_words_fault}
 use Rattle.format.proofs.Walking.{words_next}
-
-pub whole_word : (s : List ℕ) (at : ℕ)
-    → get_or s at 0 + 256 * get_or s (at + 1) 0 + 65536 * (get_or s (at + 2) 0 + 256 * get_or s (at + 3) 0) ≡ low32 (drop at s)
-whole_word s at = let e : at + 2 + 1 ≡ at + 3 = omega arith in rw (low32_halves s at, low16_at s at, low16_at s (at + 2), e)
 
 first : (w n : ℕ) (rest : List ℕ) → w ≤ 1
     → later_words_fault (w / 4) (eqb (w % 2) 1) n rest ≡ later_words_fault 0 (eqb w 1) n rest

@@ -1,7 +1,7 @@
 // Checking a sheet, front to back.
 #![tactic(auto)]
 
-ghost use Rattle.std.specs.Prelude.{◌≡◌, ◌+◌, ◌≤◌, min, length, drop};
+ghost use Rattle.std.specs.Prelude.{◌≡◌, ◌+◌, ◌≤◌, length, drop};
 ghost use Rattle.slices.specs.Bytes.{low32};
 ghost use Rattle.format.specs.Names.{among};
 ghost use Rattle.format.specs.Reading.{sheet_words_fault, signal_fault, front_fault, sheet_fault, signals_from, names};
@@ -30,44 +30,29 @@ fn word_at(s: &[u8], at: usize) -> u32
     requires { at + 4 ≤ length s.now }
     ensures { result ≡ low32 (drop at s.now) }
 {
-    let low = s[at] as u32 + 256 * (s[at + 1] as u32);
-    let high = s[at + 2] as u32 + 256 * (s[at + 3] as u32);
-    low + 65536 * high
+    u32::from_le_bytes([s[at], s[at + 1], s[at + 2], s[at + 3]])
 }
 
-fn lesser(a: usize, b: usize) -> usize
-    ensures { result ≡ min a b }
-{
-    if a < b { a } else { b }
-}
-
-// The fault of the n words of a signal that start at a place: each is judged before the next is read. Those that are whole are judged
+// The fault of the n words of a signal, which begin these bytes: each is judged before the next is read. Those that are whole are judged
 // without a test of the length for each. A word changes nothing where it is that of its date and twice the value before. (Written so, and
 // not by the remainder, the word is one load.)
-fn words_fault(s: &[u8], from: usize, n: usize) -> u32
-    requires { from ≤ length s.now }
-    ensures { result ≡ sheet_words_fault n (drop from s.now) }
+fn words_fault(bytes: &[u8], n: usize) -> u32
+    ensures { result ≡ sheet_words_fault n bytes.now }
 {
-    let whole = (s.len() - from) / WORD_BYTES;
+    let whole = bytes.len() / WORD_BYTES;
     if whole == 0 {
         return 15;
     }
-    let mut before = word_at(s, from);
+    let mut before = word_at(bytes, 0);
     if 1 < before {
         return 17;
     }
-    let end = lesser(n, whole);
-    let mut i: usize = 1;
-    while i < end {
-        let word = word_at(s, from + WORD_BYTES * i);
-        if word / 4 <= before / 4 {
-            return 17;
-        }
-        if word == 4 * (word / 4) + 3 * (before % 2) {
+    for i in 1..n.min(whole) {
+        let word = word_at(bytes, WORD_BYTES * i);
+        if word / 4 <= before / 4 || word == 4 * (word / 4) + 3 * (before % 2) {
             return 17;
         }
         before = word;
-        i += 1;
     }
     if whole < n { 15 } else { 0 }
 }
@@ -77,10 +62,7 @@ fn known(sheet: &[u8], count: usize, name: &[u8]) -> bool
     requires { (7 ≤ length sheet.now) × Whole count (drop 7 sheet.now) }
     ensures { result ≡ among name.now (names (signals_from count (drop 7 sheet.now))) }
 {
-    match finding::find(sheet, count, name) {
-        Place::At { start: _, count: _ } => true,
-        Place::Refused(_) => false,
-    }
+    matches!(finding::find(sheet, count, name), Place::At { .. })
 }
 
 // The fault of the signal that starts at a place, after the first `count` signals.
@@ -94,50 +76,33 @@ fn signal_fault(sheet: &[u8], at: usize, count: usize) -> u32
         return 15;
     }
     let field = &sheet[at..at + WORD_COUNT_AT];
-    if name_fields::field_fits(field) {
-        if known(sheet, count, name_fields::name_in(field)) {
-            return 16;
-        }
-        if left < WORDS_AT {
-            return 15;
-        }
-        let words = slices::read16(sheet, at + WORD_COUNT_AT);
-        if words == 0 {
-            return 17;
-        }
-        if MOST_WORDS < words {
-            return 17;
-        }
-        words_fault(sheet, at + WORDS_AT, words)
-    } else {
-        16
+    if !name_fields::field_fits(field) || known(sheet, count, name_fields::name_in(field)) {
+        return 16;
     }
+    if left < WORDS_AT {
+        return 15;
+    }
+    let words = slices::read16(sheet, at + WORD_COUNT_AT);
+    if words == 0 || MOST_WORDS < words {
+        return 17;
+    }
+    words_fault(&sheet[at + WORDS_AT..], words)
 }
 
 // The fault of mark, version and count.
 fn front_fault(sheet: &[u8]) -> u32
     ensures { result ≡ front_fault sheet.now }
 {
-    if sheet.len() < VERSION_AT {
+    if !sheet.starts_with(&MARK)
+        || sheet.len() < COUNT_AT
+        || slices::read16(sheet, VERSION_AT) != VERSION
+    {
         return 14;
     }
-    if name_fields::alike(&sheet[..VERSION_AT], &MARK) {
-        if sheet.len() < COUNT_AT {
-            return 14;
-        }
-        if slices::read16(sheet, VERSION_AT) != VERSION {
-            return 14;
-        }
-        if sheet.len() < FIRST_AT {
-            return 15;
-        }
-        if MOST_SIGNALS < slices::read16(sheet, COUNT_AT) {
-            return 15;
-        }
-        0
-    } else {
-        14
+    if sheet.len() < FIRST_AT || MOST_SIGNALS < slices::read16(sheet, COUNT_AT) {
+        return 15;
     }
+    0
 }
 
 // The fault of a sheet, read front to back, 0 for an accepted one.
@@ -150,14 +115,12 @@ pub fn sheet_fault(sheet: &[u8]) -> u32
     }
     let count = slices::read16(sheet, COUNT_AT);
     let mut at = FIRST_AT;
-    let mut i: usize = 0;
-    while i < count {
+    for i in 0..count {
         let fault = signal_fault(sheet, at, i);
         if fault != 0 {
             return fault;
         }
         at += finding::signal_size(&sheet[at..]);
-        i += 1;
     }
     if at == sheet.len() { 0 } else { 15 }
 }

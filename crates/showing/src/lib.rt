@@ -1,7 +1,7 @@
 // What the merge of two lists shows at gap 0 and at each date: a connective, an edge or a latch.
 #![tactic(auto)]
 
-ghost use Rattle.std.specs.Prelude.{◌≡◌, not, ◌&&◌, ◌||◌};
+ghost use Rattle.std.specs.Prelude.{◌≡◌};
 ghost use Rattle.signals.specs.Signal.{cell};
 ghost use Rattle.signals.specs.LatchSteps.{at_step, gap_step, shown};
 ghost use Rattle.showing.specs.Showing.{latch_first, latch_shown, first_shown, date_shown};
@@ -9,7 +9,7 @@ ghost use Rattle.showing.specs.Showing.{latch_first, latch_shown, first_shown, d
 use reading::Step;
 
 // What the merge of two lists builds: a connective by its table, an edge of the first, or a latch.
-#[derive(Clone, Copy)]
+#[derive(Clone, Copy, PartialEq, Eq, Debug)]
 pub enum Operation {
     Connective,
     Rising,
@@ -19,7 +19,7 @@ pub enum Operation {
 }
 
 // What a date shows of the merge: its value at the date and after it, and the bit that a latch carries on.
-#[derive(Clone, Copy)]
+#[derive(Clone, Copy, PartialEq, Eq, Debug)]
 pub struct Shown {
     pub at: bool,
     pub after: bool,
@@ -27,55 +27,32 @@ pub struct Shown {
 }
 
 // Row by the first operand, column by the second.
+#[tactic(auto, unfolding(signals::specs::Signal::cell))]
 pub fn cell_of(table: [[bool; 2]; 2], p: bool, q: bool) -> bool
     ensures { result ≡ cell table p q }
 {
-    let row = words::index(p);
-    let column = words::index(q);
-    table[row][column]
-}
-
-fn both(a: bool, b: bool) -> bool
-    ensures { result ≡ (a && b) }
-{
-    if a { b } else { false }
-}
-
-fn either(a: bool, b: bool) -> bool
-    ensures { result ≡ (a || b) }
-{
-    if a { true } else { b }
-}
-
-fn inverse(a: bool) -> bool
-    ensures { result ≡ not a }
-{
-    !a
+    table[words::index(p)][words::index(q)]
 }
 
 // A latch at an instant, from the bit carried in the gap before.
 fn latch_at(set_wins: bool, s: bool, r: bool, q: bool) -> bool
     ensures { result ≡ at_step set_wins s r q }
 {
-    if set_wins {
-        either(s, both(q, inverse(r)))
-    } else {
-        both(inverse(r), either(s, q))
-    }
+    if set_wins { s | (q & !r) } else { !r & (s | q) }
 }
 
 // The bit carried in a gap, from the latch at the instant before.
 fn carry(s: bool, r: bool, at: bool) -> bool
     ensures { result ≡ gap_step s r at }
 {
-    both(inverse(r), either(s, at))
+    !r & (s | at)
 }
 
 // What a gap shows of the bit carried in it.
 fn latch_in(set_wins: bool, s: bool, q: bool) -> bool
     ensures { result ≡ shown set_wins s q }
 {
-    if set_wins { either(s, q) } else { q }
+    (set_wins & s) | q
 }
 
 fn latch_date(set_wins: bool, q: bool, p: Step, r: Step) -> Shown
@@ -111,12 +88,7 @@ pub fn first_shown(operation: Operation, table: [[bool; 2]; 2], p: bool, q: bool
             after: cell_of(table, p, q),
             carried: false,
         },
-        Operation::Rising => Shown {
-            at: false,
-            after: false,
-            carried: false,
-        },
-        Operation::Falling => Shown {
+        Operation::Rising | Operation::Falling => Shown {
             at: false,
             after: false,
             carried: false,
@@ -143,12 +115,12 @@ pub fn date_shown(
             carried: false,
         },
         Operation::Rising => Shown {
-            at: both(p.at, inverse(p.before)),
+            at: p.at && !p.before,
             after: false,
             carried: false,
         },
         Operation::Falling => Shown {
-            at: both(inverse(p.at), p.before),
+            at: !p.at && p.before,
             after: false,
             carried: false,
         },

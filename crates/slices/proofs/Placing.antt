@@ -1,13 +1,16 @@
 -- Bytes written at a place of an output, and then more bytes after them.
 use Prim.Native.Nat.{ℕ, ◌+◌, ◌≤◌, ◌<◌}
-use native.Mathlib.Numerals.{add-one}
 use native.Mathlib.Omega.{arith}
-use mathlib.Core.Path.{◌≡◌, sym, ap, ◌∙◌}
+use mathlib.Core.Path.{◌≡◌, refl, sym, ap, ◌∙◌}
 use mathlib.Core.List.{List, [], ◌++◌, append_assoc}
-use lib.ListN.{length, get_or, set, take, drop, length-append}
-use lib.Seq.{take-length, take-paste, drop-paste, drop-drop, paste, paste-zero, paste-suc}
+use lib.ListN.{length, take, drop, length-append, length-drop}
+use lib.Seq.{take-length, length-take-le, take-paste, drop-paste, drop-drop, paste, paste-zero}
+use borrow.Rule.Slice.PartMut.{put_mid}
+use Rattle.std.proofs.lemmas.Slice.{put_mid-paste}
 use borrow.Author.Tests.{le-leb, lt-leb}
 use Rattle.slices.specs.Slices.{placed, put_at}
+use Rattle.copying.specs.Copied.{copied}
+use Rattle.copying.proofs.Copying.{copied_whole}
 
 pub placed_as_paste : (out : List ℕ) (at : ℕ) (s : List ℕ) → paste out at s (length s) ≡ placed out at s
 placed_as_paste out at s = rw (take-length s)
@@ -45,11 +48,6 @@ then_put out o₁ o₂ at k x y e f g h = f ∙ rw (e, g) (placed_more out at x 
 pub placed_none : (out : List ℕ) (at : ℕ) → out ≡ placed out at []
 placed_none out at = paste-zero out at []
 
--- one byte more
-pub put_turn : (out₀ : List ℕ) (at : ℕ) (s : List ℕ) (i : ℕ) (out : List ℕ) → at + length s ≤ length out₀ → i < length s
-    → out ≡ paste out₀ at s i → set out (at + i) (get_or s i 0) ≡ paste out₀ at s (i + 1)
-put_turn out₀ at s i out room h e = rw (e, add-one) (paste-suc out₀ at s i 0 (omega arith) h)
-
 -- bytes that fit, and bytes that do not
 pub put_fits : (out : List ℕ) (at : ℕ) (s : List ℕ) → at + length s ≤ length out → put_at out at s ≡ placed out at s
 unfolding put_at
@@ -58,3 +56,14 @@ put_fits out at s h = rw (le-leb _ _ h)
 pub put_short : (out : List ℕ) (at : ℕ) (s : List ℕ) → length out < at + length s → out ≡ put_at out at s
 unfolding put_at
 put_short out at s h = rw (lt-leb _ _ h)
+
+-- bytes that fit, copied to the part from a place on that is as long
+pub put_whole : (out part : List ℕ) (at k : ℕ) (s : List ℕ) → k ≡ length s → at + length s ≤ length out
+    → part ≡ copied s (take k (drop at out)) → put_mid at k out part ≡ put_at out at s
+put_whole out part at k s e h q =
+    put_mid-paste at k out part s (length s) (q ∙ copied_whole s (take k (drop at out)) size) (sym e) refl
+    ∙ placed_as_paste out at s
+    ∙ sym (put_fits out at s h)
+  where
+    size : length (take k (drop at out)) ≡ length s
+    size = length-take-le k (drop at out) (rw length-drop (omega arith)) ∙ e

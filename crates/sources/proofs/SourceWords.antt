@@ -4,16 +4,19 @@ use native.Mathlib.Omega.{arith}
 use mathlib.Core.Path.{◌≡◌, refl, sym, ◌∙◌, ap}
 use mathlib.Core.Bool.{Bool, true, false, cond}
 use mathlib.Core.List.{List}
-use lib.Dec.{leb, ltb, eqb}
+use lib.Dec.{ltb, eqb}
 use lib.ListN.{length, take, drop, get_or, length-take, length-drop}
 use lib.Seq.{get_or-take, get_or-drop, drop-drop}
-use borrow.Author.Tests.{lt-ltb, le-ltb, ltb-true, ltb-false, eq-eqb, ne_eqb, le-leb, lt-leb}
+use borrow.Author.Tests.{lt-ltb, le-ltb, ltb-true, ltb-false, eq-eqb, ne_eqb}
 use Rattle.slices.specs.Bytes.{low32, words_in}
 use Rattle.slices.proofs.Numbers.{low32_halves, low16_at}
 use Rattle.signals.specs.Words.{value_at, value_after}
 use Rattle.reading.specs.Reading.{held_on}
 use Rattle.reading.specs.declared.Step.{Step}
-use Rattle.sources.specs.Sources.{no_word, next_word, sheet_word, list_on_sheet, list_from, apart_in}
+use Rattle.sources.specs.Sources.{no_word, next_word, sheet_word, list_on_sheet, list_from, list_at}
+use Rattle.sources.specs.Lending.{list_in}
+use Rattle.sources.specs.declared.Lent.{Lent}
+use Rattle.sources.specs.declared.Source.{Source}
 use Rattle.sources.specs.declared.Memory.{Memory}
 use Rattle.sources.specs.declared.Memory.TheVariants.{Sheet, Work, Left, Right}
 
@@ -39,23 +42,23 @@ word_in_bytes (suc n) (suc i) bytes h =
     let e : 4 + 4 * i ≡ 4 * suc i = omega arith in
     word_in_bytes n i (drop 4 bytes) (omega arith) ∙ ap low32 (drop-drop (4 * i) 4 bytes ∙ ap (λ (k : ℕ). drop k bytes) e)
 
-pub bytes_short : (sheet : List ℕ) (at : ℕ) → length sheet < at + 4 → no_word ≡ sheet_word sheet at
-unfolding sheet_word
-bytes_short sheet at h = rw (lt-ltb (length sheet) (at + 4) h)
-
 pub bytes_whole : (sheet : List ℕ) (at : ℕ) → at + 4 ≤ length sheet
-    → get_or sheet at 0 + 256 * get_or sheet (at + 1) 0 + 65536 * (get_or sheet (at + 2) 0 + 256 * get_or sheet (at + 3) 0) ≡ sheet_word
-    sheet at
+    → get_or sheet at 0 + get_or sheet (at + 1) 0 * 256 + get_or sheet (at + 2) 0 * 65536 + get_or sheet (at + 3) 0 * 16777216
+    ≡ sheet_word sheet at
 unfolding sheet_word
 bytes_whole sheet at h =
     let e : at + 2 + 1 ≡ at + 3 = omega arith in
-    rw (le-ltb (length sheet) (at + 4) h, low32_halves sheet at, low16_at sheet at, low16_at sheet (at + 2), e)
+    rw (le-ltb (length sheet) (at + 4) h, low32_halves sheet at, low16_at sheet at, low16_at sheet (at + 2), e) (omega arith)
+
+pub length_on_sheet : (sheet : List ℕ) (at count : ℕ) → length (list_on_sheet sheet at count) ≡ min count ((length sheet - at) / 4)
+unfolding list_on_sheet
+length_on_sheet sheet at count = length_words (min count ((length sheet - at) / 4)) (drop at sheet)
 
 -- the list that a source names, by where it stands
-module _ (sheet left right work : List ℕ) (at count passed : ℕ) where
-  sheet_next : passed < count → sheet_word sheet (at + 4 * passed) ≡ next_word (list_on_sheet sheet at count) passed
+module _ (at count passed : ℕ) where
+  sheet_next : (sheet : List ℕ) → passed < count → sheet_word sheet (at + 4 * passed) ≡ next_word (list_on_sheet sheet at count) passed
   unfolding sheet_word list_on_sheet
-  sheet_next h = go (ltb (length sheet) (at + 4 * passed + 4)) refl
+  sheet_next sheet h = go (ltb (length sheet) (at + 4 * passed + 4)) refl
     where
       n : ℕ
       n = min count ((length sheet - at) / 4)
@@ -86,29 +89,40 @@ module _ (sheet left right work : List ℕ) (at count passed : ℕ) where
           let q = ltb-false (at + passed) (length l) e in
           no_word_left l (at + passed) q ∙ sym (no_word_left (take count (drop at l)) passed (rw size (omega arith)))
 
-  pub at_most : (m : Memory) → length (list_from m sheet left right work at count) ≤ count
-  unfolding list_on_sheet
-  at_most Sheet = rw (length_words (min count ((length sheet - at) / 4)) (drop at sheet)) (omega arith)
-  at_most Work = rw (length-take count (drop at work)) (omega arith)
-  at_most Left = rw (length-take count (drop at left)) (omega arith)
-  at_most Right = rw (length-take count (drop at right)) (omega arith)
+pub at_most : (sheet left right work : List ℕ) (s : Source) → length (list_at sheet left right work s) ≤ s.«count»
+at_most sheet left right work s = go s.memory
+  where
+    part : (l : List ℕ) → length (take s.«count» (drop s.at l)) ≤ s.«count»
+    part l = rw (length-take s.«count» (drop s.at l)) (omega arith)
 
-  pub all_passed : (m : Memory) → count ≤ passed → no_word ≡ next_word (list_from m sheet left right work at count) passed
-  all_passed m h = sym (no_word_left (list_from m sheet left right work at count) passed (omega (arith, at_most m)))
+    go : (m : Memory) → length (list_from m sheet left right work s.at s.«count») ≤ s.«count»
+    go Sheet = rw (length_on_sheet sheet s.at s.«count») (omega arith)
+    go Work = part work
+    go Left = part left
+    go Right = part right
 
-  module _ (m : Memory) (h : passed < count) (x : ℕ) where
-    pub next_on_sheet : m ≡ Sheet → x ≡ sheet_word sheet (at + 4 * passed) → x ≡ next_word (list_from m sheet left right work at count)
-        passed
-    next_on_sheet e q = rw e (q ∙ sheet_next h)
+-- as the code reads it, beside what is lent
+module _ (lent : Lent) (work : List ℕ) (list : Source) (passed : ℕ) where
+  pub all_passed : list.«count» ≤ passed → no_word ≡ next_word (list_in lent work list) passed
+  all_passed h =
+      sym (no_word_left (list_in lent work list) passed
+      (omega (arith, at_most lent.sheet.now lent.left.now lent.right.now work list)))
 
-    pub next_in_work : m ≡ Work → x ≡ next_word work (at + passed) → x ≡ next_word (list_from m sheet left right work at count) passed
-    next_in_work e q = rw e (q ∙ part_next work h)
+  module _ (h : passed < list.«count») (x : ℕ) where
+    pub next_on_sheet : list.memory ≡ Sheet → x ≡ sheet_word lent.sheet.now (list.at + 4 * passed)
+        → x ≡ next_word (list_in lent work list) passed
+    next_on_sheet e q = rw e (q ∙ sheet_next list.at list.«count» passed lent.sheet.now h)
 
-    pub next_in_left : m ≡ Left → x ≡ next_word left (at + passed) → x ≡ next_word (list_from m sheet left right work at count) passed
-    next_in_left e q = rw e (q ∙ part_next left h)
+    pub next_in_work : list.memory ≡ Work → x ≡ next_word work (list.at + passed) → x ≡ next_word (list_in lent work list) passed
+    next_in_work e q = rw e (q ∙ part_next list.at list.«count» passed work h)
 
-    pub next_in_right : m ≡ Right → x ≡ next_word right (at + passed) → x ≡ next_word (list_from m sheet left right work at count) passed
-    next_in_right e q = rw e (q ∙ part_next right h)
+    pub next_in_left : list.memory ≡ Left → x ≡ next_word lent.left.now (list.at + passed)
+        → x ≡ next_word (list_in lent work list) passed
+    next_in_left e q = rw e (q ∙ part_next list.at list.«count» passed lent.left.now h)
+
+    pub next_in_right : list.memory ≡ Right → x ≡ next_word lent.right.now (list.at + passed)
+        → x ≡ next_word (list_in lent work list) passed
+    next_in_right e q = rw e (q ∙ part_next list.at list.«count» passed lent.right.now h)
 
 -- passing a date: the tests that the code makes
 -- Past a date from the next word and the value held: a word of that date is passed.
@@ -128,11 +142,3 @@ module _ (word : ℕ) (held : Bool) (passed date : ℕ) where
   pub pass_none : (word / 4 ≡ date → ⊥) → held_on held passed ≡ pass_on word held passed date
   unfolding pass_on
   pass_none n = rw (ne_eqb (word / 4) date n)
-
--- a part of the work area apart from words: the tests that the code makes
-module _ (m : Memory) (from count at room : ℕ) where
-  pub ends_before : m ≡ Work → from + count ≤ at → true ≡ apart_in m from count at room
-  ends_before e h = rw (e, le-leb (from + count) at h)
-
-  pub begins_after : m ≡ Work → at < from + count → leb (at + room) from ≡ apart_in m from count at room
-  begins_after e h = rw (e, lt-leb (from + count) at h)

@@ -90,7 +90,7 @@ first_held (w ∷ ws) = rw (lt-ltb 0 (suc (length ws)) (omega arith))
 
 -- a source names at most its count of words
 pub list_short : (sheet left right work : List ℕ) (s : Source) → length (list_at sheet left right work s) ≤ s.count
-list_short sheet left right work s = at_most sheet left right work s.at s.count 0 s.memory
+list_short sheet left right work s = at_most sheet left right work s
 
 -- the words of a part are those of the whole, or 0
 words_part : (l : List ℕ) (at count : ℕ) → Words l → Words (take count (drop at l))

@@ -1,2 +1,3 @@
 -- Where a list stands, and its words: definitions that mirror the code.
 pub mod Sources
+pub mod Lending

@@ -1,8 +1,9 @@
 // Where a list stands, and its words read there: on a sheet, in the work area, or in one of two lists that are lent beside them.
 #![tactic(auto)]
 
-ghost use Rattle.std.specs.Prelude.{◌≡◌, ◌<◌, ◌-◌, min, length};
-ghost use Rattle.sources.specs.Sources.{next_word, sheet_word, list_at, cursor_at, start_of, past_on, apart_from};
+ghost use Rattle.std.specs.Prelude.{◌≡◌, ◌<◌, length};
+ghost use Rattle.slices.specs.Bytes.{Bytes, Words};
+ghost use Rattle.sources.specs.Sources.{next_word, sheet_word, cursor_at, start_of, past_on, apart_from};
 
 use reading::{NEVER, Step};
 use signals::Date;
@@ -25,20 +26,31 @@ pub struct Source {
     pub count: u32,
 }
 
+// What lists stand in beside the work area: a sheet, and two rows of words that are lent. The ghost fields say what the types of its slices
+// say: its bytes and words fit.
+#[derive(Clone, Copy)]
+pub struct Lent<'a> {
+    pub sheet: &'a [u8],
+    pub left: &'a [u32],
+    pub right: &'a [u32],
+    ghost bytes: { Bytes sheet.now },
+    ghost left_words: { Words left.now },
+    ghost right_words: { Words right.now },
+}
+
 // Stands for the next word where none is left: its date is above every sum of a date and a length.
 pub const NONE: u64 = 17179869180;
 
 // The word at a place of words.
+#[tactic(auto, unfolding(crate::specs::Sources::next_word))]
 fn word_in(words: &[u32], at: usize) -> u64
     ensures { result ≡ next_word words.now at }
 {
-    if at < words.len() {
-        return words[at] as u64;
-    }
-    NONE
+    words.get(at).map_or(NONE, |word| u64::from(*word))
 }
 
 // The word whose bytes begin at a place of a sheet.
+#[tactic(auto, using(crate::proofs::SourceWords::bytes_whole), unfolding(crate::specs::Sources::sheet_word))]
 fn word_on(sheet: &[u8], at: usize) -> u64
     requires { at < 1099511627776 }
     ensures { result ≡ sheet_word sheet.now at }
@@ -46,50 +58,19 @@ fn word_on(sheet: &[u8], at: usize) -> u64
     if sheet.len() < at + 4 {
         return NONE;
     }
-    let low = sheet[at] as u64 + 256 * (sheet[at + 1] as u64);
-    let high = sheet[at + 2] as u64 + 256 * (sheet[at + 3] as u64);
-    low + 65536 * high
-}
-
-// The next word of a list of which so many are passed, or that stands for none.
-pub fn next_word(
-    sheet: &[u8],
-    left: &[u32],
-    right: &[u32],
-    work: &[u32],
-    list: Source,
-    passed: usize,
-) -> u64
-    ensures { result ≡ next_word (list_at sheet.now left.now right.now work.now list) passed }
-{
-    if list.count as usize <= passed {
-        return NONE;
-    }
-    let at = list.at as usize;
-    let memory = list.memory;
-    match memory {
-        Memory::Sheet => word_on(sheet, at + 4 * passed),
-        Memory::Work => word_in(work, at + passed),
-        Memory::Left => word_in(left, at + passed),
-        _ => word_in(right, at + passed),
-    }
+    u64::from(u32::from_le_bytes([sheet[at], sheet[at + 1], sheet[at + 2], sheet[at + 3]]))
 }
 
 // None of the places that the list claims is among so many words of the work area from a place on.
 pub fn apart(list: Source, at: u32, room: u32) -> bool
     ensures { result ≡ apart_from list at room }
 {
-    let memory = list.memory;
-    match memory {
+    match list.memory {
         Memory::Work => {
-            if list.at as u64 + list.count as u64 <= at as u64 {
-                return true;
-            }
-            at as u64 + room as u64 <= list.at as u64
+            u64::from(list.at) + u64::from(list.count) <= u64::from(at)
+                || u64::from(at) + u64::from(room) <= u64::from(list.at)
         }
-        Memory::Sheet => true,
-        Memory::Left => true,
-        Memory::Right => true,
+        Memory::Sheet | Memory::Left | Memory::Right => true,
     }
 }
 
@@ -110,69 +91,87 @@ pub struct Passed {
     pub next: Cursor,
 }
 
-// The reader of a list of which so many words are passed, the last of them given.
-pub fn cursor_at(
-    sheet: &[u8],
-    left: &[u32],
-    right: &[u32],
-    work: &[u32],
-    list: Source,
-    passed: usize,
-    last: u64,
-) -> Cursor
-    ensures { result ≡ cursor_at (list_at sheet.now left.now right.now work.now list) passed
-        last }
-{
-    let word = next_word(sheet, left, right, work, list, passed);
-    Cursor {
-        word: (word % 4294967296) as u32,
-        date: (word / 4 % 4294967296) as u32,
-        last,
-        passed,
+impl Lent<'_> {
+    ghost use Rattle.sources.specs.Lending.{list_in};
+
+    // The next word of a list of which so many are passed, or that stands for none.
+    pub fn next_word(self, work: &[u32], list: Source, passed: usize) -> u64
+        ensures { result ≡ next_word (list_in self.entry work.now list) passed }
+    {
+        if list.count as usize <= passed {
+            return NONE;
+        }
+        let at = list.at as usize;
+        match list.memory {
+            Memory::Sheet => word_on(self.sheet, at + 4 * passed),
+            Memory::Work => word_in(work, at + passed),
+            Memory::Left => word_in(self.left, at + passed),
+            Memory::Right => word_in(self.right, at + passed),
+        }
     }
-}
 
-// The reader past the first word.
-pub fn start(sheet: &[u8], left: &[u32], right: &[u32], work: &[u32], list: Source) -> Cursor
-    ensures { result ≡ start_of (list_at sheet.now left.now right.now work.now list) }
-{
-    let first = next_word(sheet, left, right, work, list, 0);
-    cursor_at(sheet, left, right, work, list, 1, first)
-}
+    // The reader of a list of which so many words are passed, the last of them given.
+    pub fn cursor_at(self, work: &[u32], list: Source, passed: usize, last: u64) -> Cursor
+        ensures { result ≡ cursor_at (list_in self.entry work.now list) passed last }
+    {
+        let word = self.next_word(work, list, passed);
+        Cursor {
+            word: (word % 4294967296) as u32,
+            date: (word / 4 % 4294967296) as u32,
+            last,
+            passed,
+        }
+    }
 
-// Past a date: a word of that date is passed, and only then the next one is read.
-pub fn past(
-    sheet: &[u8],
-    left: &[u32],
-    right: &[u32],
-    work: &[u32],
-    list: Source,
-    at: Cursor,
-    date: Date,
-) -> Passed
-    ensures { result ≡ past_on (list_at sheet.now left.now right.now work.now list) at date.0 }
-{
-    let held = at.last % 2 == 1;
-    if at.date == date.0 {
-        let passed = at.passed % 4294967296 + 1;
-        return Passed {
+    // The reader past the first word.
+    pub fn start(self, work: &[u32], list: Source) -> Cursor
+        ensures { result ≡ start_of (list_in self.entry work.now list) }
+    {
+        let first = self.next_word(work, list, 0);
+        self.cursor_at(work, list, 1, first)
+    }
+
+    // Past a date: a word of that date is passed, and only then the next one is read.
+    pub fn past(self, work: &[u32], list: Source, at: Cursor, date: Date) -> Passed
+        ensures { result ≡ past_on (list_in self.entry work.now list) at date.0 }
+    {
+        let held = at.last % 2 == 1;
+        if at.date == date.0 {
+            let passed = at.passed % 4294967296 + 1;
+            return Passed {
+                step: Step {
+                    before: held,
+                    at: at.word / 2 % 2 == 1,
+                    after: at.word % 2 == 1,
+                    passed,
+                },
+                next: self.cursor_at(work, list, passed, u64::from(at.word)),
+            };
+        }
+        Passed {
             step: Step {
                 before: held,
-                at: at.word / 2 % 2 == 1,
-                after: at.word % 2 == 1,
-                passed,
+                at: held,
+                after: held,
+                passed: at.passed,
             },
-            next: cursor_at(sheet, left, right, work, list, passed, at.word as u64),
-        };
+            next: at,
+        }
     }
-    Passed {
-        step: Step {
-            before: held,
-            at: held,
-            after: held,
-            passed: at.passed,
-        },
-        next: at,
+
+    // How many words the list has.
+    #[tactic(auto, using(crate::proofs::SourceWords::length_on_sheet))]
+    pub fn length_of(self, work: &[u32], list: Source) -> usize
+        ensures { result ≡ length (list_in self.entry work.now list) }
+    {
+        let count = list.count as usize;
+        let at = list.at as usize;
+        match list.memory {
+            Memory::Sheet => count.min(self.sheet.len().saturating_sub(at) / 4),
+            Memory::Work => count.min(work.len().saturating_sub(at)),
+            Memory::Left => count.min(self.left.len().saturating_sub(at)),
+            Memory::Right => count.min(self.right.len().saturating_sub(at)),
+        }
     }
 }
 
@@ -239,33 +238,5 @@ pub fn past_in(words: &[u32], at: Cursor, date: u32) -> Passed
             last: at.last,
             passed: at.passed,
         },
-    }
-}
-
-// The smaller of two counts; what is left of so many after a place.
-fn smaller(a: usize, b: usize) -> usize
-    ensures { result ≡ min a b }
-{
-    if a < b { a } else { b }
-}
-
-fn left_after(all: usize, at: usize) -> usize
-    ensures { result ≡ all - at }
-{
-    if all < at { 0 } else { all - at }
-}
-
-// How many words the list has.
-pub fn length_of(sheet: &[u8], left: &[u32], right: &[u32], work: &[u32], list: Source) -> usize
-    ensures { result ≡ length (list_at sheet.now left.now right.now work.now list) }
-{
-    let count = list.count as usize;
-    let at = list.at as usize;
-    let memory = list.memory;
-    match memory {
-        Memory::Sheet => smaller(count, left_after(sheet.len(), at) / 4),
-        Memory::Work => smaller(count, left_after(work.len(), at)),
-        Memory::Left => smaller(count, left_after(left.len(), at)),
-        Memory::Right => smaller(count, left_after(right.len(), at)),
     }
 }

@@ -8,13 +8,6 @@ use inputs::BYTES;
 use std::io;
 use std::io::{Read, Stdin};
 
-// What reading gave: so many bytes up to the end of the input or of the buffer, or a read that failed.
-#[derive(Clone, Copy)]
-pub enum Input {
-    Bytes(usize),
-    Failed,
-}
-
 // Reads until the input ends, the space is full or a read fails; how many bytes.
 pub fn fill(mut stdin: Stdin, space: &mut [u8]) -> io::Result<usize>
     ensures { ReadsAtMost result space.new }
@@ -30,12 +23,9 @@ pub fn fill(mut stdin: Stdin, space: &mut [u8]) -> io::Result<usize>
     Ok(done)
 }
 
-// Reads until the input ends, the buffer is full or a read fails.
-pub fn read(stdin: Stdin, buffer: &mut [u8; BYTES]) -> Input
+// Reads until the input ends, the buffer is full or a read fails; how many bytes.
+pub fn read(stdin: Stdin, buffer: &mut [u8; BYTES]) -> io::Result<usize>
     ensures { ReadInto result buffer.new }
 {
-    match fill(stdin, buffer) {
-        Ok(done) => Input::Bytes(done),
-        Err(_) => Input::Failed,
-    }
+    fill(stdin, buffer)
 }

@@ -1,9 +1,10 @@
 -- Believed: Decimal lengths as bytes, and what a text that should be a length is read as.
-use Rattle.std.specs.Prelude.{ℕ, ◌+◌, ◌*◌, ◌-◌, min, Bool, false, not, cond, ◌&&◌, ◌||◌, List, [], ◌∷◌, ltb, eqb, length}
+use Rattle.std.specs.Prelude.{ℕ, ◌+◌, ◌*◌, ◌-◌, min, Bool, false, not, cond, ◌&&◌, ◌||◌, List, [], ◌∷◌, Result, Ok, Err, ltb, eqb, length}
 use Rattle.names.specs.Names.{digit, all_of}
 use Rattle.signals.specs.Moment.{M}
-use Rattle.texts.specs.declared.Read.{Read}
-use Rattle.texts.specs.declared.Read.TheVariants as read
+use Rattle.signals.specs.declared.Length.{Length}
+use Rattle.texts.specs.declared.NotRead.{NotRead}
+use Rattle.texts.specs.declared.NotRead.TheVariants.{NotALength, AboveM}
 
 -- Lengths are decimal, without needless leading zeros.
 unfoldable pub is_length : List ℕ → Bool
@@ -23,6 +24,6 @@ unfoldable pub capped : ℕ → ℕ
 capped n = min n (M + 1)
 
 -- a text read as a length: its ticks up to M
-unfoldable pub length_read : List ℕ → Read
+unfoldable pub length_read : List ℕ → Result Length NotRead
 length_read text =
-    cond (is_length text) (cond (ltb M (value text)) read.AboveM (read.Ticks (record { 0 = value text }))) read.NotALength
+    cond (is_length text) (cond (ltb M (value text)) (Err AboveM) (Ok (record { 0 = value text }))) (Err NotALength)

@@ -1,5 +1,5 @@
 -- One word of tidying's two passes: the tests that the code makes of it are those of the definitions, and what each turn counts or puts.
-use Prim.Native.Nat.{ℕ, zero, suc, ◌+◌, ◌*◌, ◌-◌, ◌/◌, ◌%◌, ◌≤◌, ◌<◌}
+use Prim.Native.Nat.{ℕ, zero, suc, ◌+◌, ◌*◌, ◌-◌, ◌%◌, ◌≤◌, ◌<◌}
 use native.Mathlib.Omega.{arith}
 use native.Mathlib.Numerals.{add-one}
 use mathlib.Core.Path.{◌≡◌, refl, sym, ◌∙◌, ap}
@@ -8,7 +8,7 @@ use mathlib.Core.List.{List, [], ◌∷◌, ◌++◌, append_assoc, append-nil}
 use lib.Dec.{eqb, leb, ltb}
 use lib.ListN.{length, get_or, take, drop, set, length-append, length-set, take-append-drop, drop_of_length-le}
 use lib.Seq.{drop-cons, take-set-le, drop-set-lt, take-suc-set, length-take-le}
-use borrow.Author.Tests.{le-leb, lt-leb, eq-eqb, ne_eqb, eqb-true, eqb-false, ltb-true, ltb-false}
+use borrow.Author.Tests.{eqb-true, eqb-false, ltb-true, ltb-false}
 use native.Mathlib.Nat.{add-zero}
 use Rattle.signals.specs.Words.{date_of, value_after, changes_nothing, most_words}
 use Rattle.signals.proofs.WordFacts.{head_value_lem}
@@ -19,16 +19,8 @@ use Rattle.tidying.specs.Kept.{changing, kept}
 use Rattle.tidying.specs.Counting.{not_above, change, all_not_above, Counted}
 
 module _ (before w : ℕ) where
-  pub above_not : w / 4 ≤ before / 4 → 1 ≡ not_above before w
-  unfolding not_above date_of
-  above_not h = rw (le-leb (w / 4) (before / 4) h)
-
-  pub above_so : before / 4 < w / 4 → 0 ≡ not_above before w
-  unfolding not_above date_of
-  above_so h = rw (lt-leb (w / 4) (before / 4) h)
-
   -- the last two bits of a word that changes nothing
-  same_bits : changes_nothing (value_after before) w ≡ eqb (w % 4) (3 * (before % 2))
+  pub same_bits : changes_nothing (value_after before) w ≡ eqb (w % 4) (3 * (before % 2))
   unfolding value_after
   same_bits = go (eqb (before % 2) 1) refl
     where
@@ -38,14 +30,6 @@ module _ (before w : ℕ) where
           let p' : (before % 2 ≡ 1) → ⊥ = eqb-false (before % 2) 1 p in
           let z : 0 ≡ 3 * (before % 2) = omega arith in
           sym (both_down w) ∙ ap (eqb (w % 4)) z
-
-  pub change_none : w % 4 ≡ 3 * (before % 2) → 0 ≡ change before w
-  unfolding change
-  change_none h = rw (same_bits, eq-eqb (w % 4) (3 * (before % 2)) h)
-
-  pub change_one : (w % 4 ≡ 3 * (before % 2) → ⊥) → 1 ≡ change before w
-  unfolding change
-  change_one h = rw (same_bits, ne_eqb (w % 4) (3 * (before % 2)) h)
 
 pub change_le : (before w n : ℕ) → n ≡ change before w → n ≤ 1
 unfolding change

@@ -20,17 +20,19 @@ struct Counts {
 }
 
 // 0 for a word that changes nothing, both its values being the one after the word before it, else 1.
+#[tactic(auto, using(crate::proofs::Turns::same_bits), unfolding(crate::specs::Counting::change))]
 fn changes(before: u32, w: u32) -> u32
     ensures { result ≡ change before w }
 {
-    if w % 4 == 3 * (before % 2) { 0 } else { 1 }
+    u32::from(w % 4 != 3 * (before % 2))
 }
 
 // 1 for a word that is not dated above the word before it, else 0.
+#[tactic(auto, unfolding(crate::specs::Counting::not_above, signals::specs::Words::date_of))]
 fn not_above(before: u32, w: u32) -> u32
     ensures { result ≡ not_above before w }
 {
-    if w / 4 <= before / 4 { 1 } else { 0 }
+    u32::from(w / 4 <= before / 4)
 }
 
 // The first pass. It does not stop at a date that is not above the last, so that no turn waits for the one before.
@@ -40,19 +42,16 @@ fn count_words(list: &[u32]) -> Counts
 {
     let mut kept: u32 = 1;
     let mut wrong: u32 = 0;
-    let mut i: usize = 1;
-    while i < list.len() {
-        let before = list[i - 1];
-        let w = list[i];
-        kept += changes(before, w);
-        wrong += not_above(before, w);
-        i += 1;
+    for i in 1..list.len() {
+        kept += changes(list[i - 1], list[i]);
+        wrong += not_above(list[i - 1], list[i]);
     }
     Counts { kept, wrong }
 }
 
 // The words to be kept, at the front of an output that has room for them. Each word is put at the next free place; one that changes nothing
-// does not fill it, and the next is put over it. It ends when all are there, so that no place past them is written.
+// does not fill it, and the next is put over it. It ends when all are there, so that no place past them is written, and so makes one test
+// a turn, where a `for` over the words would make two.
 fn keep_words(list: &[u32], count: usize, out: &mut [u32])
     requires { (head_fault list.now ≡ 0) × (count ≡ length (kept list.now)) × (count ≤ length out.old) }
     ensures { out.new ≡ kept list.now ++ drop count out.old }

@@ -28,32 +28,29 @@ pub fn date_in(sum: Sum) -> Date
 }
 
 // A delay that waits for its length from the instant of a date, or from the gap after it.
+#[tactic(auto, unfolding(crate::specs::Delay::pending))]
 fn pending_from(date: Date, at: bool, d: Length) -> Timer
     ensures { result ≡ pending date.0 at d.0 }
 {
-    let sum = words::date_plus_length(date, d);
     Timer {
         level: false,
         waiting: true,
-        due: date_in(sum),
+        due: date_in(words::date_plus_length(date, d)),
         at,
     }
 }
 
 // The pending change has come by the instant of the date, or by the gap after it.
+#[tactic(auto, unfolding(crate::specs::Delay::reached))]
 fn has_come(timer: Timer, date: Date, at: bool) -> bool
     ensures { result ≡ reached timer date.0 at }
 {
-    let due = timer.due;
-    if due.0 == date.0 {
-        if at { timer.at } else { true }
-    } else {
-        false
-    }
+    timer.due.0 == date.0 && (!at || timer.at)
 }
 
 // The delay with its pending change made if it has come. Else it is given back field by field, as in `follow`, so that the bytes between
 // the fields are not copied in every turn of a loop.
+#[tactic(auto, unfolding(crate::specs::Delay::risen))]
 fn rise(timer: Timer, date: Date, at: bool) -> Timer
     ensures { result ≡ risen timer date.0 at }
 {
@@ -65,26 +62,25 @@ fn rise(timer: Timer, date: Date, at: bool) -> Timer
             at,
         };
     }
-    let due = timer.due;
     Timer {
         level: timer.level,
         waiting: timer.waiting,
-        due,
+        due: timer.due,
         at: timer.at,
     }
 }
 
 // The delay at the next moment, the instant of the date or the gap after it, where its input has the value.
+#[tactic(auto, unfolding(crate::specs::Delay::timer_next))]
 pub fn follow(timer: Timer, d: Length, date: Date, at: bool, value: bool) -> Timer
     ensures { result ≡ timer_next timer d.0 date.0 at value }
 {
     if value {
         if timer.level {
-            let due = timer.due;
             return Timer {
                 level: timer.level,
                 waiting: timer.waiting,
-                due,
+                due: timer.due,
                 at: timer.at,
             };
         }
@@ -102,22 +98,15 @@ pub fn follow(timer: Timer, d: Length, date: Date, at: bool, value: bool) -> Tim
 }
 
 // The delay in gap 0: a run from there on waits for the length, or does not.
+#[tactic(auto, unfolding(crate::specs::Delay::first_timer))]
 pub fn first(d: Length, waits: bool, value: bool) -> Timer
     ensures { result ≡ first_timer waits d.0 value }
 {
-    if value {
-        if waits {
-            return rise(pending_from(Date(0), true, d), Date(0), false);
-        }
-        return Timer {
-            level: true,
-            waiting: false,
-            due: Date(0),
-            at: true,
-        };
+    if value && waits {
+        return rise(pending_from(Date(0), true, d), Date(0), false);
     }
     Timer {
-        level: false,
+        level: value,
         waiting: false,
         due: Date(0),
         at: true,
@@ -128,5 +117,5 @@ pub fn first(d: Length, waits: bool, value: bool) -> Timer
 pub fn on_level(level: bool, value: bool) -> bool
     ensures { result ≡ on_level level value }
 {
-    if level { value } else { !value }
+    level == value
 }

@@ -6,13 +6,17 @@ use native.Mathlib.Numerals.{add-one}
 use mathlib.Core.Path.{◌≡◌, refl, sym, ap, ◌∙◌}
 use mathlib.Core.Bool.{Bool, true, false, cond}
 use mathlib.Core.List.{List, [], ◌∷◌}
-use lib.ListN.{length, get_or, take, drop, get_or-eq_default, drop_of_length-le, length-drop}
+use Rattle.std.specs.List.{prefix_len, take_while}
+use Rattle.std.proofs.lemmas.List.Folds.{length-prefix_len}
+use native.Mathlib.Nat.{add_comm}
+use lib.ListN.{length, get_or, take, drop, get_or-eq_default, length-drop}
 use lib.Seq.{drop-cons, take-suc, get_or-drop}
 use Rattle.signals.specs.Moment.{M}
 use Rattle.names.specs.Names.{letter, digit, name_byte}
 use Rattle.texts.specs.Lengths.{value, value_from, capped}
 use Rattle.grammar.specs.Reader.{run, value_between}
-use Rattle.marks.specs.Marks.{Mark, next_mark}
+use Rattle.marks.specs.declared.Mark.{Mark}
+use Rattle.marks.specs.Marks.{next_mark}
 use Rattle.tokens.specs.Tokens.{class_of, number_at}
 use Rattle.grammar.proofs.Bytes.{never}
 use Rattle.grammar.proofs.Writing.{value_more}
@@ -22,19 +26,11 @@ pub letter_name : (b : ℕ) → letter b ≡ true → name_byte b ≡ true
 unfolding name_byte
 letter_name b e = rw e refl
 
--- a run goes on, or ends
+-- a run goes on
 pub run_on : (p : ℕ → Bool) (text : List ℕ) (i : ℕ) → i < length text → p (get_or text i 0) ≡ true →
     run p (drop i text) ≡ suc (run p (drop (i + 1) text))
 unfolding run
 run_on p text i h e = rw (drop-cons text i 0 h, e, add-one) refl
-
-pub run_off : (p : ℕ → Bool) (text : List ℕ) (i : ℕ) → i < length text → p (get_or text i 0) ≡ false → run p (drop i text) ≡ 0
-unfolding run
-run_off p text i h e = rw (drop-cons text i 0 h, e) refl
-
-pub run_end : (p : ℕ → Bool) (text : List ℕ) (i : ℕ) → length text ≤ i → run p (drop i text) ≡ 0
-unfolding run
-run_end p text i h = rw (drop_of_length-le text {i = i} h) refl
 
 -- a byte that belongs is in the list, where 0 does not belong
 in_list : (p : ℕ → Bool) (text : List ℕ) (i : ℕ) → p 0 ≡ false → p (get_or text i 0) ≡ true → i < length text
@@ -47,13 +43,6 @@ in_list p text i none e = go (dec_lt i (length text))
 pub run_more : (p : ℕ → Bool) (text : List ℕ) (i : ℕ) → p 0 ≡ false → p (get_or text i 0) ≡ true →
     run p (drop i text) ≡ suc (run p (drop (i + 1) text))
 run_more p text i none e = run_on p text i (in_list p text i none e) e
-
-pub run_stop : (p : ℕ → Bool) (text : List ℕ) (i : ℕ) → p (get_or text i 0) ≡ false → run p (drop i text) ≡ 0
-run_stop p text i e = go (dec_lt i (length text))
-  where
-    go : Dec (i < length text) → run p (drop i text) ≡ 0
-    go (yes h) = run_off p text i h e
-    go (no h) = run_end p text i (omega (arith, h))
 
 -- a byte that is next and belongs begins a run
 pub run_some : (p : ℕ → Bool) (text : List ℕ) (m : Mark) → p 0 ≡ false → p (next_mark text m) ≡ true → 0 < run p (drop m.at text)
@@ -86,18 +75,6 @@ pub number_between : (page : List ℕ) (a e : ℕ) → a ≤ e → e ≤ length 
 unfolding value_between
 number_between page a e h k = number_value page a (e - a) (omega arith)
 
-pub capped_next : (n v d : ℕ) → n ≡ capped v → capped (n * 10 + d) ≡ capped (v * 10 + d)
-unfolding capped
-capped_next n v d e = omega arith
-
-pub capped_over : (n : ℕ) → M + 1 < n → M + 1 ≡ capped n
-unfolding capped
-capped_over n h = omega arith
-
-pub capped_under : (n : ℕ) → n ≤ M + 1 → n ≡ capped n
-unfolding capped
-capped_under n h = omega arith
-
 pub capped_most : (n v : ℕ) → n ≡ capped v → n ≤ M + 1
 unfolding capped
 capped_most n v e = omega arith
@@ -120,3 +97,12 @@ pub none_at_0 : (letters : Bool) → class_of letters 0 ≡ false
 unfolding name_byte letter digit
 none_at_0 true = refl
 none_at_0 false = refl
+
+-- a run is what std counts
+pub run_is : (p : ℕ → Bool) (l : List ℕ) → length (take_while p l) ≡ run p l
+unfolding run
+run_is p l = length-prefix_len p l ∙ go l
+  where
+    go : (l : List ℕ) → prefix_len p l ≡ run p l
+    go [] = refl
+    go (b ∷ l) = rw (add_comm 1 (prefix_len p l), add-one, go l) refl

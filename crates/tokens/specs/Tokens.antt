@@ -4,7 +4,8 @@ use Rattle.names.specs.Names.{letter, digit, name_byte}
 use Rattle.grammar.specs.Kinds as kinds
 use Rattle.grammar.specs.Formula.{name_word}
 use Rattle.grammar.specs.Reader.{run}
-use Rattle.marks.specs.Marks.{Mark, next_mark}
+use Rattle.marks.specs.declared.Mark.{Mark}
+use Rattle.marks.specs.Marks.{next_mark}
 
 -- bytes of names, bytes of lengths
 abbrev pub class_of : Bool → ℕ → Bool

@@ -1,7 +1,7 @@
 -- H as the code reads it: a text that writes none is read as M + 1, which is above every H.
 use Prim.Native.Nat.{ℕ, ◌+◌}
 use native.Mathlib.Omega.{arith}
-use mathlib.Core.Path.{◌≡◌, refl, sym, ap, ◌∙◌}
+use mathlib.Core.Path.{◌≡◌, refl}
 use mathlib.Core.Bool.{Bool, true, false, cond}
 use mathlib.Core.List.{List}
 use lib.Dec.{ltb}
@@ -9,29 +9,27 @@ use borrow.Author.Tests.{lt-ltb, le-ltb, ltb-true, ltb-false}
 use Rattle.signals.specs.Moment.{M}
 use Rattle.stretches.specs.Calls.{horizon_fault}
 use Rattle.texts.specs.Lengths.{is_length, value, capped, length_read}
-use Rattle.texts.specs.declared.Read.{Read}
-use Rattle.texts.specs.declared.Read.TheVariants.{Ticks, NotALength, AboveM}
+use Rattle.std.proofs.Common.{Result, Ok, Err}
+use Rattle.signals.specs.declared.Length.{Length}
+use Rattle.texts.specs.declared.NotRead.{NotRead}
+use Rattle.texts.specs.declared.NotRead.TheVariants.{NotALength, AboveM}
 use Rattle.uptime_page.specs.Printing.{horizon_text_fault}
 use Rattle.uptime_page.specs.Words.{horizon_in}
 
 -- the ticks that were read
-abbrev pub ticks_in : Read → ℕ
-ticks_in (Ticks ticks) = ticks.0
-ticks_in NotALength = M + 1
-ticks_in AboveM = M + 1
+abbrev pub ticks_in : Result Length NotRead → ℕ
+ticks_in (Ok length) = length.0
+ticks_in (Err why) = M + 1
 
-read_as : (text : List ℕ) → ticks_in (length_read text) ≡ horizon_in text
+pub read_as : (text : List ℕ) → ticks_in (length_read text) ≡ horizon_in text
 unfolding length_read horizon_in capped
 read_as text = go (is_length text) (ltb M (value text)) refl
   where
     go : (a b : Bool) → ltb M (value text) ≡ b
-        → ticks_in (cond a (cond b AboveM (Ticks (record { 0 = value text }))) NotALength) ≡ cond a (capped (value text)) (M + 1)
+        → ticks_in (cond a (cond b (Err AboveM) (Ok (record { 0 = value text }))) (Err NotALength)) ≡ cond a (capped (value text)) (M + 1)
     go true true e = omega (arith, ltb-true M (value text) e)
     go true false e = omega (arith, ltb-false M (value text) e)
     go false b e = refl
-
-pub horizon_is : (text : List ℕ) (r s : Read) → r ≡ length_read text → r ≡ s → ticks_in s ≡ horizon_in text
-horizon_is text r s e f = sym (ap ticks_in f) ∙ ap ticks_in e ∙ read_as text
 
 pub horizon_fault_lem : (text : List ℕ) → horizon_fault (horizon_in text) ≡ horizon_text_fault text
 unfolding horizon_fault horizon_in horizon_text_fault capped

@@ -1,6 +1,5 @@
 -- What a page is, and what the proofs of the functions cite.
-pub mod Putting
-pub mod WordLines
+pub mod Sizes
 pub mod Filling
 pub mod HorizonRead
 pub mod PageTells

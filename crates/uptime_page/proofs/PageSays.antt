@@ -34,8 +34,7 @@ use Rattle.uptime_page.specs.Page.{total_text, total_line, stretch_lines, page_t
 use Rattle.uptime_page.specs.Printing.{page_fault, printed, most_bytes}
 use Rattle.uptime_page.specs.Words.{word_lines}
 use Rattle.uptime_page.specs.PageSays.{IsHorizon, Small, Told, PageSays}
-use Rattle.uptime_page.proofs.Putting.{total_length}
-use Rattle.uptime_page.proofs.Filling.{lines_size}
+use Rattle.uptime_page.proofs.Sizes.{lines_size, total_length}
 use Rattle.uptime_page.proofs.PageTells.{page_tells, no_refusal}
 use Rattle.uptime_page.proofs.PageFaults.{horizon_value, page_faults, page_fine, page_numbers}
 

@@ -6,6 +6,7 @@ use Rattle.signals.specs.Answers.{first_of}
 use Rattle.signals.specs.declared.Verdict.TheVariants.{Refused}
 use Rattle.format.specs.Calls.{lookup_fault}
 use Rattle.stretches.specs.Calls.{stretches_on, horizon_fault}
+use Rattle.texts.specs.Decimal.{decimal}
 use Rattle.texts.specs.Lengths.{is_length, value, capped}
 use Rattle.verdict_line.specs.Line.{line_of}
 use Rattle.uptime_page.specs.Page.{pair_line, total_line, page_text}
@@ -15,6 +16,12 @@ unfoldable pub word_lines : List ℕ → List ℕ
 word_lines [] = []
 word_lines (first ∷ []) = []
 word_lines (first ∷ ticks ∷ ws) = pair_line first ticks ++ word_lines ws
+
+-- the parts of these lines, as the code pushes them one after the other to the end of a page
+abbrev pub word_parts : List ℕ → List (List ℕ)
+word_parts [] = []
+word_parts (first ∷ []) = []
+word_parts (first ∷ ticks ∷ ws) = decimal first ∷ (32 ∷ []) ∷ decimal ticks ∷ (10 ∷ []) ∷ word_parts ws
 
 unfoldable pub words_page : List ℕ → ℕ → List ℕ
 words_page words total = word_lines words ++ total_line total

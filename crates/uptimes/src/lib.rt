@@ -1,7 +1,7 @@
 // The up-time of a name's signal on a sheet: its up stretches before a horizon, and their total.
 #![tactic(auto)]
 
-ghost use Rattle.std.specs.Prelude.{◌≡◌, ◌≤◌, ◌-◌};
+ghost use Rattle.std.specs.Prelude.{◌≡◌, ◌≤◌};
 ghost use Rattle.signals.specs.Moment.{M as Moment-as-M};
 ghost use Rattle.signals.specs.Words.{list_fault};
 ghost use Rattle.format.specs.Theorems.{decoded};
@@ -9,8 +9,8 @@ ghost use Rattle.stretches.specs.Calls.{CallOfUpTime};
 ghost use Rattle.uptimes.specs.Turns.{CanGoOn, state_of, put_two, ended, past_word, FoundIn, fits_in, TellsUpTime};
 
 use format::Place;
-use signals::{Date, Length, M, WORDS};
-use sources::{Memory, Source};
+use signals::{Date, M, WORDS};
+use sources::{Lent, Memory, Source};
 use stretches::UpTime;
 
 // On the way along a list: the gap since which the value is held, the words of the stretches so far, and their ticks.
@@ -33,16 +33,6 @@ fn put_two(out: &mut [u32], at: usize, first: u32, second: u32)
     }
 }
 
-// The length from one date to another, 0 where that is not later.
-fn length_between(from: Date, end: Date) -> Length
-    ensures { result.0 ≡ end.0 - from.0 }
-{
-    if end.0 <= from.0 {
-        return Length(0);
-    }
-    Length(end.0 - from.0)
-}
-
 // Ends before a gap the stretch that is under way, where it has any gap: its words go to the output where they fit, and are counted.
 fn end_before(out: &mut [u32], going: Going, end: Date) -> Going
     requires { CanGoOn going }
@@ -50,12 +40,12 @@ fn end_before(out: &mut [u32], going: Going, end: Date) -> Going
 {
     let from = going.from;
     if from.0 < end.0 {
-        let length = length_between(from, end);
-        put_two(out, going.count, from.0, length.0);
+        let length = end.0 - from.0;
+        put_two(out, going.count, from.0, length);
         return Going {
             from: end,
             count: going.count + 2,
-            total: going.total + length.0,
+            total: going.total + length,
         };
     }
     going
@@ -66,16 +56,15 @@ fn pass(out: &mut [u32], going: Going, date: Date, before: bool, after: bool) ->
     requires { CanGoOn going }
     ensures { state_of result out.new ≡ past_word date.0 before after (state_of going out.old) }
 {
-    if before {
-        if after {
-            return going;
+    if !before {
+        Going {
+            from: date,
+            ..going
         }
-        return end_before(out, going, date);
-    }
-    Going {
-        from: date,
-        count: going.count,
-        total: going.total,
+    } else if after {
+        going
+    } else {
+        end_before(out, going, date)
     }
 }
 
@@ -96,10 +85,15 @@ fn stretches_in(part: &[u8], h: u32, out: &mut [u32]) -> Going
         count: 0,
         total: 0,
     };
-    let mut reader = sources::start(part, &none, &none, &none, list);
+    let lent = Lent {
+        sheet: part,
+        left: &none,
+        right: &none,
+    };
+    let mut reader = lent.start(&none, list);
     while reader.date < h {
         let date = Date(reader.date);
-        let passed = sources::past(part, &none, &none, &none, list, reader, date);
+        let passed = lent.past(&none, list, reader, date);
         let step = passed.step;
         going = pass(out, going, date, step.before, step.after);
         reader = passed.next;

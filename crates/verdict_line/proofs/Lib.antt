@@ -2,5 +2,5 @@
 pub mod Lines
 pub mod LineCases
 pub mod Reading
-pub mod Putting
 pub mod Filling
+pub mod Pushing

@@ -1,6 +1,6 @@
 -- Believed: A text by value: an array that has room for the longest, with the text's bytes first and zeros past them, and how many they
 -- are. The line of a claim's answer so.
-use Rattle.std.specs.Prelude.{ℕ, ◌≤◌, ◌≡◌, List, ◌++◌, length, take, drop, replicate}
+use Rattle.std.specs.Prelude.{ℕ, ◌+◌, ◌≤◌, ◌≡◌, cond, List, ◌++◌, leb, length, take, drop, replicate}
 use Rattle.signals.specs.declared.Verdict.{Verdict}
 use Rattle.verdict_line.specs.Line.{line_of}
 
@@ -19,6 +19,10 @@ Filled room text bytes count =
     × (bytes ≡ over text (replicate room 0))
     × (count ≤ length bytes)
     × (count ≡ length (take count bytes))
+
+-- a text with bytes added at its end, where there is room for all of them; else as it was
+unfoldable pub pushed : ℕ → List ℕ → List ℕ → List ℕ
+pushed room text more = cond (leb (length text + length more) room) (text ++ more) text
 
 -- a line in an array as long as the longest
 abbrev pub Lined : List ℕ → List ℕ → ℕ → Type 0

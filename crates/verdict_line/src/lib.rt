@@ -1,74 +1,61 @@
 // The line of a claim's answer: holds, fails at k or fails after k with how the failing run ends, or refused n; with its line feed.
 #![tactic(auto)]
 
-ghost use Rattle.std.specs.Prelude.{◌+◌, ◌≤◌, ◌≡◌, ◌++◌, length};
+ghost use Rattle.std.specs.Prelude.{◌≡◌, [], ◌∷◌, take};
 ghost use Rattle.texts.specs.Decimal.{decimal};
-ghost use Rattle.verdict_line.specs.Line.{end_text};
 ghost use Rattle.verdict_line.specs.Written.{longest, LineOfVerdict};
-ghost use Rattle.verdict_line.specs.Putting.{Put, AnswerPut};
+ghost use Rattle.verdict_line.specs.Putting.{pushed_all, end_parts, answer_parts};
+
+mod text;
 
 use signals::{End, Verdict};
+pub use text::Text;
 
 // The bytes of the longest line, "fails after 1073741822 until before 1073741823" with its line feed.
 pub const LONGEST: usize = 47;
 
 // A line: as many bytes as the count says, those past them being zeros.
-#[derive(Clone, Copy)]
-pub struct Line {
-    pub bytes: [u8; LONGEST],
-    pub count: usize,
-}
+pub type Line = Text<LONGEST>;
 
-// Puts a text and a number in decimal at a place of a line, and says which place is next.
-fn put_words(out: &mut [u8], at: usize, text: &[u8], n: u32) -> usize
-    requires out_len { length out.old ≡ longest }
-    requires text_bound { at + length text.now + 10 ≤ longest }
-    ensures { Put out.old at (text.now ++ decimal n) result out.new }
+// Pushes a text and a number in decimal.
+fn push_words(line: &mut Line, text: &[u8], n: u32)
+    ensures { take line.new.«count» line.new.«bytes»
+        ≡ pushed_all longest (take line.old.«count» line.old.«bytes») (text.now ∷ decimal n ∷ []) }
 {
-    let end = at + text.len();
-    slices::put(out, at, text);
-    end + texts::put_number(out, end, n)
+    line.push(text);
+    line.push_number(n);
 }
 
-// Puts how a failing run ends.
-fn put_end(out: &mut [u8], at: usize, end: End) -> usize
-    requires out_len { length out.old ≡ longest }
-    requires at_bound { at + 24 ≤ longest }
-    ensures { Put out.old at (end_text end) result out.new }
+// Pushes how a failing run ends.
+#[tactic(auto, unfolding(crate::specs::Line::until_text, crate::specs::Line::until_before_text, crate::specs::Line::for_good_text))]
+fn push_end(line: &mut Line, end: End)
+    ensures { take line.new.«count» line.new.«bytes» ≡ pushed_all longest (take line.old.«count» line.old.«bytes») (end_parts end) }
 {
     match end {
-        End::At(k) => put_words(out, at, b" until ", k),
-        End::Before(k) => put_words(out, at, b" until before ", k),
-        End::Never => {
-            slices::put(out, at, b" for good");
-            at + 9
-        }
+        End::At(k) => push_words(line, b" until ", k),
+        End::Before(k) => push_words(line, b" until before ", k),
+        End::Never => line.push(b" for good"),
     }
 }
 
-// Puts the first failing moment, a text and its number, and how the failing run ends.
-fn put_fails(out: &mut [u8], text: &[u8], k: u32, end: End) -> usize
-    requires out_len { length out.old ≡ longest }
-    requires text_len_bound { length text.now ≤ 12 }
-    ensures { Put out.old 0 (text.now ++ (decimal k ++ end_text end)) result out.new }
+// Pushes the first failing moment, a text and its number, and how the failing run ends.
+fn push_fails(line: &mut Line, text: &[u8], k: u32, end: End)
+    ensures { take line.new.«count» line.new.«bytes»
+        ≡ pushed_all longest (take line.old.«count» line.old.«bytes») (text.now ∷ decimal k ∷ end_parts end) }
 {
-    let next = put_words(out, 0, text, k);
-    put_end(out, next, end)
+    push_words(line, text, k);
+    push_end(line, end);
 }
 
-// Puts the line of a claim's answer, all but its line feed.
-fn put_answer(out: &mut [u8], verdict: Verdict) -> usize
-    requires { length out.old ≡ longest }
-    ensures { AnswerPut out.old verdict result out.new }
+// Pushes the line of a claim's answer, all but its line feed.
+fn push_answer(line: &mut Line, verdict: Verdict)
+    ensures { take line.new.«count» line.new.«bytes» ≡ pushed_all longest (take line.old.«count» line.old.«bytes») (answer_parts verdict) }
 {
     match verdict {
-        Verdict::Holds => {
-            slices::put(out, 0, b"holds");
-            5
-        }
-        Verdict::FailsAt(k, end) => put_fails(out, b"fails at ", k, end),
-        Verdict::FailsAfter(k, end) => put_fails(out, b"fails after ", k, end),
-        Verdict::Refused(n) => put_words(out, 0, b"refused ", n),
+        Verdict::Holds => line.push(b"holds"),
+        Verdict::FailsAt(k, end) => push_fails(line, b"fails at ", k, end),
+        Verdict::FailsAfter(k, end) => push_fails(line, b"fails after ", k, end),
+        Verdict::Refused(n) => push_words(line, b"refused ", n),
     }
 }
 
@@ -76,11 +63,8 @@ fn put_answer(out: &mut [u8], verdict: Verdict) -> usize
 pub fn line_for(verdict: Verdict) -> Line
     ensures { LineOfVerdict verdict result.«bytes» result.«count» }
 {
-    let mut bytes = [0u8; LONGEST];
-    let last = put_answer(&mut bytes, verdict);
-    slices::put(&mut bytes, last, b"\n");
-    Line {
-        bytes: bytes,
-        count: last + 1,
-    }
+    let mut line = Line::new();
+    push_answer(&mut line, verdict);
+    line.push(b"\n");
+    line
 }

@@ -1,21 +1,21 @@
 -- Working code words out one by one: the sources say where the stack's lists stand, and what is left to run from there is left of all.
-use Prim.Native.Nat.{ℕ, zero, suc, ◌+◌, ◌-◌, ◌/◌, ◌%◌, ◌≤◌, ◌<◌}
+use Prim.Native.Nat.{ℕ, suc, ◌+◌, ◌-◌, ◌/◌, ◌%◌, ◌≤◌, ◌<◌}
 use native.Mathlib.Omega.{arith}
 use native.Mathlib.Numerals.{add-one}
 use native.Mathlib.Decide.{ℕ_discrete}
-use mathlib.Core.Path.{◌≡◌, refl, sym, ◌∙◌, ap, subst}
+use mathlib.Core.Path.{◌≡◌, refl, sym, ◌∙◌, ap}
 use mathlib.Core.Bool.{Bool, true, false, cond}
 use mathlib.Core.List.{List, [], ◌∷◌}
-use mathlib.Core.Logic.{◌⊎◌, inl, inr}
+use mathlib.Core.Logic.{◌⊎◌}
 use lib.Dec.{eqb}
 use lib.ListN.{length, take, drop, get_or, set, length-set, length-drop, drop_of_length-le}
 use lib.Seq.{drop-cons, get_or-set_same, get_or-set_other, take-take}
-use borrow.Author.Tests.{le-ltb, lt-ltb, lt-leb, eq-eqb}
+use borrow.Author.Tests.{le-ltb, lt-ltb, lt-leb}
 use Rattle.signals.specs.Words.{most_words}
 use Rattle.signals.specs.Answers.{fault_in, count_in}
 use Rattle.calls.specs.Calls.{work_words}
 use Rattle.grammar.specs.Kinds as kinds
-use Rattle.sources.specs.Sources.{list_at, apart_from, slot_in, with_slot}
+use Rattle.sources.specs.Sources.{list_at}
 use Rattle.sources.specs.declared.Memory.{Memory}
 use Rattle.sources.specs.declared.Memory.TheVariants.{Sheet, Work, Left, Right}
 use Rattle.sources.specs.declared.Source.{Source}
@@ -25,24 +25,27 @@ use Rattle.applying.specs.Applied.{Applied}
 use Rattle.machine.specs.Stack.{leaf_list, first_taken, on_top, Runs, Worked, lacking, high, leaf, made, refused, area_fault, RanOut}
 use Rattle.machine.proofs.PartCodes.{arity_small}
 use Rattle.working.specs.Layout.{kept_at}
-use Rattle.working.specs.declared.Next.{Next}
-use Rattle.working.specs.declared.Ran.{Ran}
-use Rattle.working.specs.Standing.{list_of, nowhere, slot_source, from_above, Ready}
+use Rattle.working.specs.declared.Tops.{Tops}
+use Rattle.std.proofs.Common.{Result, Ok, Err}
+use Rattle.signals.specs.declared.Written.TheVariants as written
+use Rattle.applying.proofs.Refusals.{refused_by}
+use Rattle.working.proofs.Stepping.{made_ok, made_err}
+use Rattle.working.specs.Standing.{slot_source, list_of, nowhere, from_above, Ready}
 use Rattle.working.proofs.OnStack.{Stands, Stacked, Slotted}
 use Rattle.working.specs.Standing.{LeafMade, ListMade, StepMade, WorkedOut}
 use Rattle.working.proofs.Standing.{stands_at, stacked_drop, stands_apart, stacked_kept, stacked_same}
 use Rattle.working.proofs.Slots.{exchanged, exchanged_slotted, exchanged_below, exchanged_top, first_slots, first_slotted}
 
 -- a work area that is too short
-pub no_room : (sheet codes before : List ℕ) (ran : Ran) → length before < work_words → ran.fault ≡ 18
-    → WorkedOut sheet codes before ran before
+pub no_room : (sheet codes before : List ℕ) → length before < work_words → WorkedOut sheet codes before (Err 18) before
 unfolding area_fault
-no_room sheet codes before ran h e =
+no_room sheet codes before h =
     record {
       end = [];
-      out = record { short = λ x. (e ∙ sym fault, refl); runs = λ z. absurd (let q = sym fault ∙ z in omega arith) };
-      top_is = λ z. absurd (let q = sym e ∙ z in omega arith);
-      below_is = λ z. absurd (let q = sym e ∙ z in omega arith);
+      out = record { short = λ x. (sym fault, refl); runs = λ z. absurd (let q = sym fault ∙ z in omega arith) };
+      faulty = λ z. absurd (omega arith);
+      top_is = tt;
+      below_is = tt;
       kept_is = refl;
     }
   where
@@ -102,32 +105,27 @@ module _ (sheet codes before : List ℕ) where
     unfolding area_fault
     no_18 = rw (le-ltb (length before) work_words room)
 
-    ended : (ran : Ran) (after : List ℕ) (end : List (List ℕ)) → Runs sheet codes [] ran.fault end
-        → RanOut sheet codes before after ran.fault end
-    ended ran after end r = record { short = λ x. absurd (x no_18); runs = λ z. r }
+    ended : (fault : ℕ) (after : List ℕ) (end : List (List ℕ)) → Runs sheet codes [] fault end
+        → RanOut sheet codes before after fault end
+    ended fault after end r = record { short = λ x. absurd (x no_18); runs = λ z. r }
 
     -- a fault ends it
-    stops : (ran : Ran) (after : List ℕ) → drop (kept_at 0) after ≡ drop (kept_at 0) before → (end : List (List ℕ))
-        → (ran.fault ≡ 0 → ⊥) → Runs sheet codes [] ran.fault end → WorkedOut sheet codes before ran after
-    stops ran after kept end x r =
-        record {
-          end = end;
-          out = ended ran after end r;
-          top_is = λ z. absurd (x z);
-          below_is = λ z. absurd (x z);
-          kept_is = kept;
-        }
+    stops : (fault : ℕ) (after : List ℕ) → drop (kept_at 0) after ≡ drop (kept_at 0) before → (end : List (List ℕ))
+        → (fault ≡ 0 → ⊥) → Runs sheet codes [] fault end → WorkedOut sheet codes before (Err fault) after
+    stops fault after kept end x r =
+        record { end = end; out = ended fault after end r; faulty = x; top_is = tt; below_is = tt; kept_is = kept }
 
     module _ (work : List ℕ) (stack : List Source) (slots : List ℕ) (height i : ℕ) (g : Going work stack slots height i) where
-      pub finished : length codes ≤ i → (ran : Ran) → ran.fault ≡ 0 → ran.top ≡ from_above stack height 0
-          → ran.below ≡ from_above stack height 1 → WorkedOut sheet codes before ran work
+      pub finished : length codes ≤ i → (tops : Tops) → tops.top ≡ from_above stack height 0
+          → tops.below ≡ from_above stack height 1 → WorkedOut sheet codes before (Ok tops) work
       unfolding from_above
-      finished h ran z t b =
+      finished h tops t b =
           record {
             end = g.st;
-            out = ended ran work g.st (g.on ran.fault g.st (rw (drop_of_length-le codes {i = i} h) (z, refl)));
-            top_is = λ q k. rw t (above 0 (omega (arith, g.tall)));
-            below_is = λ q k. rw b (above 1 (omega (arith, g.tall)));
+            out = ended 0 work g.st (g.on 0 g.st (rw (drop_of_length-le codes {i = i} h) (refl, refl)));
+            faulty = tt;
+            top_is = λ k. rw t (above 0 (omega (arith, g.tall)));
+            below_is = λ k. rw b (above 1 (omega (arith, g.tall)));
             kept_is = g.kept;
           }
         where
@@ -147,16 +145,13 @@ module _ (sheet codes before : List ℕ) where
             → Runs sheet codes [] fault end
         now_runs fault end r = g.on fault end (rw next r)
 
-        pub lacks : height < operands_of w → (ran : Ran) → ran.fault ≡ 12 → WorkedOut sheet codes before ran work
-        lacks h ran f =
-            stops ran work g.kept [] (λ z. absurd (let q = sym f ∙ z in omega arith))
-            (now_runs ran.fault [] (lacking (omega (arith, g.tall)) f))
+        pub lacks : height < operands_of w → WorkedOut sheet codes before (Err 12) work
+        lacks h = stops 12 work g.kept [] (λ z. absurd (omega arith)) (now_runs 12 [] (lacking (omega (arith, g.tall)) refl))
 
-        pub too_high : operands_of w ≤ height → 17 < height - operands_of w → (ran : Ran) → ran.fault ≡ 12
-            → WorkedOut sheet codes before ran work
-        too_high h k ran f =
-            stops ran work g.kept [] (λ z. absurd (let q = sym f ∙ z in omega arith))
-            (now_runs ran.fault [] (high (omega (arith, g.few)) (omega (arith, g.tall)) f))
+        pub too_high : operands_of w ≤ height → 17 < height - operands_of w → WorkedOut sheet codes before (Err 12) work
+        too_high h k =
+            stops 12 work g.kept [] (λ z. absurd (omega arith))
+            (now_runs 12 [] (high (omega (arith, g.few)) (omega (arith, g.tall)) refl))
 
         -- the places of a part's operands
         module _ (taken : ℕ) (t : taken ≡ operands_of w) (h : taken ≤ height) (k : height - taken ≤ 17) where
@@ -230,20 +225,23 @@ module _ (sheet codes before : List ℕ) where
               )
 
           -- a leaf
-          pub leaf_turn : taken ≡ 0 → (next : Next) (work' : List ℕ) → LeafMade w work next work'
-              → Going work' (set stack (height - taken) next.list) (exchanged slots height (height - taken)) (height - taken + 1) (i + 1)
-          leaf_turn z next work' m =
-              placed next.list work' (leaf_list sheet w) here (ap length m.kept) (ap (drop (kept_at 0)) m.kept)
+          pub leaf_turn : taken ≡ 0 → (list : Source) (work' : List ℕ) → LeafMade w work (Ok list) work'
+              → Going work' (set stack (height - taken) list) (exchanged slots height (height - taken)) (height - taken + 1) (i + 1)
+          leaf_turn z list work' m =
+              placed list work' (leaf_list sheet w) here (ap length m.kept) (ap (drop (kept_at 0)) m.kept)
               (rw m.kept (stacked_same sheet work stack _ slots _ (drop taken g.st) (stacked_drop sheet work stack slots taken
               g.st g.stacked)
-              (under next.list)))
+              (under list)))
               (λ fault end r. leaf (sym t ∙ z) (omega (arith, g.tall)) (rw z at r))
             where
-              here : Stands sheet work' next.list (get_or slots height 0) (leaf_list sheet w)
-              here = rw m.list_is (leaf_stands sheet work' w (get_or slots height 0))
+              list_is : list ≡ leaf_source w
+              list_is = let e = m.made in cc
+
+              here : Stands sheet work' list (get_or slots height 0) (leaf_list sheet w)
+              here = rw list_is (leaf_stands sheet work' w (get_or slots height 0))
 
           -- an operation
-          module _ (l : 1 ≤ taken) (next : Next) (work' : List ℕ)
+          module _ (l : 1 ≤ taken) (next : Result Source ℕ) (work' : List ℕ)
               (m : ListMade w sheet work (get_or stack (height - taken) nowhere) (get_or stack (height - taken + taken / 2) nowhere)
               (get_or slots height 0) next work') where
             applied : Applied w (first_taken (operands_of w) g.st) (on_top g.st) m.answer (take (count_in m.answer) m.slot)
@@ -264,27 +262,36 @@ module _ (sheet codes before : List ℕ) where
                 ∙ part_after work (get_or slots height 0) most_words fits m.slot m.wide (kept_at 0)
                 (let z = g.slotted.within height (omega (arith, g.few)) in omega arith)
 
-            pub refusal : (next.fault ≡ 0 → ⊥) → (ran : Ran) → ran.fault ≡ next.fault → WorkedOut sheet codes before ran work'
-            refusal x ran f =
-                stops ran work' (above ∙ g.kept) [] (λ z. x (sym f ∙ z))
-                (now_runs ran.fault []
-                (refused m.answer _ (rw (sym t) l) (omega (arith, g.tall)) applied (sym (f ∙ m.fault_is)) (λ z. x (sym f ∙ z))))
+            pub refusal : (fault : ℕ) → next ≡ Err fault → WorkedOut sheet codes before (Err fault) work'
+            refusal fault e =
+                stops fault work' (above ∙ g.kept) [] some
+                (now_runs fault []
+                (refused m.answer _ (rw (sym t) l) (omega (arith, g.tall)) applied (ap fault_in told) some))
+              where
+                told : m.answer ≡ written.Refused fault
+                told = made_err (get_or slots height 0) m.answer fault (sym e ∙ m.made)
 
-            pub list_turn : next.fault ≡ 0
-                → Going work' (set stack (height - taken) next.list) (exchanged slots height (height - taken)) (height - taken + 1)
+                some : fault ≡ 0 → ⊥
+                some = refused_by _ _ w _ _ _ _ m.answer m.applied.applied fault told
+
+            pub list_turn : (list : Source) → next ≡ Ok list
+                → Going work' (set stack (height - taken) list) (exchanged slots height (height - taken)) (height - taken + 1)
                 (i + 1)
-            list_turn z =
-                placed next.list work' (take (count_in m.answer) m.slot) here
+            list_turn list e =
+                placed list work' (take (count_in m.answer) m.slot) here
                 (ap length m.after_is ∙ with_slot_long work (get_or slots height 0) most_words fits m.slot m.wide) above
                 (rw m.after_is
                 (stacked_kept sheet work stack _ slots _ (get_or slots height 0) fits m.slot m.wide (drop taken g.st)
                 (stacked_drop sheet work stack slots taken g.st g.stacked)
-                (λ n k. ((under next.list n k).0, (under next.list n k).1, far n (omega (arith, length-drop taken g.st, g.tall))))))
-                (λ fault end r. made m.answer _ (rw (sym t) l) (omega (arith, g.tall)) applied (sym m.fault_is ∙ z) (rw t at r))
+                (λ n k. ((under list n k).0, (under list n k).1, far n (omega (arith, length-drop taken g.st, g.tall))))))
+                (λ fault end r. made m.answer _ (rw (sym t) l) (omega (arith, g.tall)) applied told.1 (rw t at r))
               where
-                here : Stands sheet work' next.list (get_or slots height 0) (take (count_in m.answer) m.slot)
+                told : (list ≡ slot_source (get_or slots height 0) m.answer) × (fault_in m.answer ≡ 0)
+                told = made_ok (get_or slots height 0) m.answer list (sym e ∙ m.made)
+
+                here : Stands sheet work' list (get_or slots height 0) (take (count_in m.answer) m.slot)
                 here =
-                    rw (m.list_is, m.after_is)
+                    rw (told.0, m.after_is)
                     (record {
                       names =
                           sym (take-take (count_in m.answer) most_words _ m.short)
@@ -293,24 +300,23 @@ module _ (sheet codes before : List ℕ) where
                     })
 
           -- either
-          pub turned : (next : Next) (work' : List ℕ)
+          pub turned : (list : Source) (work' : List ℕ)
               → StepMade w taken sheet work (get_or stack (height - taken) nowhere) (get_or stack (height - taken + taken / 2) nowhere)
-              (get_or slots height 0) next work' → next.fault ≡ 0
-              → Going work' (set stack (height - taken) next.list) (exchanged slots height (height - taken)) (height - taken + 1) (i + 1)
-          turned next work' m z = go (ℕ_discrete taken 0)
+              (get_or slots height 0) (Ok list) work'
+              → Going work' (set stack (height - taken) list) (exchanged slots height (height - taken)) (height - taken + 1) (i + 1)
+          turned list work' m = go (ℕ_discrete taken 0)
             where
               go : Dec (taken ≡ 0)
-                  → Going work' (set stack (height - taken) next.list) (exchanged slots height (height - taken)) (height - taken + 1)
+                  → Going work' (set stack (height - taken) list) (exchanged slots height (height - taken)) (height - taken + 1)
                   (i + 1)
-              go (yes e) = leaf_turn e next work' (m.0 e)
-              go (no x) = let l : 1 ≤ taken = omega arith in list_turn l next work' (m.1 l) z
+              go (yes e) = leaf_turn e list work' (m.0 e)
+              go (no x) = let l : 1 ≤ taken = omega arith in list_turn l (Ok list) work' (m.1 l) list refl
 
-          pub halted : (next : Next) (work' : List ℕ)
+          pub halted : (fault : ℕ) (work' : List ℕ)
               → StepMade w taken sheet work (get_or stack (height - taken) nowhere) (get_or stack (height - taken + taken / 2) nowhere)
-              (get_or slots height 0) next work' → (next.fault ≡ 0 → ⊥) → (ran : Ran) → ran.fault ≡ next.fault
-              → WorkedOut sheet codes before ran work'
-          halted next work' m x ran f = go (ℕ_discrete taken 0)
+              (get_or slots height 0) (Err fault) work' → WorkedOut sheet codes before (Err fault) work'
+          halted fault work' m = go (ℕ_discrete taken 0)
             where
-              go : Dec (taken ≡ 0) → WorkedOut sheet codes before ran work'
-              go (yes e) = absurd (x (m.0 e).fine)
-              go (no y) = let l : 1 ≤ taken = omega arith in refusal l next work' (m.1 l) x ran f
+              go : Dec (taken ≡ 0) → WorkedOut sheet codes before (Err fault) work'
+              go (yes e) = absurd (let q = (m.0 e).made in cc)
+              go (no y) = let l : 1 ≤ taken = omega arith in refusal l (Err fault) work' (m.1 l) fault refl

@@ -11,7 +11,6 @@ use mathlib.Core.Logic.{◌⊎◌, inl, inr}
 use lib.ListN.{length, get_or, set, length-set}
 use lib.Seq.{get_or-set_same, get_or-set_other}
 use Rattle.signals.specs.Words.{most_words}
-use Rattle.calls.specs.Calls.{work_words}
 use Rattle.working.specs.Layout.{slot_at}
 use Rattle.working.proofs.OnStack.{Slotted}
 

@@ -2,23 +2,23 @@
 use Prim.Native.Nat.{ℕ, zero, suc, ◌+◌, ◌-◌, ◌≤◌, ◌<◌}
 use native.Mathlib.Omega.{arith}
 use native.Mathlib.Decide.{ℕ_discrete}
-use mathlib.Core.Path.{◌≡◌, refl, sym, ◌∙◌, ap, subst}
+use mathlib.Core.Path.{◌≡◌, refl, sym, ◌∙◌, ap}
 use mathlib.Core.Bool.{Bool, true, false, ◌||◌}
 use mathlib.Core.List.{List, [], ◌∷◌}
 use mathlib.Core.Logic.{◌⊎◌, inl, inr}
 use lib.Dec.{leb}
-use lib.ListN.{length, take, drop, get_or}
+use lib.ListN.{length, drop, get_or}
 use borrow.Author.Tests.{le-leb}
 use Rattle.signals.specs.Words.{most_words}
 use Rattle.signals.proofs.Truth.{true_false}
-use Rattle.sources.specs.Sources.{list_at, apart_from, apart_in, with_slot}
+use Rattle.sources.specs.Sources.{apart_from, apart_in, with_slot}
 use Rattle.sources.specs.declared.Memory.{Memory}
 use Rattle.sources.specs.declared.Memory.TheVariants.{Sheet, Work, Left, Right}
 use Rattle.sources.specs.declared.Source.{Source}
 use Rattle.sources.proofs.Sourcing.{apart_kept}
 use Rattle.code_words.specs.CodeWords.{constants}
 use Rattle.working.specs.Standing.{list_of, nowhere}
-use Rattle.working.proofs.OnStack.{Stands, Stacked, Slotted}
+use Rattle.working.proofs.OnStack.{Stands, Stacked}
 
 -- the list at a place of the stack
 pub stands_at : (sheet work : List ℕ) (stack : List Source) (slots : List ℕ) (st : List (List ℕ)) → Stacked sheet work stack slots st

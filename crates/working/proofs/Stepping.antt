@@ -15,8 +15,9 @@ use Rattle.sources.specs.declared.Source.{Source}
 use Rattle.sources.proofs.Sourcing.{slot_long}
 use Rattle.merging.specs.Merging.{may_merge}
 use Rattle.applying.specs.Applied.{PartAt, PartMade}
-use Rattle.working.specs.declared.Next.{Next}
-use Rattle.working.specs.Standing.{slot_source, Ready, ListMade}
+use Rattle.signals.specs.declared.Written.TheVariants as written
+use Rattle.std.proofs.Common.{Result, Ok, Err}
+use Rattle.working.specs.Standing.{slot_source, slot_made, Ready, ListMade}
 
 may : (a b : Source) (at room : ℕ) → Ready a b at room → may_merge a b at room ≡ true
 unfolding may_merge
@@ -40,9 +41,9 @@ module _ (w : ℕ) (sheet work : List ℕ) (a b : Source) (at : ℕ) (answer : W
   pub short : count_in answer ≤ most_words
   short = part.short
 
-  pub list_made : length after ≡ length work → (next : Next) → next.fault ≡ fault_in answer → next.list ≡ slot_source at answer
+  pub list_made : length after ≡ length work → (next : Result Source ℕ) → next ≡ slot_made at answer
       → ListMade w sheet work a b at next after
-  list_made same next f l =
+  list_made same next e =
       record {
         answer = answer;
         slot = part.slot;
@@ -55,7 +56,16 @@ module _ (w : ℕ) (sheet work : List ℕ) (a b : Source) (at : ℕ) (answer : W
           applied = part.applied;
           list_is = refl;
         };
-        fault_is = f;
         short = part.short;
-        list_is = l;
+        made = e;
       }
+
+-- where a list is made it stands in the slot; where none is, the fault is the answer's
+pub made_ok : (at : ℕ) (answer : Written) (list : Source) → Ok list ≡ slot_made at answer
+    → (list ≡ slot_source at answer) × (fault_in answer ≡ 0)
+made_ok at (written.Count n) list e = (cc, refl)
+made_ok at (written.Refused fault) list e = absurd (cc)
+
+pub made_err : (at : ℕ) (answer : Written) (fault : ℕ) → Err fault ≡ slot_made at answer → answer ≡ written.Refused fault
+made_err at (written.Count n) fault e = absurd (cc)
+made_err at (written.Refused f) fault e = cc

@@ -5,8 +5,8 @@
 ghost use Rattle.std.specs.Prelude.{◌≡◌, ◌++◌, ◌<◌, ◌≤◌, ◌+◌, length, get_or};
 ghost use Rattle.code_words.specs.CodeWords.{operands_of};
 ghost use Rattle.signals.specs.Words.{most_words};
-ghost use Rattle.signals.specs.Answers.{fault_in, count_in};
-ghost use Rattle.working.specs.Standing.{slot_source, from_above, Ready, StepMade, WorkedOut};
+ghost use Rattle.signals.specs.Answers.{count_in};
+ghost use Rattle.working.specs.Standing.{slot_made, from_above, Ready, StepMade, WorkedOut};
 
 use signals::Written;
 use sources::{Memory, Source};
@@ -30,30 +30,11 @@ const NOWHERE: Source = Source {
     count: 0,
 };
 
-// What working code words out gives: the fault of the first that meets one, or 0; and where the topmost list and the one below it stand.
+// Where the topmost list of a stack and the one below it stand.
 #[derive(Clone, Copy)]
-pub struct Ran {
-    pub fault: u32,
+pub struct Tops {
     pub top: Source,
     pub below: Source,
-}
-
-// What one part makes: its fault, or 0, and where its list stands.
-#[derive(Clone, Copy)]
-struct Next {
-    fault: u32,
-    list: Source,
-}
-
-// A refusal.
-fn refused(fault: u32) -> Ran
-    ensures { result.fault ≡ fault }
-{
-    Ran {
-        fault,
-        top: NOWHERE,
-        below: NOWHERE,
-    }
 }
 
 // The code word at a place of two rows.
@@ -62,35 +43,21 @@ fn code_at(first: &[u64], second: &[u64], i: usize) -> u64
     ensures { result ≡ get_or (first.now ++ second.now) i 0 }
 {
     let n = first.len();
-    if i < n {
-        return first[i];
-    }
-    let rest = i - n;
-    second[rest]
+    if i < n { first[i] } else { second[i - n] }
 }
 
-// What an operation's answer in a slot makes.
-fn in_slot(answer: Written, at: u32) -> Next
+// Where an operation's answer in a slot stands, or its fault.
+fn in_slot(answer: Written, at: u32) -> Result<Source, u32>
     requires { count_in answer ≤ most_words }
-    ensures { (result.fault ≡ fault_in answer) × (result.list ≡ slot_source at answer) }
+    ensures { result ≡ slot_made at answer }
 {
     match answer {
-        Written::Count(n) => Next {
-            fault: 0,
-            list: Source {
-                memory: Memory::Work,
-                at,
-                count: n as u32,
-            },
-        },
-        Written::Refused(fault) => Next {
-            fault,
-            list: Source {
-                memory: Memory::Work,
-                at,
-                count: 0,
-            },
-        },
+        Written::Count(n) => Ok(Source {
+            memory: Memory::Work,
+            at,
+            count: n as u32,
+        }),
+        Written::Refused(fault) => Err(fault),
     }
 }
 
@@ -103,75 +70,61 @@ fn step(
     a: Source,
     b: Source,
     at: u32,
-) -> Next
+) -> Result<Source, u32>
     requires { (taken ≡ operands_of code) × (1 ≤ taken → Ready a b at (length work.old)) }
     ensures { StepMade code taken sheet.now work.old a b at result work.new }
 {
     if taken == 0 {
-        return Next {
-            fault: 0,
-            list: code_words::leaf(code),
-        };
+        return Ok(code_words::leaf(code));
     }
     in_slot(applying::apply(code, sheet, work, a, b, at), at)
 }
 
 // The list at a place of the stack from above, none where it has none.
+#[tactic(auto, unfolding(crate::specs::Standing::from_above))]
 fn from_above(stack: [Source; 20], height: usize, depth: usize) -> Source
     ensures { result ≡ from_above stack height depth }
 {
-    if height <= depth {
-        return NOWHERE;
-    }
-    let place = height - depth - 1;
-    if place < 20 {
-        return stack[place];
+    if depth < height && height - depth - 1 < 20 {
+        return stack[height - depth - 1];
     }
     NOWHERE
 }
 
-// The code words of two rows worked out on one stack, whose lists then stand where the answer says. 18 without room for it.
-pub fn work_out(sheet: &[u8], first: &[u64], second: &[u64], work: &mut [u32]) -> Ran
+// The code words of two rows worked out on one stack, whose lists then stand where the answer says, or the fault of the first that meets
+// one. 18 without room for it.
+pub fn work_out(sheet: &[u8], first: &[u64], second: &[u64], work: &mut [u32]) -> Result<Tops, u32>
     ensures { WorkedOut sheet.now (first.now ++ second.now) work.old result work.new }
 {
     if work.len() < WORK_WORDS {
-        return refused(18);
+        return Err(18);
     }
     let mut stack = [NOWHERE; 20];
     let mut slots = SLOTS;
     let mut height: usize = 0;
-    let n = first.len() + second.len();
-    let mut i: usize = 0;
-    while i < n {
+    for i in 0..first.len() + second.len() {
         let code = code_at(first, second, i);
         let taken = code_words::operands(code);
         if height < taken {
-            return refused(12);
+            return Err(12);
         }
         let place = height - taken;
         if HIGHEST < place {
-            return refused(12);
+            return Err(12);
         }
         let at = slots[height];
         let last = place + taken / 2;
         let a = stack[place];
         let b = stack[last];
-        let next = step(sheet, work, code, taken, a, b, at);
-        let fault = next.fault;
-        if fault != 0 {
-            return refused(fault);
-        }
-        let list = next.list;
+        let list = step(sheet, work, code, taken, a, b, at)?;
         stack[place] = list;
         let before = slots[place];
         slots[height] = before;
         slots[place] = at;
         height = place + 1;
-        i += 1;
     }
-    Ran {
-        fault: 0,
+    Ok(Tops {
         top: from_above(stack, height, 0),
         below: from_above(stack, height, 1),
-    }
+    })
 }

@@ -1,22 +1,23 @@
 -- `appending::put_name` meets its contract.
-use native.Mathlib.Omega.{arith}
-use Prim.Native.Nat.{◌-◌}
-use mathlib.Core.Path.{sym, ◌∙◌}
-use lib.ListN.{length}
-use Rattle.slices.proofs.Placing.{put_fits}
-use Rattle.format.proofs.Filling.{length_pad, name_put}
+use Rattle.std.proofs.Common.{◌≡◌, ℕ, ◌+◌, ◌-◌, List, length, take, drop, replicate, length-take, length-drop, refl, ap, ◌∙◌, arith}
+use Rattle.std.proofs.lemmas.List.{length-replicate}
+use Rattle.slices.proofs.Placing.{put_fits, then_put}
+use Rattle.format.specs.Names.{padded}
+use Rattle.appending.proofs.Parts.{part_put}
 use Rattle.appending.proofs.put_name.Goals as goal
 
-pub slice_bounds-put-length : goal.slice_bounds-put-length
-slice_bounds-put-length c =
-    sym (length_pad (8 - length c.args.name.now) (omega arith))
-
 pub returns : goal.returns
+unfolding padded
 returns c =
-    let args = c.args in
-    let pre = c.requires in
-    let put = c.put in
-    let put2 = c.put-2 in
-    let pad = length_pad (8 - length args.name.now) (omega arith) in
-    name_put args.out.now put.new.out put2.new.out args.at args.name.now pre.1 pre.0
-    (put.ensures ∙ put_fits _ _ _ (omega arith)) (put2.ensures ∙ put_fits _ _ _ (omega (arith, put.auto.out)))
+    let out = c.args.out.now in
+    let at = c.args.at in
+    let name = c.args.name.now in
+    let end = at + length name in
+    let zeros : List ℕ = replicate (8 - length name) 0 in
+    let one = c.put.new.out in
+    let room : length (take (at + 8 - end) (drop end one)) ≡ 8 - length name =
+    omega (arith, length-take {A = ℕ}, length-drop {A = ℕ}, c.put.auto.out) in
+    let filled : c.fill.new.self ≡ zeros = c.fill.ensures.after (λ y e. e) ∙ ap (λ k. replicate k 0) room in
+    then_put out one _ at end name zeros (c.put.ensures ∙ put_fits out at name (omega arith))
+    (part_put one end (at + 8 - end) c.fill.new.self zeros filled (omega (arith, length-replicate {A = ℕ}))) refl
+    (omega (arith, length-replicate {A = ℕ}))

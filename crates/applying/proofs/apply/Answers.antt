@@ -2,6 +2,8 @@
 use mathlib.Core.Path.{sym, ◌∙◌}
 use Rattle.applying.proofs.PartsMade.{may_be, part_made, part_refused, not_first, not_second, no_fit}
 use Rattle.applying.proofs.apply.Goals as goal
+use Rattle.applying.proofs.apply.Goals.{else-apart-via-then-apart+then-apart-2+else-at-work}
+use Rattle.applying.proofs.apply.Goals.{else-apart-via-then-apart+else-apart-2, else-apart-via-else-apart}
 
 pub operate-requires : goal.operate-requires
 operate-requires c =
@@ -17,16 +19,13 @@ returns-then-at-work c =
     c.if-at-work.true)
     c.operate.ensures
 
-pub returns-else-at-work : goal.returns-else-at-work
-returns-else-at-work c =
+pub returns : goal.returns
+returns c =
     part_refused _ _ _ _ _ _
-    (no_fit _ _ _ _ (sym c.if-apart.true ∙ c.apart.ensures) (sym c.if-apart-2.true ∙ c.apart-then-apart.ensures)
-    c.if-at-work.false)
-
-pub returns-else-apart-2 : goal.returns-else-apart-2
-returns-else-apart-2 c =
-    part_refused _ _ _ _ _ _
-    (not_second _ _ _ _ (sym c.if-apart.true ∙ c.apart.ensures) (sym c.if-apart-2.false ∙ c.apart-then-apart.ensures))
-
-pub returns-else-apart : goal.returns-else-apart
-returns-else-apart c = part_refused _ _ _ _ _ _ (not_first _ _ _ _ (sym c.if-apart.false ∙ c.apart.ensures))
+    (elim c.else-apart.branch [
+      | else-apart-via-then-apart+then-apart-2+else-at-work w ↦
+          no_fit _ _ _ _ (sym w.if-apart.true ∙ c.apart.ensures) (sym w.if-apart-2.true ∙ w.apart-then-apart.ensures) w.if-at-work.false
+      | else-apart-via-then-apart+else-apart-2 w ↦
+          not_second _ _ _ _ (sym w.if-apart.true ∙ c.apart.ensures) (sym w.if-apart-2.false ∙ w.apart-then-apart.ensures)
+      | else-apart-via-else-apart w ↦ not_first _ _ _ _ (sym w.if-apart.false ∙ c.apart.ensures)
+    ])

@@ -12,17 +12,11 @@ pub bounds-out-i : goal.bounds-out-i
 bounds-out-i c =
     omega (arith, c.loop-i-test.true, c.loop-i.invariant.long, c.requires.moments_in_bounds)
 
-pub loop-i-smaller : goal.loop-i-smaller
-loop-i-smaller c = omega (arith, c.loop-i-test.true)
-
 pub loop-i-preserved : goal.loop-i-preserved
 loop-i-preserved c =
     let pre = c.requires in
     filling_next _ _ _ pre.list_value pre.moments_value pre.moments_in_bounds _ _ _ _ c.loop-i.invariant c.loop-i-test.true _ _ _
     c.along-behind.ensures c.past-step.ensures c.word_of.ensures
-
-pub shape_of-out : goal.shape_of-out
-shape_of-out c = c.loop-i.invariant.long
 
 pub returns : goal.returns
 returns c =

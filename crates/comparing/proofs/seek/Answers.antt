@@ -1,9 +1,7 @@
 -- `comparing::seek` meets its contract: what is met from where the loop stands is met from where it began, and each turn passes a word.
 use native.Mathlib.Omega.{arith}
-use Rattle.slices.specs.Bytes.{Words}
-use Rattle.sources.specs.Sources.{list_at}
-use Rattle.sources.specs.declared.Source.{Source}
-use Rattle.sources.proofs.Sourcing.{list_short, words_at}
+use Rattle.sources.proofs.Sourcing.{list_short}
+use Rattle.sources.proofs.Lending.{words_lent}
 use Rattle.signals.specs.Words.{value_after}
 use Rattle.comparing.proofs.Scanning.{scan_start, gap_met, none_met, instant_met, scan_on, falls}
 use Rattle.comparing.proofs.seek.Goals as goal
@@ -11,15 +9,9 @@ use Rattle.comparing.proofs.seek.Goals as goal
 pub loop-f-init : goal.loop-f-init
 loop-f-init c =
     let x = c.args in
-    let words : (s : Source) → Words (list_at x.sheet.now x.left.now x.right.now x.work.now s) = λ s.
-    words_at x.sheet.now x.left.now x.right.now x.work.now s
-    (λ i. (c.type_inv.sheet i).fits)
-    (λ i. (c.type_inv.left i).fits) (λ i. (c.type_inv.right i).fits)
-    (λ i. (c.type_inv.work i).fits) in
-    scan_start x.both x.failing _ _ _
-    (omega (arith, c.well_formed.1.1.1.1.1.1.0, list_short x.sheet.now x.left.now x.right.now x.work.now x.f))
-    (omega (arith, c.well_formed.1.1.1.1.1.1.1.0, list_short x.sheet.now x.left.now x.right.now x.work.now x.g))
-    (words x.f) (words x.g) c.requires
+    let words = words_lent x.lent x.work.now (λ i. (c.type_inv.work i).fits) in
+    let short = list_short x.lent.sheet.now x.lent.left.now x.lent.right.now x.work.now in
+    scan_start x.both x.failing _ _ _ (omega (arith, short x.f)) (omega (arith, short x.g)) (words x.f) (words x.g) c.requires
 
 pub returns-then-sought : goal.returns-then-sought
 unfolding value_after

@@ -2,7 +2,7 @@
 use native.Mathlib.Omega.{arith}
 use mathlib.Core.Path.{refl, ap}
 use Rattle.signals.specs.Words.{most_words}
-use Rattle.sources.proofs.Sourcing.{words_at}
+use Rattle.sources.proofs.Lending.{words_lent}
 use Rattle.lent_slots.proofs.LentRuns.{Placed, few_words, running_first, running_length, lent_length, word_turn}
 use Rattle.lent_slots.proofs.LentRuns.{running_end, is_left, small, none_left}
 use Rattle.delay_parts.specs.DelayAt.{ended}
@@ -11,26 +11,15 @@ use Rattle.delay_parts.proofs.pass_words.Goals as goal
 use Rattle.delay_parts.proofs.pass_words.Goals.{After-slice_known-1}
 
 placed : (c : After-slice_known-1)
-    → Placed c.args.sheet.now c.args.left.now c.args.right.now c.args.work.now
+    → Placed c.args.lent.sheet.now c.args.lent.left.now c.args.lent.right.now c.args.work.now
     c.args.f c.args.at most_words
 placed c =
     record {
       fits = c.requires.0;
       apart = c.requires.1;
-      words =
-          words_at c.args.sheet.now c.args.left.now c.args.right.now c.args.work.now
-          c.args.f (λ i. (c.type_inv.sheet i).fits)
-          (λ i. (c.type_inv.left i).fits) (λ i. (c.type_inv.right i).fits)
-          (λ i. (c.slice_known-1.given i).fits);
-      few = omega (arith, c.well_formed.1.1.1.1.1.1.0);
+      words = words_lent c.args.lent c.args.work.now (λ i. (c.slice_known-1.given i).fits) c.args.f;
+      few = omega arith;
     }
-
-pub overflow_add-end : goal.overflow_add-end
-overflow_add-end c = omega (
-  arith,
-  c.requires.0,
-  c.well_formed.1.1.1.1.1.0,
-)
 
 pub loop-word-init : goal.loop-word-init
 loop-word-init c =

@@ -1,6 +1,5 @@
 -- `delays::tof` is the engine's delay of its level.
 use Rattle.timing.proofs.DelaySignals.{tof_delay}
-use borrow.Author.Rules.{rules}
 use Rattle.delays.proofs.tof.Goals as goal
 
 pub returns : goal.returns

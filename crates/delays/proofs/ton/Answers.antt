@@ -1,6 +1,5 @@
 -- `delays::ton` is the engine's delay of its level.
 use Rattle.timing.proofs.DelaySignals.{ton_delay}
-use borrow.Author.Rules.{rules}
 use Rattle.delays.proofs.ton.Goals as goal
 
 pub returns : goal.returns

@@ -7,7 +7,6 @@ use Rattle.operations.proofs.JudgedCalls.{refused, passes_on}
 use Rattle.building.proofs.Delivering.{delivered}
 use Rattle.edges.proofs.Turned.{first_is}
 use Rattle.edges.proofs.Edged.{edges_exact, edges_there}
-use borrow.Author.Rules.{rules}
 use Rattle.edges.proofs.edges.Goals as goal
 
 pub returns-then-fault-ne0 : goal.returns-then-fault-ne0

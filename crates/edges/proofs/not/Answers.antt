@@ -3,7 +3,6 @@ use mathlib.Core.Path.{sym, ◌∙◌}
 use Rattle.operations.specs.Calls.{fault_of_one}
 use Rattle.operations.proofs.JudgedCalls.{refused}
 use Rattle.edges.proofs.Turned.{first_is, turned_short_lem, turned_written}
-use borrow.Author.Rules.{rules}
 use Rattle.edges.proofs.not.Goals as goal
 
 pub returns-then-fault-ne0 : goal.returns-then-fault-ne0

@@ -6,15 +6,11 @@ use Rattle.evaluation.proofs.run_formula.Goals as goal
 pub slice_bounds-work_out-end : goal.slice_bounds-work_out-end
 slice_bounds-work_out-end c = refl
 
-pub returns-then-fault-ne0 : goal.returns-then-fault-ne0
-returns-then-fault-ne0 c =
-    λ text coded. formula_refused _ text _ _ _ _ c.requires
-    (λ i. (c.type_inv.sheet i).fits) coded
-    c.work_out-ran.ensures c.if-fault-ne0.true _
+pub returns-in-Ok : goal.returns-in-Ok
+returns-in-Ok c =
+    λ text coded. formula_handed _ text _ _ _ c.requires (λ i. (c.type_inv.sheet i).fits) coded _ c.in-Ok.ensures
+    _ _ _ c.hand_over.ensures
 
-pub returns : goal.returns
-returns c =
-    λ text coded. formula_handed _ text _ _ _ _
-    c.requires
-    (λ i. (c.type_inv.sheet i).fits) coded c.work_out-ran.ensures
-    c.if-fault-ne0.false _ _ _ c.hand_over.ensures
+pub returns-in-Err : goal.returns-in-Err
+returns-in-Err c =
+    λ text coded. formula_refused _ text _ _ _ c.requires (λ i. (c.type_inv.sheet i).fits) coded _ c.in-Err.ensures _

@@ -2,6 +2,7 @@
 use Prim.Native.Nat.{ℕ}
 use native.Mathlib.Omega.{arith}
 use mathlib.Core.Path.{◌≡◌, subst}
+use mathlib.Core.Logic.{inl, inr}
 use mathlib.Core.List.{List}
 use lib.ListN.{length, replicate, length-replicate}
 use Rattle.marks.specs.Marks.{lent}
@@ -13,14 +14,10 @@ use Rattle.formulas.proofs.judge.Goals.{After-put}
 pub returns-then-bytes-eq0 : goal.returns-then-bytes-eq0
 returns-then-bytes-eq0 c =
     let a = c.args in
-    refused_is a.text.now a.code.now 10 0 (empty_is a.text.now c.if-bytes-eq0.true) (λ e. omega arith)
-    (empty_stops a.text.now c.if-bytes-eq0.true)
-
-pub returns-then-bytes-gt-MOST_BYTES : goal.returns-then-bytes-gt-MOST_BYTES
-returns-then-bytes-gt-MOST_BYTES c =
-    let a = c.args in
-    refused_is a.text.now a.code.now 10 0 (long_is a.text.now c.if-bytes-eq0.false c.if-bytes-gt-MOST_BYTES.true) (λ e. omega arith)
-    (long_stops a.text.now c.if-bytes-gt-MOST_BYTES.true)
+    elim c.then-bytes-eq0.either [
+      | inl e ↦ refused_is a.text.now a.code.now 10 0 (empty_is a.text.now e) (λ q. omega arith) (empty_stops a.text.now e)
+      | inr h ↦ refused_is a.text.now a.code.now 10 0 (long_is a.text.now h.0 h.1) (λ q. omega arith) (long_stops a.text.now h.1)
+    ]
 
 -- the text on its page
 on-page : (c : After-put) →

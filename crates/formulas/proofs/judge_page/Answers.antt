@@ -4,7 +4,7 @@ use native.Mathlib.Omega.{arith}
 use mathlib.Core.Path.{◌≡◌, sym, ap, ◌∙◌}
 use lib.ListN.{length, replicate, length-replicate}
 use lib.Seq.{sets}
-use Rattle.marks.specs.Marks.{mark_of, mark_fault, lent}
+use Rattle.marks.specs.Marks.{mark_fault, lent}
 use Rattle.formulas.specs.Readers.{SumRead}
 use Rattle.formulas.proofs.WholeRead.{first, begun, lent_all, refused_is, written_is}
 use Rattle.formulas.proofs.WholeRead.{few_words, words_are, words_length, place_is, fault_is}
@@ -18,9 +18,8 @@ sum-requires c =
 -- the text is read to the mark that its words hold
 read-to : (c : After-sum) →
     let a = c.args in
-    SumRead (lent a.page.now a.bytes) 0 first (replicate 32 0) c.sum.new.code (mark_of c.sum.new.m)
-unfolding mark_of
-read-to c = c.sum.ensures.1
+    SumRead (lent a.page.now a.bytes) 0 first (replicate 32 0) c.sum.new.code c.sum.new.m
+read-to c = c.sum.ensures
 
 -- the text has so many bytes, some and at most 1,024
 all : (c : Start) → length (lent c.args.page.now c.args.bytes) ≡ c.args.bytes
@@ -33,12 +32,11 @@ short : (c : Start) → length (lent c.args.page.now c.args.bytes) ≤ 1024
 short c = omega (arith, all c, c.requires.2)
 
 -- without a fault there are at most 32 parts
-few : (c : Then-fault-eq0) → (mark_of c.sum.new.m).parts ≤ 32
+few : (c : Then-fault-eq0) → c.sum.new.m.parts ≤ 32
 few c =
     few_words _ c.args.bytes (sym c.fault_of-fault.ensures ∙ c.if-fault-eq0.true)
 
 pub copy-requires : goal.copy-requires
-unfolding mark_of
 copy-requires c = (
   omega (arith, few (goal.at.copy-requires c).Then-fault-eq0, (read-to (goal.at.copy-requires c).After-sum).room),
   few
@@ -46,7 +44,6 @@ copy-requires c = (
 )
 
 pub returns-then-fault-eq0 : goal.returns-then-fault-eq0
-unfolding mark_of
 returns-then-fault-eq0 c =
     let a = c.args in
     let text = lent a.page.now a.bytes in
@@ -58,7 +55,6 @@ returns-then-fault-eq0 c =
     (c.copy.ensures ∙ ap (sets a.code.now 0) (words_are text _ _ _ d (few (goal.at.returns-then-fault-eq0 c).Then-fault-eq0)))
 
 pub returns : goal.returns
-unfolding mark_of
 returns c =
     let a = c.args in
     let text = lent a.page.now a.bytes in

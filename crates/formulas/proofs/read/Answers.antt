@@ -5,5 +5,5 @@ use Rattle.formulas.proofs.read.Goals as goal
 pub returns-then-stop-eq0 : goal.returns-then-stop-eq0
 returns-then-stop-eq0 c = count_is _ _ _ _ c.judge-stop.ensures c.if-stop-eq0.true
 
-pub returns : goal.returns
-returns c = fault_told _ _ _ _ c.judge-stop.ensures c.if-stop-eq0.false
+pub returns-else-stop-eq0 : goal.returns-else-stop-eq0
+returns-else-stop-eq0 c = fault_told _ _ _ _ c.judge-stop.ensures c.if-stop-eq0.false

@@ -1,49 +1,36 @@
 -- `merging::join` meets its contract, as `merge` does: a connective's values are cells of its table.
-use Prim.Native.Nat.{ℕ, ◌+◌, ◌-◌, ◌≤◌}
+use Prim.Native.Nat.{ℕ, ◌+◌, ◌-◌}
 use native.Mathlib.Omega.{arith}
 use mathlib.Core.Path.{◌∙◌, ap}
 use mathlib.Core.List.{List, ◌++◌}
-use lib.ListN.{length, take, drop}
+use lib.ListN.{take, drop}
 use mathlib.Core.Bool.{false}
 use Rattle.signals.specs.Words.{value_after}
 use Rattle.showing.specs.declared.Operation.TheVariants.{Connective}
-use Rattle.sources.specs.Sources.{list_at, past_on, slot_in}
-use Rattle.merging.specs.Merging.{MayMerge}
-use Rattle.merging.proofs.Along.{reached, first_cell, date_cells}
-use Rattle.merging.proofs.MergeLoop.{Looping, Started, started, may_there, built_there}
+use Rattle.sources.specs.Sources.{list_at, past_on}
+use Rattle.merging.proofs.Along.{first_cell, date_cells}
+use Rattle.merging.proofs.MergeLoop.{Started, started, may_there, built_there}
 use Rattle.merging.proofs.MergeLoop.{looping_turn, looping_falls, looping_end, looping_long, looping_still}
-use borrow.Author.Rules.{rules}
 use Rattle.merging.proofs.join.Goals as goal
 use Rattle.merging.proofs.join.Goals.{After-earlier-date, Start}
-
-pub overflow_add-end : goal.overflow_add-end
-overflow_add-end c = let s = (goal.at.overflow_add-end c).Start in omega (arith, s.requires.2, s.well_formed.1.1.1.1.0.0)
-
-pub offset_bounds-work-at : goal.offset_bounds-work-at
-offset_bounds-work-at c =
-    omega (arith, c.requires.2, c.well_formed.1.1.1.1.0.1)
-
-pub slice_bounds-begin-end : goal.slice_bounds-begin-end
-slice_bounds-begin-end c =
-    omega (arith, c.requires.2)
 
 begins : (c : After-earlier-date)
     →
     let x = c.args in
     let work = take x.at x.work.now ++ (c.begin-made.new.slot ++ drop (x.at + x.room - x.at) (drop x.at x.work.now)) in
-    Started Connective x.table (list_at x.sheet.now x.left.now x.right.now x.work.now x.a)
-    (list_at x.sheet.now x.left.now x.right.now x.work.now x.b)
-    (list_at x.sheet.now x.left.now x.right.now work x.a) (list_at x.sheet.now x.left.now x.right.now work x.b)
+    Started Connective x.table (list_at x.lent.sheet.now x.lent.left.now x.lent.right.now x.work.now x.a)
+    (list_at x.lent.sheet.now x.lent.left.now x.lent.right.now x.work.now x.b)
+    (list_at x.lent.sheet.now x.lent.left.now x.lent.right.now work x.a)
+    (list_at x.lent.sheet.now x.lent.left.now x.lent.right.now work x.b)
     x.work.now x.at (x.at + x.room - x.at) work
     c.start-x.result c.start-y.result c.begin-made.result false c.earlier-date.result
 unfolding value_after
 begins c =
     let x = c.args in
-    started Connective x.table x.sheet.now x.left.now x.right.now x.work.now x.a x.b x.at
+    started Connective x.table x.lent.sheet.now x.lent.left.now x.lent.right.now x.work.now x.a x.b x.at
     (x.at + x.room - x.at) (may_there x.a x.b x.at x.room _ c.requires)
-    (λ i. (c.type_inv.sheet i).fits) (λ i. (c.type_inv.left i).fits)
-    (λ i. (c.type_inv.right i).fits) (λ i. (c.slice_known-1.given i).fits)
-    c.well_formed.1.1.1.1.1.0.1.1.1.1.0.1 c.well_formed.1.1.1.1.1.1.0.1.1.1.1.0.1 _ _
+    x.lent.bytes x.lent.left_words x.lent.right_words (λ i. (c.slice_known-1.given i).fits)
+    c.well_formed.1.1.1.0.1.1.1.1.0.1 c.well_formed.1.1.1.1.0.1.1.1.1.0.1 _ _
     c.start-x.ensures c.start-y.ensures _ (first_cell _ _ _ _ c.cell_of-first.ensures)
     _ _ c.begin-made.ensures c.begin-made.auto.slot _ c.earlier-date.ensures
 
@@ -52,10 +39,6 @@ loop-date-init c =
     let x = c.args in
     let may = may_there x.a x.b x.at x.room _ c.requires in
     let z = begins (goal.at.loop-date-init c).After-earlier-date in (omega arith, (may.0, may.1, rw z.long may.2), z.start)
-
-pub offset_bounds-work-at-in-loop-date : goal.offset_bounds-work-at-in-loop-date
-offset_bounds-work-at-in-loop-date c =
-    omega (arith, c.requires.2, c.well_formed.1.1.1.1.0.1)
 
 pub slice_bounds-emit-end : goal.slice_bounds-emit-end
 slice_bounds-emit-end c =
@@ -67,7 +50,7 @@ loop-date-smaller c =
     let at = c.loop-date in
     let here = at.invariant in
     let x = c.args in
-    let still = looping_still _ _ _ _ _ _ _ _ here.1.2 _ _ _ _ _ _ here.2 x.sheet.now x.left.now x.right.now in
+    let still = looping_still _ _ _ _ _ _ _ _ here.1.2 _ _ _ _ _ _ here.2 x.lent.sheet.now x.lent.left.now x.lent.right.now in
     let first = c.past-u.ensures ∙ ap (λ (l : List ℕ). past_on l at.x at.date) (still x.a here.1.0) in
     let second = c.past-v.ensures ∙ ap (λ (l : List ℕ). past_on l at.y at.date) (still x.b here.1.1) in
     looping_falls _ _ _ _ _ _ _ _ here.1.2 _ _ _ _ _ _ here.2 c.loop-date-test.true _ _ first second
@@ -77,7 +60,7 @@ loop-date-preserved c =
     let at = c.loop-date in
     let here = at.invariant in
     let x = c.args in
-    let still = looping_still _ _ _ _ _ _ _ _ here.1.2 _ _ _ _ _ _ here.2 x.sheet.now x.left.now x.right.now in
+    let still = looping_still _ _ _ _ _ _ _ _ here.1.2 _ _ _ _ _ _ here.2 x.lent.sheet.now x.lent.left.now x.lent.right.now in
     let first = c.past-u.ensures ∙ ap (λ (l : List ℕ). past_on l at.x at.date) (still x.a here.1.0) in
     let second = c.past-v.ensures ∙ ap (λ (l : List ℕ). past_on l at.y at.date) (still x.b here.1.1) in (
       here.0,

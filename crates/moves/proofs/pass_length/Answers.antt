@@ -2,20 +2,18 @@
 use borrow.Author.Tests.{le-ltb}
 use mathlib.Core.Path.{refl, subst}
 use Prim.Native.Nat.{ℕ, ◌≤◌}
-use Rattle.marks.specs.Marks.{mark_of}
 use Rattle.moves.specs.Moves.{length_passed, length_ticks}
 use Rattle.moves.proofs.Stepping.{length_is}
 use Rattle.moves.proofs.pass_length.Goals as goal
 
 pub returns-then-end-gt0 : goal.returns-then-end-gt0
-unfolding mark_of
 returns-then-end-gt0 c =
     let l = c.length_end-end in
     let a = c.args in
-    length_is a.text.now a.bytes a.m.now l.result l.ensures c.if-end-gt0.true c.move_to.ensures c.ticks-n.ensures
+    length_is a.text.now a.bytes a.m.now l.result l.ensures c.if-end-gt0.true refl c.ticks-n.ensures
 
-pub returns : goal.returns
+pub returns-else-end-gt0 : goal.returns-else-end-gt0
 unfolding length_passed length_ticks
-returns c =
+returns-else-end-gt0 c =
     let l = c.length_end-end in
     rw (le-ltb 0 _ (subst (λ (n : ℕ). n ≤ 0) l.ensures c.if-end-gt0.false)) (c.fail.ensures, refl)

@@ -1,77 +1,60 @@
--- `openings::block_kind` meets its contract: the first byte says which words can stand.
-use mathlib.Core.Path.{refl, sym, ◌∙◌}
-use Rattle.marks.specs.Marks.{mark_of, lent}
-use Rattle.openings.proofs.Words.{first_s, first_r, first_t, no_block}
+-- `openings::block_kind` meets its contract.
+use mathlib.Core.Path.{refl}
+use Rattle.names.specs.Names.{all_of}
+use Rattle.grammar.specs.Reader.{block_kind, SR_WORD, RS_WORD, TON_WORD, TOF_WORD, TP_WORD}
+use Rattle.openings.proofs.Words.{told}
 use Rattle.openings.proofs.block_kind.Goals as goal
 
-pub returns-then-stands : goal.returns-then-stands
-unfolding mark_of
-returns-then-stands c =
-    let e = first_s (lent c.args.text.now c.args.bytes) (mark_of c.args.m.now) (c.requires ∙ c.if-first-eq83.true) in
-    sym (e ∙ rw (sym c.stands.ensures ∙ c.if-stands.true) refl)
+pub returns-then-starts_with : goal.returns-then-starts_with
+unfolding block_kind all_of
+returns-then-starts_with c =
+    simp (told SR_WORD c.args.bytes.now refl c.starts_with.ensures.value c.if-starts_with.true)
 
-pub returns-then-first-eq83 : goal.returns-then-first-eq83
-unfolding mark_of
-returns-then-first-eq83 c =
-    let e = first_s (lent c.args.text.now c.args.bytes) (mark_of c.args.m.now) (c.requires ∙ c.if-first-eq83.true) in
-    sym (e ∙ rw (sym c.stands.ensures ∙ c.if-stands.false) refl)
-
-pub returns-then-stands-2 : goal.returns-then-stands-2
-unfolding mark_of
-returns-then-stands-2 c =
-    let e = first_r (lent c.args.text.now c.args.bytes) (mark_of c.args.m.now) (c.requires ∙ c.if-first-eq82.true) in
-    sym (e ∙ rw (sym c.stands-then-first-eq82.ensures ∙ c.if-stands-2.true) refl)
-
-pub returns-then-first-eq82 : goal.returns-then-first-eq82
-unfolding mark_of
-returns-then-first-eq82 c =
-    let e = first_r (lent c.args.text.now c.args.bytes) (mark_of c.args.m.now) (c.requires ∙ c.if-first-eq82.true) in
-    sym (e ∙ rw (sym c.stands-then-first-eq82.ensures ∙ c.if-stands-2.false) refl)
-
-pub returns-then-stands-3 : goal.returns-then-stands-3
-unfolding mark_of
-returns-then-stands-3 c =
-    let e = first_t (lent c.args.text.now c.args.bytes) (mark_of c.args.m.now) (c.requires ∙ c.if-first-eq84.true) in
-    sym (e ∙ rw (sym c.stands-then-first-eq84.ensures ∙ c.if-stands-3.true) refl)
-
-pub returns-then-stands-4 : goal.returns-then-stands-4
-unfolding mark_of
-returns-then-stands-4 c =
-    let e = first_t (lent c.args.text.now c.args.bytes) (mark_of c.args.m.now) (c.requires ∙ c.if-first-eq84.true) in
-    sym (e ∙ rw (
-      sym c.stands-then-first-eq84.ensures ∙ c.if-stands-3.false,
-      sym c.stands-then-first-eq84-2.ensures ∙
-          c.if-stands-4.true,
-    ) refl)
-
-pub returns-then-stands-5 : goal.returns-then-stands-5
-unfolding mark_of
-returns-then-stands-5 c =
-    let e = first_t (lent c.args.text.now c.args.bytes) (mark_of c.args.m.now) (c.requires ∙ c.if-first-eq84.true) in
-    sym
-    (e
-    ∙ rw (
-      sym c.stands-then-first-eq84.ensures ∙ c.if-stands-3.false,
-      sym c.stands-then-first-eq84-2.ensures ∙ c.if-stands-4.false,
-      sym c.stands-then-first-eq84-3.ensures ∙ c.if-stands-5.true,
+pub returns-then-starts_with-2 : goal.returns-then-starts_with-2
+unfolding block_kind all_of
+returns-then-starts_with-2 c =
+    simp (
+      told SR_WORD c.args.bytes.now refl c.starts_with.ensures.value c.if-starts_with.false,
+      told RS_WORD c.args.bytes.now refl c.starts_with-else-starts_with.ensures.value c.if-starts_with-2.true,
     )
-    refl)
 
-pub returns-else-stands-5 : goal.returns-else-stands-5
-unfolding mark_of
-returns-else-stands-5 c =
-    let e = first_t (lent c.args.text.now c.args.bytes) (mark_of c.args.m.now) (c.requires ∙ c.if-first-eq84.true) in
-    sym
-    (e
-    ∙ rw (
-      sym c.stands-then-first-eq84.ensures ∙ c.if-stands-3.false,
-      sym c.stands-then-first-eq84-2.ensures ∙ c.if-stands-4.false,
-      sym c.stands-then-first-eq84-3.ensures ∙ c.if-stands-5.false,
+pub returns-then-starts_with-3 : goal.returns-then-starts_with-3
+unfolding block_kind all_of
+returns-then-starts_with-3 c =
+    simp (
+      told SR_WORD c.args.bytes.now refl c.starts_with.ensures.value c.if-starts_with.false,
+      told RS_WORD c.args.bytes.now refl c.starts_with-else-starts_with.ensures.value c.if-starts_with-2.false,
+      told TON_WORD c.args.bytes.now refl c.starts_with-else-starts_with-2.ensures.value c.if-starts_with-3.true,
     )
-    refl)
 
-pub returns-else-first-eq84 : goal.returns-else-first-eq84
-returns-else-first-eq84 c =
-    sym
-    (no_block (lent c.args.text.now c.args.bytes) (mark_of c.args.m.now) c.args.first c.requires
-    c.if-first-eq83.false c.if-first-eq82.false c.if-first-eq84.false)
+pub returns-then-starts_with-4 : goal.returns-then-starts_with-4
+unfolding block_kind all_of
+returns-then-starts_with-4 c =
+    simp (
+      told SR_WORD c.args.bytes.now refl c.starts_with.ensures.value c.if-starts_with.false,
+      told RS_WORD c.args.bytes.now refl c.starts_with-else-starts_with.ensures.value c.if-starts_with-2.false,
+      told TON_WORD c.args.bytes.now refl c.starts_with-else-starts_with-2.ensures.value c.if-starts_with-3.false,
+      told TOF_WORD c.args.bytes.now refl c.starts_with-else-starts_with-3.ensures.value c.if-starts_with-4.true,
+    )
+
+pub returns-then-starts_with-5 : goal.returns-then-starts_with-5
+unfolding block_kind all_of
+returns-then-starts_with-5 c =
+    simp (
+      told SR_WORD c.args.bytes.now refl c.starts_with.ensures.value c.if-starts_with.false,
+      told RS_WORD c.args.bytes.now refl c.starts_with-else-starts_with.ensures.value c.if-starts_with-2.false,
+      told TON_WORD c.args.bytes.now refl c.starts_with-else-starts_with-2.ensures.value c.if-starts_with-3.false,
+      told TOF_WORD c.args.bytes.now refl c.starts_with-else-starts_with-3.ensures.value c.if-starts_with-4.false,
+      told TP_WORD c.args.bytes.now refl c.starts_with-else-starts_with-4.ensures.value c.if-starts_with-5.true,
+    )
+
+pub returns-else-starts_with-5 : goal.returns-else-starts_with-5
+unfolding block_kind all_of
+returns-else-starts_with-5 c =
+    simp (
+      told SR_WORD c.args.bytes.now refl c.starts_with.ensures.value c.if-starts_with.false,
+      told RS_WORD c.args.bytes.now refl c.starts_with-else-starts_with.ensures.value c.if-starts_with-2.false,
+      told TON_WORD c.args.bytes.now refl c.starts_with-else-starts_with-2.ensures.value c.if-starts_with-3.false,
+      told TOF_WORD c.args.bytes.now refl c.starts_with-else-starts_with-3.ensures.value c.if-starts_with-4.false,
+      told TP_WORD c.args.bytes.now refl c.starts_with-else-starts_with-4.ensures.value c.if-starts_with-5.false,
+    )

@@ -1,27 +1,21 @@
 -- `openings::opening` meets its contract.
-use borrow.Author.Tests.{eq-eqb, ne_eqb, lt-ltb, le-ltb}
-use mathlib.Core.Path.{refl, sym, ap, ◌∙◌}
-use Rattle.grammar.specs.Reader.{prefix_kind}
-use Rattle.openings.specs.Opening.{open_kind}
+use mathlib.Core.Path.{sym, ◌∙◌}
+use Rattle.marks.specs.Marks.{lent}
+use Rattle.openings.proofs.Words.{bracket_next, block_next, prefix_next}
+use native.Mathlib.Omega.{arith}
 use Rattle.openings.proofs.opening.Goals as goal
 
-pub returns-then-prefix-gt0 : goal.returns-then-prefix-gt0
-unfolding open_kind
-returns-then-prefix-gt0 c =
-    let e = c.prefix_kind-prefix.ensures ∙ ap prefix_kind c.next-b.ensures in
-    rw (← e, lt-ltb _ _ c.if-prefix-gt0.true) refl
+pub returns-in-40 : goal.returns-in-40
+returns-in-40 c = let a = c.args in bracket_next (lent a.text.now a.bytes) a.m.now (sym c.next.ensures ∙ c.in-40.is)
 
-pub returns-then-b-eq40 : goal.returns-then-b-eq40
-unfolding open_kind
-returns-then-b-eq40 c =
-    let n = c.next-b.ensures in
-    rw (← n, ← c.prefix_kind-prefix.ensures, le-ltb _ _ c.if-prefix-gt0.false, eq-eqb _ _ c.if-b-eq40.true) refl
+pub returns-in-65-to-90 : goal.returns-in-65-to-90
+returns-in-65-to-90 c =
+    let a = c.args in
+    c.block_kind.ensures ∙ rw (c.rest.ensures) (block_next (lent a.text.now a.bytes) a.m.now c.next.result (sym c.next.ensures)
+    (omega arith) (omega arith))
 
-pub block_kind-requires : goal.block_kind-requires
-block_kind-requires c = sym c.next-b.ensures
-
-pub returns : goal.returns
-unfolding open_kind
-returns c =
-    let n = c.next-b.ensures in
-    rw (← n, ← c.prefix_kind-prefix.ensures, le-ltb _ _ c.if-prefix-gt0.false, ne_eqb _ _ c.if-b-eq40.false) c.block_kind.ensures
+pub returns-in_default : goal.returns-in_default
+returns-in_default c =
+    let a = c.args in
+    c.prefix_kind.ensures ∙ prefix_next (lent a.text.now a.bytes) a.m.now c.next.result (sym c.next.ensures)
+    (λ h. absurd (omega arith)) (λ low high. absurd (omega arith))

@@ -1,6 +1,5 @@
 -- `pulse_parts::run` puts the first word into the slot; the words left lead to the rest.
 use Prim.Native.Nat.{◌+◌, ◌-◌}
-use native.Mathlib.Omega.{arith}
 use mathlib.Core.Path.{◌≡◌, ◌∙◌}
 use mathlib.Core.List.{◌++◌}
 use mathlib.Core.Bool.{false}
@@ -12,9 +11,6 @@ use Rattle.pulse_parts.proofs.PulseRun.{begun_pulses}
 use Rattle.pulse_parts.proofs.run.Goals as goal
 use Rattle.pulse_parts.proofs.run.Goals.{After-begin-made}
 
-pub overflow_add-end : goal.overflow_add-end
-overflow_add-end c = omega (arith, c.requires.0, c.well_formed.1.1.1.1.0)
-
 -- the work area with the first word in its slot is as long as before
 long : (c : After-begin-made)
     →
@@ -22,7 +18,7 @@ long : (c : After-begin-made)
     (drop c.args.at c.args.work.now))) ≡ length c.args.work.now
 long c =
     let x = c.args in
-    first_length (past_word x.d.0) x.sheet.now x.left.now x.right.now x.work.now x.f x.at most_words
+    first_length (past_word x.d.0) x.lent.sheet.now x.lent.left.now x.lent.right.now x.work.now x.f x.at most_words
     c.requires.0 c.requires.1 c.begin-made.new.slot false c.begin-made.ensures.1
 
 pub pass_words-requires : goal.pass_words-requires
@@ -35,6 +31,6 @@ shape_of-work c = c.pass_words.auto.work ∙ long (goal.at.shape_of-work c).Afte
 pub returns : goal.returns
 returns c =
     let x = c.args in
-    begun_pulses x.d.0 x.sheet.now x.left.now x.right.now x.work.now x.f x.at most_words c.requires.0
+    begun_pulses x.d.0 x.lent.sheet.now x.lent.left.now x.lent.right.now x.work.now x.f x.at most_words c.requires.0
     c.requires.1 c.begin-made.new.slot c.begin-made.ensures.1 _ c.begin-made.ensures.0 _ _
     c.pass_words.ensures

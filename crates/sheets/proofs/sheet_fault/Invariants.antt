@@ -13,6 +13,3 @@ invariant-loop-i l =
     × (l.at ≤ length l.sheet)
     × Whole l.i (drop 7 l.sheet)
     × (signals_fault (names (signals_from l.i (drop 7 l.sheet))) (l.count - l.i) (drop l.at l.sheet) ≡ sheet_fault l.sheet)
-
-abbrev pub decreases-loop-i : goal.decreases-loop-i
-decreases-loop-i l = l.count - l.i

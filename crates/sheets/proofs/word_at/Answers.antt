@@ -1,46 +1,8 @@
 -- `sheets::word_at` gives the word whose four bytes begin at a place.
-use Prim.Native.Nat.{◌+◌}
-use native.Mathlib.Omega.{arith}
-use Rattle.sheets.proofs.WholeWords.{whole_word}
+use Rattle.std.proofs.Common.{arith, get_or-drop, add-zero}
+use Rattle.slices.specs.Bytes.{low32}
 use Rattle.sheets.proofs.word_at.Goals as goal
 
-pub overflow_cast-low : goal.overflow_cast-low
-overflow_cast-low c = omega (arith, c.type_inv.s c.args.at)
-
-pub overflow_cast-low-2 : goal.overflow_cast-low-2
-overflow_cast-low-2 c = omega (arith, c.type_inv.s (c.args.at + 1))
-
-pub overflow_mul-low : goal.overflow_mul-low
-overflow_mul-low c = omega (arith, c.type_inv.s (c.args.at + 1))
-
-pub overflow_add-low-2 : goal.overflow_add-low-2
-overflow_add-low-2 c =
-    let at = c.args.at in
-    omega (arith, c.type_inv.s at, c.type_inv.s (at + 1))
-
-pub overflow_cast-high : goal.overflow_cast-high
-overflow_cast-high c = omega (arith, c.type_inv.s (c.args.at + 2))
-
-pub overflow_cast-high-2 : goal.overflow_cast-high-2
-overflow_cast-high-2 c = omega (arith, c.type_inv.s (c.args.at + 3))
-
-pub overflow_mul-high : goal.overflow_mul-high
-overflow_mul-high c = omega (arith, c.type_inv.s (c.args.at + 3))
-
-pub overflow_add-high-3 : goal.overflow_add-high-3
-overflow_add-high-3 c =
-    let at = c.args.at in
-    omega (arith, c.type_inv.s (at + 2), c.type_inv.s (at + 3))
-
-pub overflow_mul-result : goal.overflow_mul-result
-overflow_mul-result c =
-    let at = c.args.at in
-    omega (arith, c.type_inv.s (at + 2), c.type_inv.s (at + 3))
-
-pub overflow_add-result : goal.overflow_add-result
-overflow_add-result c =
-    let at = c.args.at in
-    omega (arith, c.type_inv.s at, c.type_inv.s (at + 1), c.type_inv.s (at + 2), c.type_inv.s (at + 3))
-
 pub returns : goal.returns
-returns c = let args = c.args in whole_word args.s.now args.at
+unfolding low32
+returns c = simp (get_or-drop, add-zero) (omega arith)

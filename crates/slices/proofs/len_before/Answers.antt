@@ -1,32 +1,18 @@
--- `slices::len_before` meets its contract: the bytes passed and those before the stop byte from there on are the whole.
-use native.Mathlib.Omega.{arith}
-use Rattle.slices.proofs.Steps.{before_found, before_passed, before_end}
+-- `slices::len_before` meets its contract: so many bytes stand before the first that is `stop`.
+use Rattle.std.proofs.Common.{◌≡◌, ◌≢◌, ℕ, List, length, sym, refl, ◌∙◌, rules, add-one}
+use Rattle.std.proofs.lemmas.Iterator.{YieldsList-from_slice, IsFirst-from_position, index_from_first}
+use borrow.Author.Tests.{eq-eqb, ne_eqb, tests}
+use Rattle.slices.specs.Slices.{before}
 use Rattle.slices.proofs.len_before.Goals as goal
 
-pub loop-i-init : goal.loop-i-init
-loop-i-init c = (omega arith, omega arith)
-
-pub returns-then-bytes-i : goal.returns-then-bytes-i
-returns-then-bytes-i c =
-    let args = c.args in
-    omega (
-      arith,
-      before_found args.stop args.bytes.now c.loop-i.i c.loop-i-test.true
-          c.if-bytes-i.true,
-    )
-
-pub loop-i-preserved : goal.loop-i-preserved
-loop-i-preserved c =
-    let args = c.args in (
-      omega arith,
-      omega (
-        arith,
-        before_passed args.stop args.bytes.now c.loop-i.i
-            c.loop-i-test.true c.if-bytes-i.false,
-      ),
-    )
-
 pub returns : goal.returns
+unfolding before
 returns c =
-    let args = c.args in
-    omega (arith, before_end args.stop args.bytes.now c.loop-i.i c.loop-i-test.false)
+    let stop = c.args.stop in
+    let bytes = c.args.bytes.now in
+    let first =
+    IsFirst-from_position _ _ c.position.result (λ (b : ℕ). b ≡ stop) (λ (b : ℕ). b ≢ stop) c.position.ensures.ran
+    (YieldsList-from_slice bytes cc) (λ x q k. search (rules, tests)) (λ x q k. search (rules, tests)) in
+    c.unwrap_or.ensures
+    ∙ sym (index_from_first (λ (s : List ℕ). length (before stop s)) (λ (b : ℕ). b ≡ stop) (λ (b : ℕ). b ≢ stop) refl
+    (λ b s e. rw (eq-eqb b stop e)) (λ b s e. rw (ne_eqb b stop e, add-one)) bytes c.position.result first)

@@ -4,15 +4,6 @@ use mathlib.Core.Path.{◌≡◌}
 use Rattle.texts.proofs.Digits.{put_first, put_place, put_next, put_all}
 use Rattle.texts.proofs.last_digits.Goals as goal
 
-pub overflow_cast-text : goal.overflow_cast-text
-overflow_cast-text c = omega arith
-
-pub overflow_add-text : goal.overflow_add-text
-overflow_add-text c = omega arith
-
-pub bounds-text-at : goal.bounds-text-at
-bounds-text-at c = omega arith
-
 pub loop-left-init : goal.loop-left-init
 loop-left-init c = put_first c.args.n c.args.text.now (omega arith) c.requires
 
@@ -20,18 +11,6 @@ pub overflow_sub-at : goal.overflow_sub-at
 overflow_sub-at c =
     let l = c.loop-left in
     put_place c.args.n l.text l.left l.at l.invariant c.loop-left-test.true
-
-pub overflow_cast-text-in-loop-left : goal.overflow_cast-text-in-loop-left
-overflow_cast-text-in-loop-left c = omega arith
-
-pub overflow_add-text-in-loop-left : goal.overflow_add-text-in-loop-left
-overflow_add-text-in-loop-left c = omega arith
-
-pub bounds-text-at-in-loop-left : goal.bounds-text-at-in-loop-left
-bounds-text-at-in-loop-left c = omega (arith, c.loop-left.invariant.within)
-
-pub loop-left-smaller : goal.loop-left-smaller
-loop-left-smaller c = omega arith
 
 pub loop-left-preserved : goal.loop-left-preserved
 loop-left-preserved c =

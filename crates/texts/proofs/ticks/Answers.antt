@@ -1,16 +1,15 @@
--- `texts::ticks` meets its contract: the number so far and the digits that are left write the whole, up to M + 1.
-use Rattle.texts.proofs.LengthReading.{counted_none, counted_next, counted_all}
+-- `texts::ticks` meets its contract.
+use Rattle.std.proofs.Common.{◌≡◌, ◌+◌, ◌*◌, ◌-◌, ◌∙◌, rules}
+use native.Mathlib.Omega.{arith}
+use Rattle.std.proofs.iter.runs.Made.{chains}
+use Rattle.std.specs.List.{fold}
+use Rattle.texts.specs.Lengths.{value, capped}
+use Rattle.texts.proofs.LengthReading.{ticks_are}
 use Rattle.texts.proofs.ticks.Goals as goal
 
-pub loop-i-init : goal.loop-i-init
-loop-i-init c = counted_none c.args.text.now
-
-pub loop-i-preserved : goal.loop-i-preserved
-loop-i-preserved c =
-    let l = c.loop-i in
-    counted_next c.args.text.now l.n l.i _ c.loop-i-test.true c.one_more-n.ensures l.invariant
-
 pub returns : goal.returns
+unfolding value
 returns c =
-    let l = c.loop-i in
-    counted_all c.args.text.now l.n l.i c.loop-i-test.false l.invariant
+    let text = c.args.text.now in
+    let folded : c.fold.result ≡ fold (λ n b. capped (n * 10 + (b - 48))) 0 text = search (rules, chains) in
+    folded ∙ ticks_are text 0 (omega arith)

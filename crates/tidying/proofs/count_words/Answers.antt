@@ -6,15 +6,6 @@ use Rattle.tidying.proofs.count_words.Goals as goal
 pub loop-i-init : goal.loop-i-init
 loop-i-init c = count_start _ c.requires
 
-pub overflow_sub-before : goal.overflow_sub-before
-overflow_sub-before c = c.loop-i.invariant.one
-
-pub bounds-list-i : goal.bounds-list-i
-bounds-list-i c = omega arith
-
-pub bounds-list-i-in-loop-i : goal.bounds-list-i-in-loop-i
-bounds-list-i-in-loop-i c = omega arith
-
 pub overflow_add-kept : goal.overflow_add-kept
 overflow_add-kept c =
     let at = c.loop-i in

@@ -1,11 +1,6 @@
 -- `tidying::count_words` meets its contract: what is counted and what is left to count make the whole.
-use Prim.Native.Nat.{◌-◌}
-use lib.ListN.{length}
 use Rattle.tidying.proofs.Turns.{CountedTo}
 use Rattle.tidying.proofs.count_words.Given as goal
 
 abbrev pub invariant-loop-i : goal.invariant-loop-i
 invariant-loop-i l = CountedTo l.list l.kept l.wrong l.i
-
-abbrev pub decreases-loop-i : goal.decreases-loop-i
-decreases-loop-i l = length l.list - l.i

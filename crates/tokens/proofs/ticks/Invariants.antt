@@ -6,7 +6,4 @@ use Rattle.tokens.specs.Tokens.{number_at}
 use Rattle.tokens.proofs.ticks.Given as goal
 
 abbrev pub invariant-loop-i : goal.invariant-loop-i
-invariant-loop-i l = (l.from ≤ l.i) × (l.i ≤ max l.from l.end) × (l.n ≡ capped (number_at l.text l.from (l.i - l.from)))
-
-abbrev pub decreases-loop-i : goal.decreases-loop-i
-decreases-loop-i l = l.end - l.i
+invariant-loop-i l = (l.i ≤ max l.from l.i-end) × (l.n ≡ capped (number_at l.text l.from (l.i - l.from)))

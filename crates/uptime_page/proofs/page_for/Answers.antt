@@ -1,29 +1,26 @@
 -- `uptime_page::page_for` meets its contract.
-use Prim.Native.Nat.{◌≤◌}
-use native.Mathlib.Omega.{arith}
+use Prim.Native.Nat.{ℕ}
+use mathlib.Core.Path.{ap, ◌∙◌}
+use mathlib.Core.List.{List, [], ◌∷◌}
+use Rattle.texts.specs.Decimal.{decimal}
+use Rattle.verdict_line.specs.Putting.{pushed_all}
+use Rattle.verdict_line.proofs.Filling.{filled_as}
 use Rattle.uptime_page.specs.Page.{total_text}
-use Rattle.uptime_page.proofs.Filling.{lines_size, page_filled}
-use borrow.Author.Rules.{rules}
+use Rattle.uptime_page.specs.Printing.{most_bytes}
+use Rattle.uptime_page.specs.Words.{word_parts, words_page}
+use Rattle.uptime_page.proofs.Filling.{total_parts, page_pushed}
 use Rattle.uptime_page.proofs.page_for.Goals as goal
-use Rattle.uptime_page.proofs.page_for.Goals.{After-put_lines-last}
-
--- there is room for the total's line
-room : (c : After-put_lines-last) → c.put_lines-last.result ≤ 2816
-room c =
-    omega (arith, c.put_lines-last.ensures.0, lines_size c.args.words.now, c.requires)
-
-pub overflow_add-last : goal.overflow_add-last
-overflow_add-last c = omega (arith, room (goal.at.overflow_add-last c).After-put_lines-last)
-
-pub put_ended-count-requires : goal.put_ended-count-requires
-put_ended-count-requires c = record {
-  out_len = search rules;
-  at_bound = omega (arith, room (goal.at.put_ended-count-requires c).After-put_lines-last);
-}
 
 pub returns : goal.returns
 unfolding total_text
 returns c =
-    page_filled c.args.words.now c.put_lines-last.new.out c.put.new.out c.put_ended-count.new.out
-    c.put_lines-last.result c.args.total c.put_ended-count.result c.requires c.put_lines-last.ensures c.put.ensures
-    c.put_ended-count.ensures
+    let words = c.args.words.now in
+    let total = c.args.total in
+    let page = c.push-2.new.self in
+    let lines = c.push_lines.ensures ∙ ap (λ (l : List ℕ). pushed_all most_bytes l (word_parts words)) c.new-page.ensures in
+    let line =
+    c.push-2.ensures
+    ∙ ap (λ (l : List ℕ). pushed_all most_bytes l ((10 ∷ []) ∷ [])) c.push_number.ensures
+    ∙ ap (λ (l : List ℕ). pushed_all most_bytes l (decimal total ∷ (10 ∷ []) ∷ [])) c.push.ensures in
+    filled_as most_bytes (words_page words total) page.bytes page.count page.filled
+    (line ∙ ap (λ (l : List ℕ). pushed_all most_bytes l (total_parts total)) lines ∙ page_pushed words total c.requires)

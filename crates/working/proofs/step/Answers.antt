@@ -1,14 +1,13 @@
 -- `working::step` meets its contract, by the number of operands.
 use native.Mathlib.Omega.{arith}
-use mathlib.Core.Path.{◌≡◌, refl, sym, ◌∙◌}
+use mathlib.Core.Path.{refl}
 use Rattle.working.proofs.Stepping.{short, list_made}
-use borrow.Author.Rules.{rules}
 use Rattle.working.proofs.step.Goals as goal
 
 pub returns-then-taken-eq0 : goal.returns-then-taken-eq0
 returns-then-taken-eq0 c =
     let e = c.if-taken-eq0.true in
-    (λ z. record { fine = refl; list_is = c.leaf.ensures; kept = refl }, λ l. absurd (omega arith))
+    (λ z. record { made = rw c.leaf.ensures; kept = refl }, λ l. absurd (omega arith))
 
 pub in_slot-requires : goal.in_slot-requires
 in_slot-requires c =
@@ -20,5 +19,5 @@ returns c =
       λ z. absurd (n z),
       λ l. list_made _ _ _ _ _ _ _ _ (c.requires.1 l) c.apply.ensures
           c.apply.auto.work _
-          c.in_slot.ensures.0 c.in_slot.ensures.1,
+          c.in_slot.ensures,
     )

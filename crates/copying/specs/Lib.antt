@@ -1,0 +1,2 @@
+-- What copying gives.
+pub mod Copied

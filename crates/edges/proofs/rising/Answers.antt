@@ -1,6 +1,0 @@
--- `edges::rising` is the edges to its level.
-use borrow.Author.Rules.{rules}
-use Rattle.edges.proofs.rising.Goals as goal
-
-pub returns : goal.returns
-returns c = c.edges.ensures

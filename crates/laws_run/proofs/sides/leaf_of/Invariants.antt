@@ -1,9 +1,0 @@
--- `laws_run::sides::leaf_of` is safe and ends.
-use Prim.Native.Nat.{◌≤◌}
-use Rattle.laws_run.proofs.sides.leaf_of.Given as goal
-
-abbrev pub invariant-loop-i : goal.invariant-loop-i
-invariant-loop-i l = 0 ≤ 0
-
-abbrev pub decreases-loop-i : goal.decreases-loop-i
-decreases-loop-i l = l.i
