@@ -38,8 +38,8 @@ fn moment_fault(moment: u32) -> u32
 fn moments_fault(moments: &[u32]) -> u32
     ensures { result ≡ moments_fault moments.now }
 {
-    for &moment in moments {
-        let fault = moment_fault(moment);
+    for i in 0..moments.len() {
+        let fault = moment_fault(moments[i]);
         if fault != 0 {
             return fault;
         }

@@ -100,33 +100,21 @@ fn merge_in(
     let none = [0u8; 1];
     let first = whole(Memory::Left, a);
     let second = whole(Memory::Right, b);
-    let lent = Lent {
-        sheet: &none[..0],
-        left: a,
-        right: b,
-    };
+    let lent = Lent::new(&none[..0], a, b);
     merging::merge_at(operation, t, lent, out, first, second, 0)
 }
 
 fn delay_in(level: bool, d: u32, a: &[u32], out: &mut [u32]) -> SlotAnswer {
     let none = [0u8; 1];
     let list = whole(Memory::Left, a);
-    let lent = Lent {
-        sheet: &none[..0],
-        left: a,
-        right: a,
-    };
+    let lent = Lent::new(&none[..0], a, a);
     delay_parts::delay_at(level, Length(d), lent, out, list, 0)
 }
 
 fn pulse_in(d: u32, a: &[u32], out: &mut [u32]) -> SlotAnswer {
     let none = [0u8; 1];
     let list = whole(Memory::Left, a);
-    let lent = Lent {
-        sheet: &none[..0],
-        left: a,
-        right: a,
-    };
+    let lent = Lent::new(&none[..0], a, a);
     pulse_parts::pulse_at(Length(d), lent, out, list, 0)
 }
 

@@ -51,20 +51,23 @@ fn held_on(before: bool, passed: usize) -> Step
 }
 
 // Past a date: a word of that date is passed. The value before it is read where it is given, so that it costs nothing where a caller
-// leaves it aside; and at each of the other two, so that it is not tested again to be there where a word is left.
+// leaves it aside; and at each of the other two, so that it is not tested again to be there where a word is left. (By a
+// `match` with a guard a column of moments takes a quarter longer.)
 fn past_at(words: &[u32], passed: usize, date: Date) -> Step
     ensures { result ≡ step_past words.now passed date.0 }
 {
-    match words.get(passed) {
-        Some(w) if w / 4 == date.0 => Step {
-            before: held_value_at(words, passed),
-            at: w / 2 % 2 == 1,
-            after: w % 2 == 1,
-            passed: passed + 1,
-        },
-        Some(_) => held_on(held_value_at(words, passed), passed),
-        None => held_on(held_value_at(words, passed), passed),
+    if let Some(w) = words.get(passed) {
+        if w / 4 == date.0 {
+            return Step {
+                before: held_value_at(words, passed),
+                at: w / 2 % 2 == 1,
+                after: w % 2 == 1,
+                passed: passed + 1,
+            };
+        }
+        return held_on(held_value_at(words, passed), passed);
     }
+    held_on(held_value_at(words, passed), passed)
 }
 
 // A reader goes along a list's words and knows how many it has passed.

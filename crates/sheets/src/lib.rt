@@ -93,8 +93,8 @@ fn signal_fault(sheet: &[u8], at: usize, count: usize) -> u32
 fn front_fault(sheet: &[u8]) -> u32
     ensures { result ≡ front_fault sheet.now }
 {
-    if !sheet.starts_with(&MARK)
-        || sheet.len() < COUNT_AT
+    if sheet.len() < COUNT_AT
+        || !name_fields::alike(&sheet[..VERSION_AT], &MARK)
         || slices::read16(sheet, VERSION_AT) != VERSION
     {
         return 14;

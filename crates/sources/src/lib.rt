@@ -91,6 +91,15 @@ pub struct Passed {
     pub next: Cursor,
 }
 
+impl<'a> Lent<'a> {
+    // Any slices are lent so: what the ghost fields say, their types say.
+    pub fn new(sheet: &'a [u8], left: &'a [u32], right: &'a [u32]) -> Self
+        ensures { (result.sheet.now ≡ sheet.now) × (result.left.now ≡ left.now) × (result.right.now ≡ right.now) }
+    {
+        Lent { sheet, left, right }
+    }
+}
+
 impl Lent<'_> {
     ghost use Rattle.sources.specs.Lending.{list_in};
 

@@ -9,6 +9,9 @@ use random_sheets::rows::{dates, row_fault, store, up};
 // What a place is tried for.
 #[derive(Clone, Copy, PartialEq, Eq, Debug)]
 pub enum Test {
+    // The row is up at the moment, or down.
+    Up(usize),
+    Down(usize),
     // Row 1 is up at the moment and row 2 down, or not so.
     Fails,
     Fine,
@@ -25,6 +28,8 @@ fn fails(cells: &Cells, moment: usize) -> bool {
 fn passes(cells: &Cells, test: Test, i: usize) -> bool {
     let word = at(cells, TREE + i % 256);
     match test {
+        Test::Up(row) => up(cells, row, i),
+        Test::Down(row) => !up(cells, row, i),
         Test::Fails => fails(cells, i),
         Test::Fine => !fails(cells, i),
         Test::Long => 1073741823 < word / 16 && word % 16 != 2,
@@ -84,12 +89,17 @@ fn decided(cells: &Cells, kind: u64, s: usize, r: usize, m: usize) -> Option<boo
     }
 }
 
-// SR and RS at a moment, back from it.
+// SR and RS at a moment, back from it. By a chain over a range the compiler does not see that each moment is below 832, and divides for its
+// cell in every turn.
 fn latched(cells: &Cells, kind: u64, s: usize, r: usize, moment: usize) -> bool {
-    (0..moment % 832 + 1)
-        .rev()
-        .find_map(|m| decided(cells, kind, s, r, m))
-        .unwrap_or(false)
+    let mut left = moment % 832 + 1;
+    while 0 < left {
+        left -= 1;
+        if let Some(value) = decided(cells, kind, s, r, left) {
+            return value;
+        }
+    }
+    false
 }
 
 fn latch_up(cells: &Cells, kind: u64, s: usize, r: usize, moment: usize) -> bool {

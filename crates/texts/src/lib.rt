@@ -73,8 +73,8 @@ fn is_length(text: &[u8]) -> bool
 {
     match text {
         [first, rest @ ..] => names::is_digit(*first)
-            && all_digits(rest)
-            && (rest.is_empty() || *first != b'0'),
+            && (rest.is_empty() || *first != b'0')
+            && all_digits(rest),
         [] => false,
     }
 }
@@ -84,9 +84,7 @@ fn is_length(text: &[u8]) -> bool
 fn one_more(n: u32, b: u8) -> u32
     ensures { result ≡ capped (n * 10 + (b - 48)) }
 {
-    n.saturating_mul(10)
-        .saturating_add(u32::from(b.saturating_sub(b'0')))
-        .min(TOO_LONG)
+    (u64::from(n) * 10 + u64::from(b.saturating_sub(b'0'))).min(u64::from(TOO_LONG)) as u32
 }
 
 // The number that digits write, M + 1 for every one above M.

@@ -3,9 +3,10 @@ use Prim.Native.Nat.{ℕ, ◌+◌, ◌≤◌, ◌<◌}
 use native.Mathlib.Omega.{arith}
 use mathlib.Core.Path.{◌≡◌, refl, sym, ap, ◌∙◌, subst}
 use mathlib.Core.List.{List, [], ◌++◌}
-use lib.ListN.{length, take, drop, replicate, length-append}
+use lib.ListN.{length, take, drop, replicate, length-append, take-append-drop}
 use lib.Seq.{take_at, length-take-le}
 use borrow.Author.Tests.{le-leb, lt-leb}
+use Rattle.std.proofs.lemmas.List.{length-replicate}
 use Rattle.std.proofs.lemmas.Slice.{drop-append-drop}
 use Rattle.slices.specs.Slices.{put_at}
 use Rattle.slices.proofs.Placing.{put_fits}
@@ -13,10 +14,14 @@ use Rattle.texts.specs.Decimal.{decimal, PutNumber}
 use Rattle.texts.proofs.Digits.{decimal_length}
 use Rattle.verdict_line.specs.Written.{over, Filled, pushed}
 
--- no bytes, in an array of zeros
-pub none_filled : (room : ℕ) → Filled room [] (replicate room 0) 0
+-- so many zeros, in an array of zeros
+pub zeros_filled : (room k : ℕ) → k ≤ room → Filled room (take k (replicate room 0)) (replicate room 0) k
 unfolding over
-none_filled room = (refl, refl, omega arith, refl)
+zeros_filled room k h =
+    let zeros : List ℕ = replicate room 0 in
+    let long : length zeros ≡ room = length-replicate room 0 in
+    let held : length (take k zeros) ≡ k = length-take-le k zeros (rw long h) in
+    (sym held, rw held (sym (take-append-drop k zeros)), rw long h, sym held)
 
 -- the text is what the count takes of the array
 pub text_held : (room : ℕ) (text bytes : List ℕ) (count : ℕ) → Filled room text bytes count → take count bytes ≡ text

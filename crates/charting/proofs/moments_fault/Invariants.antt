@@ -2,5 +2,5 @@
 use Rattle.charting.proofs.Judging.{InsideTo}
 use Rattle.charting.proofs.moments_fault.Given as goal
 
-abbrev pub invariant-loop-moment : goal.invariant-loop-moment
-invariant-loop-moment l = InsideTo l.moments l.moment-index
+abbrev pub invariant-loop-i : goal.invariant-loop-i
+invariant-loop-i l = InsideTo l.moments l.i
